@@ -1,0 +1,7 @@
+pub mod Risen
+pub mod Counts
+pub mod Shelf
+pub mod Sink
+pub mod Files
+pub mod Taken
+pub mod Puts

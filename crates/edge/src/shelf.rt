@@ -1,0 +1,42 @@
+// Files by name, read one at a time.
+ghost use Rattle.std.specs.Prelude.{◌≡◌, ◌≤◌, ℕ, List, length, Option, Ok, IfOk, OnOk, OnErr, IfSome};
+ghost use Rattle.edge.specs.Counts.{HasCause};
+ghost use Rattle.edge.specs.Shelf.{TakesFile, ReadsNext, HasNothingLeft};
+
+use crate::Failed;
+
+/// Files by name, of which one is taken and read.
+pub trait Shelf {
+    /// What is in each file, by its name, where the shelf tells it.
+    ghost files: { Self → Option (List ℕ → Option (List ℕ)) };
+
+    /// What is left to read of the taken file, where the shelf tells it: nothing where no file is taken.
+    ghost rest: { Self → Option (List ℕ) };
+
+    /// How often a call has failed.
+    ghost faults: { Self → ℕ };
+
+    /// Makes the file of this name the taken one, from its start. A name that isn't there is a fault.
+    ///
+    /// # Errors
+    ///
+    /// `Failed` only where the count of faults rose. Then nothing is taken.
+    fn take_file(&mut self, name: &str) -> Result<(), Failed>
+        ensures taken { OnOk result (TakesFile (files self.old) name.now (rest self.new)) }
+        ensures failed { OnErr result (HasNothingLeft (rest self.new)) }
+        ensures files { files self.new ≡ files self.old }
+        ensures cause { HasCause (faults self.old) (faults self.new) result };
+
+    /// Reads the next bytes of the taken file into the front of `buf`, at least one unless `buf` is empty or nothing is
+    /// left, and answers how many.
+    ///
+    /// # Errors
+    ///
+    /// `Failed` only where the count of faults rose. Then nothing is taken.
+    fn read(&mut self, buf: &mut [u8]) -> Result<usize, Failed>
+        ensures within { IfOk result (λ n. n ≤ length buf.old) }
+        ensures next { IfOk result (λ n. ReadsNext (rest self.old) (length buf.old) n buf.new (rest self.new)) }
+        ensures failed { OnErr result (HasNothingLeft (rest self.new)) }
+        ensures files { files self.new ≡ files self.old }
+        ensures cause { HasCause (faults self.old) (faults self.new) result };
+}
