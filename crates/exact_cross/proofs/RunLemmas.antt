@@ -1,0 +1,32 @@
+-- Runs that follow one another: one more at the end, and parts of a run.
+use Rattle.std.proofs.Common.{◌≡◌, ℕ, ◌<◌, ◌≤◌, List, [], ◌∷◌, ◌++◌, refl, ap, sym, subst, arith}
+use Rattle.exact_cross.specs.declared.segment.Segment.{Segment}
+use Rattle.exact_cross.specs.Points.{Points}
+use Rattle.exact_cross.specs.Lines.{SomeLineFits}
+use Rattle.exact_cross.specs.Covers.{run_end, CutsInto}
+use Rattle.exact_cross.specs.Segments.{starts_of, EachRun}
+
+-- a line that serves a run serves each part of it
+pub SomeLineFits-part : (p : Points) (eps s e from to : ℕ) → s ≤ from → to ≤ e → SomeLineFits p eps s e → SomeLineFits p eps from to
+SomeLineFits-part p eps s e from to low high fits = (fits.0, λ j above below. fits.1 j (omega arith) (omega arith))
+
+-- with one more run behind them, each run ends where it did
+pub run_end-push : (later : List ℕ) (s e : ℕ) → run_end (later ++ s ∷ []) e ≡ run_end later s
+run_end-push [] s e = refl
+run_end-push (next ∷ later) s e = refl
+
+-- one more run
+pub CutsInto-push : (R : ℕ → ℕ → Type 0) (starts : List ℕ) (from s e : ℕ) → CutsInto R from s starts → s < e → R s e → CutsInto R from e (starts ++ s ∷ [])
+CutsInto-push R [] from s e here some run =
+    (sym here, omega arith, subst (λ (n : ℕ). R n e) (sym here) run, refl)
+CutsInto-push R (start ∷ later) from s e cuts some run =
+    rw (run_end-push later s e) (cuts.0, cuts.1, cuts.2, CutsInto-push R later (run_end later s) s e cuts.3 some run)
+
+pub starts_of-push : (segments : List Segment) (last : Segment) → starts_of (segments ++ last ∷ []) ≡ starts_of segments ++ last.start ∷ []
+starts_of-push [] last = refl
+starts_of-push (segment ∷ later) last = ap (λ (starts : List ℕ). segment.start ∷ starts) (starts_of-push later last)
+
+pub EachRun-push : (R : Segment → ℕ → Type 0) (segments : List Segment) (last : Segment) (e : ℕ) → EachRun R last.start segments → R last e → EachRun R e (segments ++ last ∷ [])
+EachRun-push R [] last e runs run = (run, tt)
+EachRun-push R (segment ∷ later) last e runs run =
+    (rw (starts_of-push later last, run_end-push (starts_of later) last.start e) runs.0, EachRun-push R later last e runs.1 run)

@@ -1,0 +1,9 @@
+pub mod Points
+pub mod Slopes
+pub mod Lines
+pub mod Covers
+pub mod Steep
+pub mod Witnesses
+pub mod Segments
+pub mod Cuts
+pub mod Checked

@@ -1,0 +1,137 @@
+// The line of a segment.
+ghost use Rattle.std.specs.List.Sorted.{IsStrictlyIncreasing};
+ghost use Rattle.std.specs.Prelude.{◌<◌, ◌≤◌, ◌^◌, ◌↔◌, length, IsTrue};
+
+/// How far below rank 0 a line can start: the greatest error bound, [`MAX_EPSILON`](crate::MAX_EPSILON).
+const DEPTH: i64 = 1_048_576;
+
+/// The line `y0 + rise * (x - x0) / run`: the rank that a segment predicts for the key `x`.
+#[derive(Clone, Copy, Debug, PartialEq, Eq)]
+pub struct Line {
+    /// The key of the point that the line is told by.
+    pub x0: u64,
+    /// The line's rank at `x0`, which is below 0 where the first ranks lie less than `ε` above 0.
+    pub y0: i64,
+    /// Ranks upwards.
+    pub rise: u64,
+    /// Keys to the right, at least 1.
+    pub run: u64,
+}
+
+impl Line {
+    ghost use Rattle.exact_cross.specs.Points.{points_of_keys};
+    ghost use Rattle.exact_cross.specs.Lines.{IsWithin, FitsRun, rational};
+    ghost use Rattle.exact_cross.specs.Checked.{IsInRange};
+
+    /// Whether the numbers are those that a segment's line can have.
+    ///
+    /// `run` is at least 1, `y0` from `-2^20` to below `2^32`, and `rise` below `2^32 + 2^21`.
+    pub fn in_range(&self) -> bool
+        ensures exact { IsTrue result ↔ IsInRange self.now }
+    {
+        self.run >= 1 && self.y0 >= -DEPTH && self.y0 < 1 << 32 && self.rise < (1 << 32) + (1 << 21)
+    }
+
+    /// Whether the line is within `ε` at every place of `s..e`, exactly. An empty run has no such place.
+    ///
+    /// `eps` is the error bound `ε`, in ranks: the line passes a place where it is at most `ε` ranks off the place's rank
+    /// at its key. It is compared times the line's run, in 128 bits, so nothing is rounded.
+    pub fn fits(&self, keys: &[u64], s: u32, e: u32, eps: u32) -> bool
+        requires in_range { IsInRange self.now }
+        requires ascending { IsStrictlyIncreasing keys.now }
+        requires few { length keys.now < 2 ^ 32 }
+        requires bounded { eps ≤ 1048576 }
+        requires range { s ≤ e }
+        requires within { e ≤ length keys.now }
+        ensures exact { IsTrue result ↔ ((positive : 0 < self.now.run) × FitsRun (points_of_keys keys.now) eps (rational self.now positive) s e) }
+    {
+        for place in s..e {
+            if !self.passes(keys, place, eps) {
+                return false;
+            }
+        }
+        true
+    }
+
+    /// Whether the line is within `ε` at one place.
+    fn passes(&self, keys: &[u64], place: u32, eps: u32) -> bool
+        requires in_range { IsInRange self.now }
+        requires bounded { eps ≤ 1048576 }
+        requires within { place < length keys.now }
+        ensures exact { IsTrue result ↔ ((positive : 0 < self.now.run) × IsWithin (points_of_keys keys.now) eps (rational self.now positive) place) }
+    {
+        let rise = u128::from(self.rise);
+        let run = u128::from(self.run);
+        let key = u128::from(keys[place as usize]);
+        // The heights of line and point at the key, times the run. Both are raised alike, so that none is below 0.
+        let line = rise * key + (self.y0 + DEPTH) as u128 * run;
+        let point = rise * u128::from(self.x0) + (u128::from(place) + DEPTH as u128) * run;
+        let slack = u128::from(eps) * run;
+        line <= point + slack && point <= line + slack
+    }
+}
+
+#[cfg(test)]
+mod tests {
+    use super::*;
+    use std::process::Abort;
+
+    fn is_ascending(keys: &[u64]) -> bool
+        ensures { IsTrue result → IsStrictlyIncreasing keys.now }
+    {
+        for i in 1..keys.len() {
+            if keys[i - 1] >= keys[i] {
+                return false;
+            }
+        }
+        true
+    }
+
+    fn line(x0: u64, y0: i64, rise: u64, run: u64) -> Line {
+        Line { x0, y0, rise, run }
+    }
+
+    fn expect_fits<R: Abort>(
+        rt: &R,
+        line: Line,
+        keys: &[u64],
+        s: u32,
+        e: u32,
+        eps: u32,
+        want: bool,
+    ) {
+        assert!(rt; is_ascending(keys));
+        assert!(rt; eps <= 1_048_576 && keys.len() < 1000);
+        assert!(rt; s <= e && e as usize <= keys.len());
+        assert!(rt; line.in_range());
+        assert_eq!(rt; line.fits(keys, s, e, eps), want);
+    }
+
+    // The ends of each range.
+    #[test]
+    fn ranges(rt: HostRuntime) {
+        assert!(rt; line(u64::MAX, -1_048_576, 4_297_064_447, u64::MAX).in_range());
+        assert!(rt; line(0, 4_294_967_295, 0, 1).in_range());
+        assert!(rt; !line(0, 0, 0, 0).in_range());
+        assert!(rt; !line(0, -1_048_577, 0, 1).in_range());
+        assert!(rt; !line(0, 4_294_967_296, 0, 1).in_range());
+        assert!(rt; !line(0, 0, 4_297_064_448, 1).in_range());
+    }
+
+    // The line's ranks at the four keys are -1, 2, 2.3 and 2.6.
+    #[test]
+    fn serves(rt: HostRuntime) {
+        let jump = [0, 10, 11, 12];
+        let steep = line(0, -1, 3, 10);
+        expect_fits(&rt, steep, &jump, 0, 4, 1, true);
+        expect_fits(&rt, steep, &jump, 0, 4, 0, false);
+        expect_fits(&rt, steep, &jump, 1, 2, 0, false);
+        expect_fits(&rt, steep, &jump, 2, 2, 0, true);
+        expect_fits(&rt, line(10, 1, 1, 1), &jump, 1, 4, 0, true);
+        expect_fits(&rt, line(10, 1, 1, 1), &jump, 0, 4, 0, false);
+        // Exactly the bound off at both ends of the keys.
+        let widest = line(0, -1_048_576, 2_097_153, u64::MAX);
+        expect_fits(&rt, widest, &[0, u64::MAX], 0, 2, 1_048_576, true);
+        expect_fits(&rt, widest, &[0, u64::MAX], 0, 2, 1_048_575, false);
+    }
+}

@@ -1,0 +1,40 @@
+// A segment: a run of places, the line that serves it, and what shows that no line goes on.
+
+use crate::Line;
+
+/// On which side of all lines that serve a run the next point lies.
+#[derive(Clone, Copy, Debug, PartialEq, Eq)]
+pub enum Side {
+    /// The point lies wholly above the steepest line that serves the run.
+    Over,
+    /// The point lies wholly below the flattest line that serves the run.
+    Under,
+}
+
+/// Three places that no line serves: a proof that a run had to end.
+#[derive(Clone, Copy, Debug, PartialEq, Eq)]
+pub struct Witness {
+    /// The first place of the pair in the run.
+    pub p: u32,
+    /// The second place of the pair in the run.
+    pub q: u32,
+    /// The place that the run had to leave out.
+    pub r: u32,
+    /// On which side `r` lies.
+    pub side: Side,
+}
+
+/// A segment of a piecewise linear index. Its run goes to the next segment's start, the last one's to the list's end.
+#[derive(Clone, Copy, Debug, PartialEq, Eq)]
+pub struct Segment {
+    /// The first place of the run.
+    pub start: u32,
+    /// The lower place of the steep pair.
+    pub a: u32,
+    /// The upper place of the steep pair, which is `a` where the run has one place.
+    pub b: u32,
+    /// The line of the steep pair.
+    pub line: Line,
+    /// Why the run ends, where the witness is kept and the run isn't the last one.
+    pub cut: Option<Witness>,
+}
