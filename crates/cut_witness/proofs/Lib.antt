@@ -1,0 +1,2 @@
+pub mod CheckedRuns
+pub mod Sides
