@@ -1,0 +1,3 @@
+pub mod ScanSteps
+pub mod Fitting
+pub mod CutLemmas
