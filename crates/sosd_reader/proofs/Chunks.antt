@@ -1,0 +1,36 @@
+-- A chunk whose bytes are all there.
+use Rattle.std.proofs.Common.{◌≡◌, ℕ, ◌+◌, ◌*◌, ◌<◌, List, [], ◌++◌, length, sym, ap, ◌∙◌, subst, length-append, arith, Option, mul-le-mul_left, mul-suc, ⊎_elim}
+use Rattle.std.specs.List.{flat_map}
+use Rattle.std.proofs.lemmas.Bool.{cases_lt}
+use Rattle.std.proofs.lemmas.List.{append-nil, nil_from_length}
+use Rattle.std.proofs.lemmas.List.Concat.{flat_map-append}
+use Rattle.byteorder.specs.Endian.{little_bytes}
+use Rattle.sosd_reader.specs.Reading.{HasRead, GoesOn, ReadsNumbers}
+use Rattle.sosd_reader.proofs.Steps.{HasRead-append}
+use Rattle.sosd_reader.proofs.Fronts.{length-numbers}
+
+-- what is over of whole numbers is less than one, so nothing
+nothing-over : (width m k over : ℕ) → width * m ≡ width * k + over → over < width → over ≡ 0
+nothing-over width m k over e short =
+    ⊎_elim
+    (λ less. let big = mul-le-mul_left width less in let step = mul-suc width k in absurd (omega arith))
+    (λ more. let big = mul-le-mul_left width more in omega arith)
+    (cases_lt k m)
+
+pub whole-chunk : (width m : ℕ) (front piece keys : List ℕ) (before after : Option (List ℕ)) → GoesOn width front piece keys →
+    HasRead before piece after → length piece ≡ width * m → ReadsNumbers width before front keys after
+whole-chunk width m front piece keys before after goes read whole =
+    let F = flat_map (little_bytes width) goes.numbers in
+    let none : goes.over ≡ [] = nil_from_length goes.over (nothing-over width m (length goes.numbers) (length goes.over) (sym whole ∙ ap length goes.stand ∙ length-append F goes.over ∙ ap (λ (n : ℕ). n + length goes.over) (length-numbers width goes.numbers)) goes.whole) in
+    let all : piece ≡ F = goes.stand ∙ ap (λ (w : List ℕ). F ++ w) none ∙ append-nil F in
+    let P : List ℕ → Type 0 = λ w. HasRead before w after in
+    record { numbers = goes.numbers; added = goes.added; read = subst P all read }
+
+-- the keys that were read, and the numbers that were read after them
+pub reads-more : (width : ℕ) (front keys : List ℕ) (first before after : Option (List ℕ)) → HasRead first (flat_map (little_bytes width) front) before →
+    ReadsNumbers width before front keys after → HasRead first (flat_map (little_bytes width) keys) after
+reads-more width front keys first before after so_far reads =
+    let F : List ℕ → List ℕ = flat_map (little_bytes width) in
+    let P : List ℕ → Type 0 = λ w. HasRead first w after in
+    let e : F front ++ F reads.numbers ≡ F keys = sym (flat_map-append (little_bytes width) front reads.numbers) ∙ ap F (sym reads.added) in
+    subst P e (HasRead-append first before after (F front) (F reads.numbers) so_far reads.read)

@@ -1,0 +1,10 @@
+pub mod Numbers
+pub mod Steps
+pub mod Filling
+pub mod Fronts
+pub mod Beginning
+pub mod Unique
+pub mod Pushing
+pub mod Following
+pub mod Chunks
+pub mod Wherever

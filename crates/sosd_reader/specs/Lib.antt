@@ -1,0 +1,3 @@
+pub mod KeyFiles
+pub mod KeyFileFaults
+pub mod Reading
