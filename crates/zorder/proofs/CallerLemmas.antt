@@ -1,0 +1,19 @@
+-- What the crates above cite of codes and regions, in one place.
+pub use Rattle.zorder.proofs.BitLemmas.{bit_at-mod, bit_at-shl, bit_at-shl_low, bit_at-shr}
+pub use Rattle.zorder.proofs.BitOrder.{DiffersAt, less_by_bit, top_difference}
+pub use Rattle.zorder.proofs.CodeLemmas.{
+  IsCode-code,
+  IsCodeOf-code,
+  bit_at-coordinate,
+  code-lt,
+  code_fits,
+  code_from_coordinates,
+  code_rises,
+  coordinate-code,
+  coordinate_below,
+  coordinate_from_bits,
+  is_code,
+  rises,
+  same_from_coordinates,
+}
+pub use Rattle.zorder.proofs.RegionLemmas.{inside_between, low_inside}

@@ -1,0 +1,86 @@
+//! Codes that a plain program worked out bit by bit, and each call once.
+
+use crate::{Region, decode, encode, fits_range, inside, is_empty};
+use std::process::Abort;
+
+/// Points and their codes: the least and greatest of each coordinate, and mixed ones.
+const ROWS: [(u32, [u32; 4], u64); 23] = [
+    (2, [0, 0, 0, 0], 0),
+    (2, [5, 3, 0, 0], 27),
+    (2, [0xffff_ffff, 0, 0, 0], 0x5555_5555_5555_5555),
+    (2, [0, 0xffff_ffff, 0, 0], 0xaaaa_aaaa_aaaa_aaaa),
+    (2, [0xffff_ffff, 0xffff_ffff, 0, 0], 0xffff_ffff_ffff_ffff),
+    (2, [0x8000_0000, 1, 0, 0], 0x4000_0000_0000_0002),
+    (2, [0xdead_beef, 0x1234_5678, 0, 0], 0x535c_4e71_677c_7ed5),
+    (3, [0, 0, 0, 0], 0),
+    (3, [1, 1, 1, 0], 7),
+    (3, [0x1f_ffff, 0, 0, 0], 0x1249_2492_4924_9249),
+    (3, [0, 0x1f_ffff, 0, 0], 0x2492_4924_9249_2492),
+    (3, [0, 0, 0x1f_ffff, 0], 0x4924_9249_2492_4924),
+    (
+        3,
+        [0x1f_ffff, 0x1f_ffff, 0x1f_ffff, 0],
+        0x7fff_ffff_ffff_ffff,
+    ),
+    (3, [0x10_0000, 0, 1, 0], 0x1000_0000_0000_0004),
+    (3, [0x1_2345, 0xfedc, 0x15_5555, 0], 0x4105_59e5_9d5c_65c5),
+    (4, [0, 0, 0, 0], 0),
+    (4, [0xffff, 0, 0, 0], 0x1111_1111_1111_1111),
+    (4, [0, 0xffff, 0, 0], 0x2222_2222_2222_2222),
+    (4, [0, 0, 0xffff, 0], 0x4444_4444_4444_4444),
+    (4, [0, 0, 0, 0xffff], 0x8888_8888_8888_8888),
+    (4, [0xffff, 0xffff, 0xffff, 0xffff], 0xffff_ffff_ffff_ffff),
+    (4, [1, 0, 0, 0x8000], 0x8000_0000_0000_0001),
+    (4, [0xbeef, 0x1234, 0x8001, 0x7fff], 0x589b_99b8_99ba_9b9d),
+];
+
+/// A row, once it is known that its point and its code are in range.
+fn check_row(rt: &impl Abort, d: u32, coords: [u32; 4], z: u64) {
+    assert!(rt; d == 2 || d == 3 || d == 4);
+    assert!(rt; fits_range(d, coords[0]));
+    assert!(rt; fits_range(d, coords[1]));
+    assert!(rt; fits_range(d, coords[2]));
+    assert!(rt; fits_range(d, coords[3]));
+    assert!(rt; d != 3 || z < 1 << 63);
+    assert_eq!(rt; encode(d, &coords), z);
+    assert_eq!(rt; decode(d, z), coords);
+}
+
+#[test]
+fn rows_of_codes(rt: HostRuntime) {
+    for (d, coords, z) in ROWS {
+        check_row(&rt, d, coords, z);
+    }
+}
+
+#[test]
+fn ranges(rt: HostRuntime) {
+    assert!(rt; fits_range(2, 0xffff_ffff));
+    assert!(rt; fits_range(3, 0x1f_ffff));
+    assert!(rt; !fits_range(3, 0x20_0000));
+    assert!(rt; fits_range(4, 0xffff));
+    assert!(rt; !fits_range(4, 0x1_0000));
+}
+
+#[test]
+fn a_square(rt: HostRuntime) {
+    let square = Region {
+        d: 2,
+        low: [1, 1, 0, 0],
+        high: [2, 2, 0, 0],
+    };
+    assert!(rt; !is_empty(&square));
+    assert!(rt;
+        inside(&square, 3) && inside(&square, 6) && inside(&square, 9) && inside(&square, 12)
+    );
+    assert!(rt;
+        !inside(&square, 4) && !inside(&square, 7) && !inside(&square, 11) && !inside(&square, 15)
+    );
+    assert!(rt;
+        is_empty(&Region {
+            d: 2,
+            low: [2, 2, 0, 0],
+            high: [1, 1, 0, 0]
+        })
+    );
+}
