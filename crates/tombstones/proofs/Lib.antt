@@ -1,0 +1,4 @@
+pub mod CallerLemmas
+pub mod EntryLemmas
+pub mod Order
+pub mod Progress

@@ -1,0 +1,90 @@
+//! Entry lists, as the levels of the logarithmic method hold them, and their merge.
+//!
+//! A map that changes is kept as lists of entries, each strictly ascending by key, with the newer entries in the smaller
+//! lists (Bentley and Saxe, Decomposable searching problems, J. Algorithms 1(4), 1980). A deletion is an entry too: one
+//! without a value, a tombstone, which hides what older lists have at its key (O'Neil, Cheng, Gawlick and O'Neil, The
+//! log-structured merge-tree, Acta Informatica 33, 1996). Where two lists are merged, the newer entry of a key stays. A
+//! tombstone stays as well, unless no older list is left below the merged one:
+//!
+//!     newer     5 none        7 1
+//!     older     5 3     6 2
+//!     merged    5 none  6 2   7 1
+//!     deepest           6 2   7 1
+//!
+//! Main clauses: `ascending` and `winners` of [`merge`]. The words of the clauses are in `specs/Entries.antt`.
+#![tactic(auto)]
+
+ghost use Rattle.std.specs.Prelude.{◌≡◌, ℕ, ◌+◌, ◌<◌, ◌≤◌, ◌++◌, ◌∷◌, ◌↔◌, [], if◌then◌else◌, Some, None, IfOk, IsTrue, vec_len, vec_capacity};
+ghost use Rattle.tombstones.specs.Entries.{IsAscending, entry_at, winner_at, kept};
+
+mod entry;
+mod remaining;
+
+pub use budget::NoMemory;
+pub use entry::Entry;
+use remaining::Remaining;
+use std::alloc::Global;
+
+/// Whether the keys rise strictly, as [`merge`] needs them. An empty list's do. Takes no memory.
+pub fn is_ascending(entries: &[Entry]) -> bool
+    ensures { IsTrue result ↔ IsAscending entries.now }
+{
+    entries.is_sorted_by(|x, y| x.key < y.key)
+}
+
+/// Merges two lists of entries, each strictly ascending by key, into one.
+///
+/// At each key of either list the result has the newer's entry, where there is one, else the older's. With `deepest`, for
+/// a result that no older list lies below, tombstones are left out, whichever list they come from. The result is strictly
+/// ascending too. It is made in one pass, and its room is taken once, for as many entries as both lists have.
+///
+/// # Errors
+///
+/// `NoMemory` where that room is not to be had.
+///
+/// Source: Bentley and Saxe, 1980; for tombstones O'Neil, Cheng, Gawlick and O'Neil, 1996.
+pub fn merge(
+    alloc: Global,
+    newer: &[Entry],
+    older: &[Entry],
+    deepest: bool,
+) -> Result<Vec<Entry>, NoMemory>
+    requires newer_ascending { IsAscending newer.now }
+    requires older_ascending { IsAscending older.now }
+    ensures ascending { IfOk result (λ merged. IsAscending merged.items) }
+
+    // At every key, so what stands in neither list is not in the result.
+    ensures winners { IfOk result (λ merged. (key : ℕ) →
+        entry_at merged.items key ≡ kept deepest (winner_at newer.now older.now key)) }
+{
+    let mut merged = Vec::with_capacity(alloc, newer.len() + older.len())?;
+    let mut remaining = Remaining { newer, older };
+    while let Some(entry) = remaining.take_least() {
+        if is_kept(&entry, deepest) {
+            push_within_capacity(&mut merged, entry);
+        }
+    }
+    Ok(merged)
+}
+
+/// Whether a merge keeps the entry: all but tombstones, and these unless the result is the deepest list.
+fn is_kept(entry: &Entry, deepest: bool) -> bool
+    ensures { kept deepest (Some entry.now) ≡ (if result then Some entry.now else None) }
+{
+    !deepest || entry.value.is_some()
+}
+
+/// Appends an entry where there is room for one, so that no memory is asked for.
+fn push_within_capacity(entries: &mut Vec<Entry>, entry: Entry)
+    requires { vec_len entries.old < vec_capacity entries.old }
+    ensures items { entries.new.items ≡ entries.old.items ++ entry ∷ [] }
+    ensures len { vec_len entries.new ≡ vec_len entries.old + 1 }
+    ensures capacity { vec_capacity entries.old ≤ vec_capacity entries.new }
+{
+    if entries.push(entry).is_err() {
+        unreachable!()
+    }
+}
+
+#[cfg(test)]
+mod tests;

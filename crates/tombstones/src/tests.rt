@@ -1,0 +1,104 @@
+use super::*;
+use std::process::Abort;
+use std::test::Fail;
+
+/// A merge, and what it gives.
+#[derive(Clone, Copy)]
+struct Row<'a> {
+    newer: &'a [Entry],
+    older: &'a [Entry],
+    merged: &'a [Entry],
+    deepest: &'a [Entry],
+}
+
+fn put(key: u64, value: u64) -> Entry {
+    Entry {
+        key,
+        value: Some(value),
+    }
+}
+
+fn del(key: u64) -> Entry {
+    Entry { key, value: None }
+}
+
+/// Merges two lists and compares the result, and its room, which is taken once, for both.
+fn check_merge<R: Abort + AllocGlobal>(
+    rt: &R,
+    newer: &[Entry],
+    older: &[Entry],
+    deepest: bool,
+    expected: &[Entry],
+) -> Result<(), NoMemory> {
+    assert!(rt; is_ascending(newer));
+    assert!(rt; is_ascending(older));
+    let merged = merge(rt.alloc(), newer, older, deepest)?;
+    assert_eq!(rt; merged.as_slice(), expected);
+    assert_eq!(rt; merged.capacity(), newer.len() + older.len());
+    Ok(())
+}
+
+#[test]
+fn merges(rt: HostRuntime) -> Result<(), Fail> {
+    let rows = [
+        Row {
+            newer: &[del(5), put(7, 1)],
+            older: &[put(5, 3), put(6, 2)],
+            merged: &[del(5), put(6, 2), put(7, 1)],
+            deepest: &[put(6, 2), put(7, 1)],
+        },
+        // An empty side.
+        Row {
+            newer: &[],
+            older: &[],
+            merged: &[],
+            deepest: &[],
+        },
+        Row {
+            newer: &[],
+            older: &[put(1, 10), del(2), put(3, 30)],
+            merged: &[put(1, 10), del(2), put(3, 30)],
+            deepest: &[put(1, 10), put(3, 30)],
+        },
+        Row {
+            newer: &[del(0), put(3, 30)],
+            older: &[],
+            merged: &[del(0), put(3, 30)],
+            deepest: &[put(3, 30)],
+        },
+        // No key in both: by turns, and one list wholly below the other.
+        Row {
+            newer: &[put(2, 20), del(4)],
+            older: &[put(1, 10), put(3, 30), del(5)],
+            merged: &[put(1, 10), put(2, 20), put(3, 30), del(4), del(5)],
+            deepest: &[put(1, 10), put(2, 20), put(3, 30)],
+        },
+        Row {
+            newer: &[put(1, 10), put(2, 20)],
+            older: &[put(8, 80), put(9, 90)],
+            merged: &[put(1, 10), put(2, 20), put(8, 80), put(9, 90)],
+            deepest: &[put(1, 10), put(2, 20), put(8, 80), put(9, 90)],
+        },
+        // Each key in both, the greatest one too; a newer value lies over an older tombstone.
+        Row {
+            newer: &[put(0, 1), put(4, 6), del(u64::MAX)],
+            older: &[put(0, 2), del(4), put(u64::MAX, 3)],
+            merged: &[put(0, 1), put(4, 6), del(u64::MAX)],
+            deepest: &[put(0, 1), put(4, 6)],
+        },
+    ];
+    for row in &rows {
+        check_merge(&rt, row.newer, row.older, false, row.merged)?;
+        check_merge(&rt, row.newer, row.older, true, row.deepest)?;
+    }
+    Ok(())
+}
+
+#[test]
+fn tells_order(rt: HostRuntime) {
+    assert!(rt; is_ascending(&[]));
+    assert!(rt; is_ascending(&[put(3, 1)]));
+    assert!(rt; is_ascending(&[put(0, 1), del(1), put(u64::MAX, 1)]));
+    assert!(rt; !is_ascending(&[put(3, 1), put(3, 1)]));
+    assert!(rt; !is_ascending(&[put(1, 1), put(2, 1), del(0)]));
+}
