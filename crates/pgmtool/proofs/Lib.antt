@@ -1,0 +1,5 @@
+pub mod ErrorBounds
+pub mod HandingLemmas
+pub mod LoadLemmas
+pub mod TextLemmas
+pub mod RunLemmas

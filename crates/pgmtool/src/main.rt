@@ -1,0 +1,64 @@
+//! `pgmtool` writes what a PGM-index over a key file is, as text.
+//!
+//! `pgmtool explain FILE --eps E` reads a file of 64-bit keys and writes level 0: how many segments the keys need where
+//! each key's predicted rank is at most E off, and each segment. Of the keys 0, 1, 2, 10 with E = 0:
+//!
+//! ```text
+//! level 0 list 4 eps 0 runs 2
+//! run 0 3 pair 0 1 line 0 0 1 1
+//! run 3 4 pair 3 3 line 10 3 0 1
+//! ```
+//!
+//! Everything that is claimed of the program stands on [`run`]. The words of its clauses are in `specs/`.
+#![tactic(auto)]
+
+mod explain;
+mod line_buffer;
+mod load;
+mod run;
+mod status;
+#[cfg(test)]
+mod tests;
+mod text;
+mod words;
+mod writing;
+
+use edge::{FileShelf, OpenGate, OutSink};
+pub use run::run;
+pub use status::Status;
+use std::alloc::AllocError;
+use std::process::ExitCode;
+use std::rt::{Env, Files};
+use std::{env, io};
+
+// Bytes gathered before they are written.
+const BUFFER: usize = 65_536;
+
+fn main(rt: HostRuntime) -> ExitCode {
+    ExitCode::from(execute(&rt).code())
+}
+
+// Makes the real objects, and calls `run`.
+fn execute<R: AllocGlobal + Env + Files + Print>(rt: &R) -> Status {
+    let Ok(words) = command_line(rt) else {
+        return Status::NoMemory;
+    };
+    let Ok(mut out) = OutSink::new(rt.alloc(), io::writer(rt), BUFFER) else {
+        return Status::NoMemory;
+    };
+    let mut files = FileShelf::new(rt);
+    let status = run(rt, &words, &mut files, &mut out, &OpenGate);
+    match (status, out.flush()) {
+        (Status::Done, Err(_)) => Status::WriteFault,
+        _ => status,
+    }
+}
+
+// The words of the command line. Where one isn't text there are none, which is no command.
+fn command_line<R: AllocGlobal + Env>(rt: &R) -> Result<Vec<String>, AllocError> {
+    match env::args(rt) {
+        Ok(words) => words.collect(rt.alloc()),
+        Err(error) if error.kind() == io::ErrorKind::OutOfMemory => Err(AllocError),
+        Err(_) => Ok(Vec::new(rt.alloc())),
+    }
+}

@@ -1,0 +1,29 @@
+// How a run ends.
+
+/// How a run ends, as the number that the program ends with.
+#[derive(Clone, Copy, Debug, PartialEq, Eq)]
+pub enum Status {
+    /// The whole text was written, and no fault was counted.
+    Done = 0,
+    /// Memory wasn't found, and nothing was written.
+    NoMemory = 1,
+    /// The words are no command.
+    Usage = 2,
+    /// A file wasn't there or couldn't be read.
+    ReadFault = 3,
+    /// The text couldn't be written to its end.
+    WriteFault = 4,
+    /// A file that was read is no key file.
+    BadKeys = 5,
+    /// The script that was read isn't in the grammar, or is too long.
+    BadScript = 6,
+    /// A script has more updates than the map can hold.
+    Full = 7,
+}
+
+impl Status {
+    /// The number of the status.
+    pub fn code(self) -> u8 {
+        self as u8
+    }
+}

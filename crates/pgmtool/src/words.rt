@@ -1,0 +1,57 @@
+// The words of the command line.
+ghost use Rattle.std.specs.Prelude.{◌≡◌, ◌≤◌, map, None, Some, IfSome, MatchOption, nat_le, if◌then◌else◌};
+ghost use Rattle.std.specs.Char.{is_ascii_digit};
+ghost use Rattle.std.specs.List.{list_all};
+ghost use Rattle.std.specs.String.{string_bytes};
+ghost use Rattle.pgmtool.specs.Words.{is_short_number, eps_of, request_of};
+
+use exact_cross::MAX_EPSILON;
+
+/// The key file and the error bound that the words ask for, or `None` where the words are no command.
+pub fn requested(words: &[String]) -> Option<(&str, u32)>
+    ensures bounded { IfSome result (λ r. r.1 ≤ 1048576) }
+    ensures request { MatchOption result (request_of (map string_bytes words.now) ≡ None)
+        (λ r. request_of (map string_bytes words.now) ≡ Some (record { file = r.0.now; eps = r.1 })) }
+{
+    match words {
+        [_, command, file, option, number]
+            if command.as_str() == "explain" && option.as_str() == "--eps" => {
+            let eps = eps_in(number.as_str())?;
+            Some((file.as_str(), eps))
+        }
+        _ => None,
+    }
+}
+
+// An error bound in one to seven digits.
+fn eps_in(word: &str) -> Option<u32>
+    ensures value { result ≡ eps_of word.now }
+    ensures bounded { IfSome result (λ eps. eps ≤ 1048576) }
+{
+    if !is_short(word) {
+        return None;
+    }
+    match word.parse::<u32>() {
+        Ok(eps) => at_most(eps),
+        Err(_) => None,
+    }
+}
+
+fn at_most(eps: u32) -> Option<u32>
+    ensures value { result ≡ (if nat_le eps 1048576 then Some eps else None) }
+    ensures bounded { IfSome result (λ eps. eps ≤ 1048576) }
+{
+    if eps <= MAX_EPSILON { Some(eps) } else { None }
+}
+
+fn is_short(word: &str) -> bool
+    ensures { result ≡ is_short_number word.now }
+{
+    0 < word.len() && word.len() <= 7 && are_digits(word.as_bytes())
+}
+
+fn are_digits(bytes: &[u8]) -> bool
+    ensures { result ≡ list_all is_ascii_digit bytes.now }
+{
+    bytes.iter().all(|b| b.is_ascii_digit())
+}
