@@ -4,4 +4,6 @@ pub mod Shelf
 pub mod Sink
 pub mod Files
 pub mod Taken
+pub mod Device
 pub mod Puts
+pub mod Memories

@@ -23,12 +23,16 @@ pub struct MemSink {
 }
 
 impl MemSink {
+    ghost use Rattle.edge.specs.Device.{fresh_device};
+    ghost use Rattle.edge.specs.Memories.{memory_of};
+
     /// An empty sink of room for `room` bytes, with no fault counted. The only error is want of memory.
     ///
     /// The calls whose numbers are in `failing` fail, one call takes at most `most` bytes, and a call that would pass
     /// the room fails.
     pub fn new(alloc: Global, room: usize, failing: Vec<u64>, most: usize) -> Result<Self, NoMemory>
         requires { 1 ≤ most }
+        ensures memory { IfOk result (λ sink. memory_of sink ≡ record { device = fresh_device failing.items most; room = room; bytes = [] }) }
         ensures written { IfOk result (λ sink. ⟦<MemSink as Sink>⟧.written sink ≡ Some []) }
         ensures faults { IfOk result (λ sink. ⟦<MemSink as Sink>⟧.faults sink ≡ 0) }
     {
@@ -53,12 +57,13 @@ impl MemSink {
 impl Sink for MemSink {
     ghost use Rattle.std.specs.Prelude.{Some};
     ghost use Rattle.edge.specs.Puts.{PutsInMemory};
+    ghost use Rattle.edge.specs.Memories.{memory_of};
 
     ghost written = { λ s. Some s.bytes.items };
 
     ghost faults = { λ s. s.faults };
 
-    ghost puts = { λ old piece result new. PutsInMemory old.bytes.items piece result new.bytes.items };
+    ghost puts = { λ old piece result new. PutsInMemory (memory_of old) piece result (memory_of new) };
 
     fn put(&mut self, piece: &[u8]) -> Result<usize, Failed> {
         self.calls = self.calls.saturating_add(1);
