@@ -5,5 +5,7 @@ pub mod Sink
 pub mod Files
 pub mod Taken
 pub mod Device
+pub mod Calls
 pub mod Puts
 pub mod Memories
+pub mod Shelves

@@ -28,13 +28,17 @@ impl<'a, R: Files> FileShelf<'a, R> {
 }
 
 impl<'a, R: Files> Shelf for FileShelf<'a, R> {
-    ghost use Rattle.std.specs.Prelude.{None};
+    ghost use Rattle.std.specs.Prelude.{None, ⊤};
 
     ghost files = { λ _. None };
 
     ghost rest = { λ _. None };
 
     ghost faults = { λ s. s.faults };
+
+    ghost takes = { λ _ _ _ _. ⊤ };
+
+    ghost reads = { λ _ _ _ _. ⊤ };
 
     fn take_file(&mut self, name: &str) -> Result<(), Failed> {
         self.taken = None;

@@ -1,5 +1,5 @@
 // Files in memory, with faults where the caller wants them.
-ghost use Rattle.std.specs.Prelude.{◌≡◌, ◌<◌, ◌≤◌, [], length, drop, None, Some, MatchOption, ⊤};
+ghost use Rattle.std.specs.Prelude.{◌≡◌, ◌+◌, ◌<◌, ◌≤◌, min, true, [], length, drop, Contains, None, Some, MatchOption, ⊤};
 ghost use Rattle.edge.specs.Files.{contents_of, file_at};
 ghost use Rattle.edge.specs.Shelf.{ReadsBytes};
 ghost use Rattle.edge.specs.Taken.{IsTakenOf};
@@ -30,11 +30,15 @@ struct Taken {
 }
 
 impl MemShelf {
+    ghost use Rattle.edge.specs.Device.{fresh_device};
+    ghost use Rattle.edge.specs.Shelves.{device_of};
+
     /// A shelf of these files, the first of each name, with no fault counted and none taken.
     ///
     /// The calls whose numbers are in `failing` fail, and one read gives at most `most` bytes. Takes no memory.
     pub fn new(files: Vec<(String, Vec<u8>)>, failing: Vec<u64>, most: usize) -> Self
         requires { 1 ≤ most }
+        ensures device { device_of result ≡ fresh_device failing.items most }
         ensures files { ⟦<MemShelf as Shelf>⟧.files result ≡ Some (contents_of files.items) }
         ensures rest { ⟦<MemShelf as Shelf>⟧.rest result ≡ Some [] }
         ensures faults { ⟦<MemShelf as Shelf>⟧.faults result ≡ 0 }
@@ -54,12 +58,17 @@ impl Shelf for MemShelf {
     ghost use Rattle.std.specs.Prelude.{Some};
     ghost use Rattle.edge.specs.Files.{contents_of};
     ghost use Rattle.edge.specs.Taken.{bytes_left};
+    ghost use Rattle.edge.specs.Shelves.{TakesInMemory, ReadsInMemory};
 
     ghost files = { λ s. Some (contents_of s.files.items) };
 
     ghost rest = { λ s. Some (bytes_left s.files.items s.taken) };
 
     ghost faults = { λ s. s.faults };
+
+    ghost takes = { TakesInMemory };
+
+    ghost reads = { ReadsInMemory };
 
     fn take_file(&mut self, name: &str) -> Result<(), Failed> {
         self.taken = None;
@@ -94,7 +103,11 @@ impl Shelf for MemShelf {
 }
 
 // Counts a call, and says whether it is to fail.
-fn is_listed(calls: &mut u64, failing: &[u64]) -> bool {
+fn is_listed(calls: &mut u64, failing: &[u64]) -> bool
+    ensures counted { calls.new ≡ min (calls.old + 1) 18446744073709551615 }
+    ensures listed { result ≡ true → Contains failing.now calls.new }
+    ensures others { Contains failing.now calls.new → result ≡ true }
+{
     *calls = calls.saturating_add(1);
     failing.contains(calls)
 }
@@ -110,7 +123,8 @@ fn file_of(files: &[(String, Vec<u8>)], i: usize) -> &[u8]
 // Copies the first bytes of what is left, at most `most`, and answers how many.
 fn copy_front(left: &[u8], buf: &mut [u8], most: usize) -> usize
     requires { 1 ≤ most }
-    ensures { ReadsBytes left.now (length buf.old) result buf.new (Some (drop result left.now)) }
+    ensures bytes { ReadsBytes left.now (length buf.old) result buf.new (Some (drop result left.now)) }
+    ensures count { result ≡ min (min (length left.now) (length buf.old)) most }
 {
     let n = left.len().min(buf.len()).min(most);
     buf[..n].copy_from_slice(&left[..n]);

@@ -1,5 +1,6 @@
 // Files by name, read one at a time.
-ghost use Rattle.std.specs.Prelude.{◌≡◌, ◌≤◌, ℕ, List, length, Option, Ok, IfOk, OnOk, OnErr, IfSome};
+ghost use Rattle.std.specs.Prelude.{◌≡◌, ◌≤◌, ℕ, List, length, Option, Result, Ok, IfOk, OnOk, OnErr, IfSome, ⊤};
+ghost use Rattle.edge.specs.declared.failed.Failed.{Failed};
 ghost use Rattle.edge.specs.Counts.{HasCause};
 ghost use Rattle.edge.specs.Shelf.{TakesFile, ReadsNext, HasNothingLeft};
 
@@ -16,6 +17,12 @@ pub trait Shelf {
     /// How often a call has failed.
     ghost faults: { Self → ℕ };
 
+    /// A call of `take_file` may lead from a shelf, with this name and this answer, to this shelf.
+    ghost takes: { Self → List ℕ → Result ⊤ Failed → Self → Type 0 };
+
+    /// A call of `read` may lead from a shelf, with a buffer of this many bytes and this answer, to this shelf.
+    ghost reads: { Self → ℕ → Result ℕ Failed → Self → Type 0 };
+
     /// Makes the file of this name the taken one, from its start. A name that isn't there is a fault.
     ///
     /// # Errors
@@ -25,6 +32,7 @@ pub trait Shelf {
         ensures taken { OnOk result (TakesFile (files self.old) name.now (rest self.new)) }
         ensures failed { OnErr result (HasNothingLeft (rest self.new)) }
         ensures files { files self.new ≡ files self.old }
+        ensures call { takes self.old name.now result self.new }
         ensures cause { HasCause (faults self.old) (faults self.new) result };
 
     /// Reads the next bytes of the taken file into the front of `buf`, at least one unless `buf` is empty or nothing is
@@ -38,5 +46,6 @@ pub trait Shelf {
         ensures next { IfOk result (λ n. ReadsNext (rest self.old) (length buf.old) n buf.new (rest self.new)) }
         ensures failed { OnErr result (HasNothingLeft (rest self.new)) }
         ensures files { files self.new ≡ files self.old }
+        ensures call { reads self.old (length buf.old) result self.new }
         ensures cause { HasCause (faults self.old) (faults self.new) result };
 }
