@@ -5,6 +5,7 @@ use Rattle.std.specs.Char.{is_ascii_digit}
 use Rattle.std.specs.List.{list_all}
 use Rattle.std.specs.Str.Parse.{digits_value, ParsesUnsigned}
 use Rattle.std.proofs.lemmas.Str.Parse.{IsNumeralModel, numerals_by_value, digits_value_short, parse_gives}
+use Rattle.exact_cross.specs.declared.TheConstants.{MAX_EPSILON}
 use Rattle.pgmtool.specs.Words.{is_short_number, eps_of}
 
 abbrev IsDigits : List ℕ → Type 0
@@ -23,7 +24,7 @@ parsed word r h short =
 
 -- so what was parsed decides
 pub eps_of-parsed : {E : Type 0} (word : List ℕ) (r : Result ℕ E) (eps : ℕ) → ParsesUnsigned 32 10 word r → is_short_number word ≡ true → r ≡ Ok eps →
-    (if nat_le eps 1048576 then Some eps else None) ≡ eps_of word
+    (if nat_le eps MAX_EPSILON then Some eps else None) ≡ eps_of word
 eps_of-parsed word r eps h short is =
     let same : eps ≡ digits_value 10 word = cc (parsed word r h short) in
     rw (same, short) refl

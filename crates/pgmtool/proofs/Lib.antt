@@ -1,5 +1,7 @@
 pub mod ErrorBounds
-pub mod HandingLemmas
-pub mod LoadLemmas
-pub mod TextLemmas
-pub mod RunLemmas
+pub mod DistinctKeys
+pub mod RunLines
+pub mod WritingLemmas
+pub mod InputLemmas
+pub mod KeyInputs
+pub mod OutcomeLemmas

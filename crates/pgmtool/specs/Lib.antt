@@ -1,7 +1,10 @@
+pub mod Statuses
+pub mod Requests
 pub mod Words
-pub mod Keys
-pub mod Lines
-pub mod Text
-pub mod Handing
-pub mod Writing
-pub mod Run
+pub mod Files
+pub mod Refusals
+pub mod Tasks
+pub mod Inputs
+pub mod Stops
+pub mod Commands
+pub mod Outcomes

@@ -12,16 +12,16 @@
 //! Everything that is claimed of the program stands on [`run`]. The words of its clauses are in `specs/`.
 #![tactic(auto)]
 
-mod explain;
-mod line_buffer;
-mod load;
+mod commands;
+mod inputs;
+mod refusal;
+mod request;
 mod run;
 mod status;
+mod task;
 #[cfg(test)]
 mod tests;
-mod text;
 mod words;
-mod writing;
 
 use edge::{FileShelf, OpenGate, OutSink};
 pub use run::run;

@@ -1,21 +1,28 @@
 // The one call that the program makes.
-ghost use Rattle.std.specs.Prelude.{◌≡◌, ◌≢◌, ◌⊎◌, ◌↔◌, ◌<◌, ◌∷◌, [], ℕ, List, map, None, Some, Ok, Err, IfSome, IsSome};
+ghost use Rattle.std.specs.Prelude.{◌≡◌, ◌⊎◌, ◌↔◌, ◌<◌, ◌∷◌, [], ℕ, List, map, None, Some, Result, IsSome};
 ghost use Rattle.std.specs.String.{string_bytes};
 ghost use Rattle.edge.specs.Risen.{HasRisen};
-ghost use Rattle.sosd_reader.specs.declared.fault.KeyFault.{KeyFault};
-ghost use Rattle.sosd_reader.specs.KeyFileFaults.{ReadsAs};
-ghost use Rattle.pgmtool.specs.Run.{IsText, AsksFor, AsksForNone, AsksForFault, fault_line, key_fault_line};
+ghost use Rattle.written.specs.Writing.{Writes, BreaksOff, WritesUntilFault};
+ghost use Rattle.pgmtool.specs.declared.refusal.Refusal.{Refusal};
+ghost use Rattle.pgmtool.specs.Files.{IsMissing};
+ghost use Rattle.pgmtool.specs.Refusals.{refusal_line, status_of};
+ghost use Rattle.pgmtool.specs.Requests.{Request, first_file};
+ghost use Rattle.pgmtool.specs.Tasks.{Task};
 ghost use Rattle.pgmtool.specs.Words.{request_of};
-ghost use Rattle.pgmtool.specs.Writing.{WritesLines, BreaksOff};
+ghost use Rattle.pgmtool.specs.Outcomes.{Defines, IsOutcome, IsCause, EndsAs};
+ghost use Rattle.pgmtool.specs.Outcomes.Outcome.{text};
 
 use crate::Status;
-use crate::explain::{explain, refuse};
+use crate::commands::write;
+use crate::inputs::read;
+use crate::refusal::{Refusal, Stopped, refuse};
 use crate::words::requested;
 use edge::{Gate, Shelf, Sink};
+use written::Unfinished;
 
 /// Does what the words ask for, and writes the answer's text.
 ///
-/// `words` begins with the program's name. All reading is done before anything is written. Each line is handed to the
+/// `words` begins with the program's name. All reading is done before anything is written. Each text line is handed to the
 /// sink as one piece, and what it left of it again. Returns the status that the program ends with.
 pub fn run<R: AllocGlobal, F: Shelf, S: Sink, G: Gate>(
     rt: &R,
@@ -24,48 +31,49 @@ pub fn run<R: AllocGlobal, F: Shelf, S: Sink, G: Gate>(
     out: &mut S,
     gate: &G,
 ) -> Status
-    // Done: the sink gained exactly the text that the words and the files define.
-    ensures done { result ≡ Status.Done → ((lines : List (List ℕ)) × IsText (F.files files.old) (map string_bytes words.now) lines
-        × WritesLines S.puts S.written S.faults out.old out.new lines) }
-    ensures done_unfaulted { result ≡ Status.Done → F.faults files.new ≡ F.faults files.old }
-    ensures done_wherever { (bytes keys : List ℕ) → AsksFor (F.files files.old) (map string_bytes words.now) bytes → ReadsAs 8 bytes (Ok keys)
-        → (HasRisen (F.faults files.old) (F.faults files.new) → ⊥) → (HasRisen (S.faults out.old) (S.faults out.new) → ⊥)
-        → (result ≡ Status.Done) ⊎ (result ≡ Status.NoMemory) }
+    // Done: the sink gained exactly a text that the words and the files define, and no fault was counted.
+    ensures done { result ≡ Status.Done → (pieces : List (List ℕ))
+        × IsOutcome (F.files files.old) (map string_bytes words.now) (text pieces) × Writes S.Sink out.old out.new pieces }
+    ensures unfaulted { result ≡ Status.Done → F.faults files.new ≡ F.faults files.old }
 
-    // WriteFault: a call of the sink failed, and a front part of the text stands.
-    ensures write_fault { result ≡ Status.WriteFault → ((lines : List (List ℕ)) × IsText (F.files files.old) (map string_bytes words.now) lines
-        × BreaksOff S.puts S.written S.faults out.old out.new lines) }
-    ensures write_faulted { S.faults out.old < S.faults out.new → (result ≡ Status.WriteFault) ⊎ (result ≡ Status.BadKeys) ⊎ IsSome (fault_line result) }
+    // WriteFault: a call of the sink failed, and a front part of such a text stands.
+    ensures broke_off { result ≡ Status.WriteFault → (pieces : List (List ℕ))
+        × IsOutcome (F.files files.old) (map string_bytes words.now) (text pieces) × BreaksOff S.Sink out.old out.new pieces }
 
     // NoMemory: nothing was handed over.
     ensures no_memory { result ≡ Status.NoMemory → out.new ≡ out.old }
 
-    // Usage, ReadFault: the one line was written, or a front part of it where the sink failed.
-    ensures refused { IfSome (fault_line result) (λ line. WritesLines S.puts S.written S.faults out.old out.new (line ∷ [])
-        ⊎ BreaksOff S.puts S.written S.faults out.old out.new (line ∷ [])) }
+    // Any other status: a refusal that has a cause wrote its one text line, or a front part of it where the sink failed.
+    ensures refused { (result ≡ Status.Done) ⊎ (result ≡ Status.WriteFault) ⊎ (result ≡ Status.NoMemory)
+        ⊎ ((refusal : Refusal) × (result ≡ status_of refusal)
+        × IsCause (F.files files.old) (map string_bytes words.now) (F.faults files.old) (F.faults files.new) refusal
+        × WritesUntilFault S.Sink out.old out.new (refusal_line refusal ∷ [])) }
 
-    // Usage: the words are no command, and nothing was read.
+    // Where files are told, what they and the words define comes, or memory ran out, or a call on them failed.
+    ensures wherever { IsSome (F.files files.old) → (defined : Result Task Refusal)
+        → Defines (F.files files.old) (map string_bytes words.now) defined
+        → EndsAs defined result ⊎ (result ≡ Status.NoMemory) ⊎ (result ≡ Status.ReadFault) }
+
+    // ReadFault: wherever a call on the files failed, and where the first file is told not to be there.
+    ensures read_faulted { F.faults files.old < F.faults files.new → result ≡ Status.ReadFault }
+    ensures missing { (request : Request) → request_of (map string_bytes words.now) ≡ Some request
+        → IsMissing (F.files files.old) (first_file request) → result ≡ Status.ReadFault }
+
+    // Usage: exactly where the words are no command, and then no file was touched.
     ensures usage { (result ≡ Status.Usage) ↔ (request_of (map string_bytes words.now) ≡ None) }
     ensures usage_reads_nothing { result ≡ Status.Usage → files.new ≡ files.old }
-
-    // ReadFault: a call of the shelf failed.
-    ensures read_fault { result ≡ Status.ReadFault → HasRisen (F.faults files.old) (F.faults files.new) }
-    ensures read_faulted { F.faults files.old < F.faults files.new → result ≡ Status.ReadFault }
-    ensures missing { AsksForNone (F.files files.old) (map string_bytes words.now) → result ≡ Status.ReadFault }
-
-    // BadKeys: the file has a fault, and the line that tells it was written, or a front part of it where the sink failed.
-    ensures bad_keys { result ≡ Status.BadKeys → ((fault : KeyFault) × (line : List ℕ) × AsksForFault (F.files files.old) (map string_bytes words.now) fault × (key_fault_line fault ≡ Some line)
-        × (WritesLines S.puts S.written S.faults out.old out.new (line ∷ []) ⊎ BreaksOff S.puts S.written S.faults out.old out.new (line ∷ []))) }
-    ensures bad_keys_wherever { (bytes : List ℕ) (fault : KeyFault) → AsksFor (F.files files.old) (map string_bytes words.now) bytes → ReadsAs 8 bytes (Err fault)
-        → (HasRisen (F.faults files.old) (F.faults files.new) → ⊥) → (result ≡ Status.BadKeys) ⊎ (result ≡ Status.NoMemory) }
-
-    // There is no script and no map yet.
-    ensures no_script { result ≢ Status.BadScript }
-    ensures no_map { result ≢ Status.Full }
 {
     let _ = gate;
-    match requested(words) {
-        Some((file, eps)) => explain(rt.alloc(), file, eps, files, out),
-        None => refuse(out, Status::Usage, b"fault usage\n"),
+    let Some(request) = requested(words) else {
+        return refuse(out, Refusal::Usage);
+    };
+    match read(rt.alloc(), files, request) {
+        Ok(task) => match write(rt.alloc(), task, out) {
+            Ok(()) => Status::Done,
+            Err(Unfinished::WriteFault) => Status::WriteFault,
+            Err(Unfinished::NoMemory) => Status::NoMemory,
+        },
+        Err(Stopped::Refused(refusal)) => refuse(out, refusal),
+        Err(Stopped::NoMemory) => Status::NoMemory,
     }
 }

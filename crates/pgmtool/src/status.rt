@@ -1,4 +1,6 @@
 // How a run ends.
+ghost use Rattle.std.specs.Prelude.{◌≡◌};
+ghost use Rattle.pgmtool.specs.Statuses.{number_of};
 
 /// How a run ends, as the number that the program ends with.
 #[derive(Clone, Copy, Debug, PartialEq, Eq)]
@@ -23,7 +25,9 @@ pub enum Status {
 
 impl Status {
     /// The number of the status.
-    pub fn code(self) -> u8 {
+    pub fn code(self) -> u8
+        ensures { result ≡ number_of self }
+    {
         self as u8
     }
 }

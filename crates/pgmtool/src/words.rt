@@ -3,21 +3,24 @@ ghost use Rattle.std.specs.Prelude.{◌≡◌, ◌≤◌, map, None, Some, IfSom
 ghost use Rattle.std.specs.Char.{is_ascii_digit};
 ghost use Rattle.std.specs.List.{list_all};
 ghost use Rattle.std.specs.String.{string_bytes};
+ghost use Rattle.pgmtool.specs.Requests.{asked_of};
 ghost use Rattle.pgmtool.specs.Words.{is_short_number, eps_of, request_of};
 
+use crate::request::{BuildOptions, Request};
 use exact_cross::MAX_EPSILON;
 
-/// The key file and the error bound that the words ask for, or `None` where the words are no command.
-pub fn requested(words: &[String]) -> Option<(&str, u32)>
-    ensures bounded { IfSome result (λ r. r.1 ≤ 1048576) }
-    ensures request { MatchOption result (request_of (map string_bytes words.now) ≡ None)
-        (λ r. request_of (map string_bytes words.now) ≡ Some (record { file = r.0.now; eps = r.1 })) }
+/// What the words ask for, or `None` where they are no command.
+pub fn requested(words: &[String]) -> Option<Request<'_>>
+    ensures { MatchOption result (request_of (map string_bytes words.now) ≡ None)
+        (λ request. request_of (map string_bytes words.now) ≡ Some (asked_of request)) }
 {
     match words {
         [_, command, file, option, number]
             if command.as_str() == "explain" && option.as_str() == "--eps" => {
             let eps = eps_in(number.as_str())?;
-            Some((file.as_str(), eps))
+            let file = file.as_str();
+            let options = BuildOptions { eps };
+            Some(Request::Explain { file, options })
         }
         _ => None,
     }
@@ -26,7 +29,7 @@ pub fn requested(words: &[String]) -> Option<(&str, u32)>
 // An error bound in one to seven digits.
 fn eps_in(word: &str) -> Option<u32>
     ensures value { result ≡ eps_of word.now }
-    ensures bounded { IfSome result (λ eps. eps ≤ 1048576) }
+    ensures bounded { IfSome result (λ eps. eps ≤ MAX_EPSILON) }
 {
     if !is_short(word) {
         return None;
@@ -38,8 +41,8 @@ fn eps_in(word: &str) -> Option<u32>
 }
 
 fn at_most(eps: u32) -> Option<u32>
-    ensures value { result ≡ (if nat_le eps 1048576 then Some eps else None) }
-    ensures bounded { IfSome result (λ eps. eps ≤ 1048576) }
+    ensures value { result ≡ (if nat_le eps MAX_EPSILON then Some eps else None) }
+    ensures bounded { IfSome result (λ eps. eps ≤ MAX_EPSILON) }
 {
     if eps <= MAX_EPSILON { Some(eps) } else { None }
 }

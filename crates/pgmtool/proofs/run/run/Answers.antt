@@ -1,20 +1,49 @@
-use Rattle.std.proofs.Common.{map, Ok, Err}
+use Rattle.std.proofs.Common.{inl, inr, map, refl, Ok}
 use Rattle.std.specs.String.{string_bytes}
-use Rattle.pgmtool.proofs.RunLemmas.{asked_leads, done_comes, bad_keys_come}
+use Rattle.pgmtool.specs.declared.refusal.Refusal.TheVariants.{Usage}
+use Rattle.pgmtool.specs.declared.status.Status.TheVariants as ends
+use Rattle.pgmtool.specs.Requests.{asked_of}
+use Rattle.pgmtool.specs.Tasks.{task_of}
+use Rattle.pgmtool.specs.Outcomes.Defines.{no_command, asked}
+use Rattle.pgmtool.proofs.OutcomeLemmas.{it_ends, stopped_cause, stopped_ends}
 use Rattle.pgmtool.proofs.run.run.Goals as goal
 
-pub returns-in-None-clause-refused : goal.returns-in-None-clause-refused
-returns-in-None-clause-refused g c = rw c.refuse.ensures.status c.refuse.ensures.line
+pub returns-in_default-clause-refused : goal.returns-in_default-clause-refused
+returns-in_default-clause-refused g c = inr (inr (inr (Usage, c.refuse.ensures.status, no_command c.in_default.ensures, c.refuse.ensures.line)))
 
-pub returns-in-Some-clause-done_wherever : goal.returns-in-Some-clause-done_wherever
-returns-in-Some-clause-done_wherever g c bytes keys asks reads quiet calm =
-    done_comes c.explain.result keys
-    (asked_leads (g.F.Shelf.files c.args.files.now) (map string_bytes c.args.words.now) (record { file = c.in-Some.file.now; eps = c.in-Some.eps }) _ c.explain.result bytes (Ok keys)
-    c.in-Some.ensures.request c.explain.ensures.wherever asks reads quiet)
-    (λ broken. calm (c.explain.ensures.write_fault broken).3.2.fault)
+pub returns-in-Ok-write-clause-done : goal.returns-in-Ok-write-clause-done
+returns-in-Ok-write-clause-done g c done =
+    let text = c.in-Ok-write.ensures in
+    (text.0, (task_of c.in-Ok.task, asked (asked_of c.in-Some.request) _ c.in-Some.ensures c.in-Ok.ensures.answer.ok, text.1), text.2)
 
-pub returns-in-Some-clause-bad_keys_wherever : goal.returns-in-Some-clause-bad_keys_wherever
-returns-in-Some-clause-bad_keys_wherever g c bytes fault asks reads quiet =
-    bad_keys_come c.explain.result fault
-    (asked_leads (g.F.Shelf.files c.args.files.now) (map string_bytes c.args.words.now) (record { file = c.in-Some.file.now; eps = c.in-Some.eps }) _ c.explain.result bytes (Err fault)
-    c.in-Some.ensures.request c.explain.ensures.wherever asks reads quiet)
+pub returns-in-Ok-write-clause-wherever : goal.returns-in-Ok-write-clause-wherever
+returns-in-Ok-write-clause-wherever g c some defined defines =
+    inl (it_ends _ (map string_bytes c.args.words.now) (asked_of c.in-Some.request) (Ok (task_of c.in-Ok.task)) defined ends.Done some
+    (c.in-Some.ensures, c.in-Ok.ensures.answer.ok) (inl refl) defines)
+
+pub returns-in-Err-WriteFault-clause-broke_off : goal.returns-in-Err-WriteFault-clause-broke_off
+returns-in-Err-WriteFault-clause-broke_off g c broke =
+    let text = rw c.in-Err-WriteFault.field-0-is at c.in-Err-WriteFault.ensures in
+    (text.0, (task_of c.in-Ok.task, asked (asked_of c.in-Some.request) _ c.in-Some.ensures c.in-Ok.ensures.answer.ok, text.1), text.2)
+
+pub returns-in-Err-WriteFault-clause-wherever : goal.returns-in-Err-WriteFault-clause-wherever
+returns-in-Err-WriteFault-clause-wherever g c some defined defines =
+    inl (it_ends _ (map string_bytes c.args.words.now) (asked_of c.in-Some.request) (Ok (task_of c.in-Ok.task)) defined ends.WriteFault some
+    (c.in-Some.ensures, c.in-Ok.ensures.answer.ok) (inr refl) defines)
+
+pub returns-in-Err-Refused-clause-refused : goal.returns-in-Err-Refused-clause-refused
+returns-in-Err-Refused-clause-refused g c =
+    let read = rw c.in-Err-Refused.field-0-is at c.in-Err-Refused.ensures in
+    inr (inr (inr (
+      c.in-Err-Refused.refusal,
+      c.refuse-in-Err-Refused.ensures.status,
+      stopped_cause _ (map string_bytes c.args.words.now) (asked_of c.in-Some.request) _ _ c.in-Err-Refused.refusal c.in-Some.ensures read.answer.stopped,
+      c.refuse-in-Err-Refused.ensures.line,
+    )))
+
+pub returns-in-Err-Refused-clause-wherever : goal.returns-in-Err-Refused-clause-wherever
+returns-in-Err-Refused-clause-wherever g c some defined defines =
+    let read = rw c.in-Err-Refused.field-0-is at c.in-Err-Refused.ensures in
+    rw c.refuse-in-Err-Refused.ensures.status
+    (stopped_ends _ (map string_bytes c.args.words.now) (asked_of c.in-Some.request) _ _ c.in-Err-Refused.refusal defined c.in-Some.ensures
+    read.answer.stopped some defines)

@@ -1,0 +1,95 @@
+-- Inputs read one after the other.
+--
+-- Main results: a call that reads two inputs answers what the files define for both (`then_stops`, `then_goes_on`); and where
+-- at most one reading of the first is defined, and of what goes on with it, so it is for both (`then_one`).
+use Rattle.std.proofs.Common.{◌≡◌, ◌⊎◌, inl, inr, ℕ, ◌<◌, ◌≤◌, List, Option, None, Some, Result, Ok, Err, arith, refl, sym, subst, ap, ◌∙◌}
+use Rattle.pgmtool.specs.declared.refusal.Refusal.{Refusal}
+use Rattle.pgmtool.specs.declared.refusal.Refusal.TheVariants.{ReadFault, Usage, TooMany, Short, Unsorted, Trailing, Wide}
+use Rattle.pgmtool.specs.declared.refusal.Stopped.{Stopped}
+use Rattle.pgmtool.specs.declared.refusal.Stopped.TheVariants.{NoMemory, Refused}
+use Rattle.pgmtool.specs.Inputs.{Reading, then, gives}
+use Rattle.pgmtool.specs.Stops.{IsStopped, Answers}
+
+module _ {A B X Y : Type 0} (first : Reading A) (next : A → Reading B) (value_of : X → A) (made_of : Y → B) (before after : ℕ) where
+  -- what stops the first stops both
+  stops_both : (stopped : Stopped) → IsStopped first before after stopped → IsStopped (then first next) before after stopped
+  stops_both NoMemory is = tt
+  stops_both (Refused ReadFault) is = is
+  stops_both (Refused Usage) is = inl is
+  stops_both (Refused (TooMany count)) is = inl is
+  stops_both (Refused (Short got)) is = inl is
+  stops_both (Refused (Unsorted at key_before key)) is = inl is
+  stops_both (Refused (Trailing byte)) is = inl is
+  stops_both (Refused (Wide at value)) is = inl is
+
+  pub then_stops : (stopped : Stopped) → Answers {B = X} first value_of before after (Err stopped) →
+      Answers {B = Y} (then first next) made_of before after (Err stopped)
+  then_stops stopped one = record {
+    ok = tt;
+    unfaulted = tt;
+    stopped = stops_both stopped one.stopped;
+    faulted = λ rose. let same = one.faulted rose in cc;
+    never_falls = one.never_falls;
+  }
+
+  -- what stops the second stops both
+  stops_second : (x : A) → first (Ok x) → (stopped : Stopped) → IsStopped (next x) before after stopped →
+      IsStopped (then first next) before after stopped
+  stops_second x read NoMemory is = tt
+  stops_second x read (Refused ReadFault) is = is
+  stops_second x read (Refused Usage) is = inr (x, read, is)
+  stops_second x read (Refused (TooMany count)) is = inr (x, read, is)
+  stops_second x read (Refused (Short got)) is = inr (x, read, is)
+  stops_second x read (Refused (Unsorted at key_before key)) is = inr (x, read, is)
+  stops_second x read (Refused (Trailing byte)) is = inr (x, read, is)
+  stops_second x read (Refused (Wide at value)) is = inr (x, read, is)
+
+  -- the count had not risen when the first was read
+  pub then_goes_on : (middle : ℕ) (value : X) (r : Result Y Stopped) → Answers {B = X} first value_of before middle (Ok value) →
+      Answers (next (value_of value)) made_of middle after r → Answers (then first next) made_of before after r
+  then_goes_on middle value (Ok made) one two = record {
+    ok = (value_of value, one.ok, two.ok);
+    unfaulted = two.unfaulted ∙ one.unfaulted;
+    stopped = tt;
+    faulted = λ rose. two.faulted (subst (λ (n : ℕ). n < after) (sym one.unfaulted) rose);
+    never_falls = subst (λ (n : ℕ). n ≤ after) one.unfaulted two.never_falls;
+  }
+  then_goes_on middle value (Err stopped) one two = record {
+    ok = tt;
+    unfaulted = tt;
+    stopped = stops_second (value_of value) one.ok stopped
+        (subst (λ (n : ℕ). IsStopped (next (value_of value)) n after stopped) one.unfaulted two.stopped);
+    faulted = λ rose. two.faulted (subst (λ (n : ℕ). n < after) (sym one.unfaulted) rose);
+    never_falls = subst (λ (n : ℕ). n ≤ after) one.unfaulted two.never_falls;
+  }
+
+-- nothing more is read
+pub gives_answer : {B Y : Type 0} (made_of : Y → B) (made : Y) (b : B) (n : ℕ) → made_of made ≡ b → Answers (gives b) made_of n n (Ok made)
+gives_answer made_of made b n is = record { ok = ap Ok is; unfaulted = refl; stopped = tt; faulted = λ rose. absurd (omega arith); never_falls = omega arith }
+
+-- at most one thing is defined
+abbrev pub IsFunctional : {A : Type 0} → Reading A → Type 0
+IsFunctional reading = (one two : Result _ Refusal) → reading one → reading two → one ≡ two
+
+pub then_one : {A B : Type 0} (first : Reading A) (next : A → Reading B) → IsFunctional first → ((x : A) → IsFunctional (next x)) →
+    IsFunctional (then first next)
+then_one first next one_first one_next (Ok y) (Ok z) (x, read, is) (x', read', is') =
+    let same : x ≡ x' = cc (one_first (Ok x) (Ok x') read read') in
+    one_next x' (Ok y) (Ok z) (subst (λ a. next a (Ok y)) same is) is'
+then_one first next one_first one_next (Ok y) (Err r) (x, read, is) (inl read') = cc (one_first (Ok x) (Err r) read read')
+then_one first next one_first one_next (Ok y) (Err r) (x, read, is) (inr (x', read', is')) =
+    let same : x ≡ x' = cc (one_first (Ok x) (Ok x') read read') in
+    one_next x' (Ok y) (Err r) (subst (λ a. next a (Ok y)) same is) is'
+then_one first next one_first one_next (Err r) (Ok z) (inl read) (x', read', is') = cc (one_first (Err r) (Ok x') read read')
+then_one first next one_first one_next (Err r) (Ok z) (inr (x, read, is)) (x', read', is') =
+    let same : x ≡ x' = cc (one_first (Ok x) (Ok x') read read') in
+    one_next x' (Err r) (Ok z) (subst (λ a. next a (Err r)) same is) is'
+then_one first next one_first one_next (Err r) (Err q) (inl read) (inl read') = cc (one_first (Err r) (Err q) read read')
+then_one first next one_first one_next (Err r) (Err q) (inl read) (inr (x', read', is')) = cc (one_first (Err r) (Ok x') read read')
+then_one first next one_first one_next (Err r) (Err q) (inr (x, read, is)) (inl read') = cc (one_first (Ok x) (Err q) read read')
+then_one first next one_first one_next (Err r) (Err q) (inr (x, read, is)) (inr (x', read', is')) =
+    let same : x ≡ x' = cc (one_first (Ok x) (Ok x') read read') in
+    one_next x' (Err r) (Err q) (subst (λ a. next a (Err r)) same is) is'
+
+pub gives_one : {A : Type 0} (x : A) → IsFunctional (gives x)
+gives_one x one two is same = is ∙ sym same

@@ -1,0 +1,40 @@
+-- What the words and the files define: a text, or a refusal.
+use Rattle.std.specs.Prelude.{◌≡◌, ◌⊎◌, ℕ, List, Option, None, Some, Result, Ok, Err}
+use Rattle.edge.specs.Risen.{HasRisen}
+use Rattle.pgmtool.specs.declared.refusal.Refusal.{Refusal}
+use Rattle.pgmtool.specs.declared.refusal.Refusal.TheVariants.{Usage, ReadFault}
+use Rattle.pgmtool.specs.declared.status.Status.{Status}
+use Rattle.pgmtool.specs.declared.status.Status.TheVariants.{Done, WriteFault}
+use Rattle.pgmtool.specs.Files.{Files}
+use Rattle.pgmtool.specs.Refusals.{status_of}
+use Rattle.pgmtool.specs.Requests.{Request}
+use Rattle.pgmtool.specs.Tasks.{Task}
+use Rattle.pgmtool.specs.Words.{request_of}
+use Rattle.pgmtool.specs.Inputs.{reads}
+use Rattle.pgmtool.specs.Commands.{IsText}
+
+-- what there is to do, or why there is nothing: the words are judged first, then each input in turn
+pub data Defines (files : Files) (words : List (List ℕ)) : Result Task Refusal → Type 0 where
+  no_command : request_of words ≡ None → Defines files words (Err Usage)
+  asked : (request : Request) (reading : Result Task Refusal) → request_of words ≡ Some request →
+      reads files request reading → Defines files words reading
+
+-- a text, or a refusal
+pub data Outcome : Type 0 where
+  text : (pieces : List (List ℕ)) → Outcome
+  refused : (refusal : Refusal) → Outcome
+
+-- the text of the task, or the refusal, that the words and the files define
+abbrev pub IsOutcome : Files → List (List ℕ) → Outcome → Type 0
+IsOutcome files words (text pieces) = (task : Task) × Defines files words (Ok task) × IsText task pieces
+IsOutcome files words (refused refusal) = Defines files words (Err refusal)
+
+-- why a run refuses: a call on the files failed, or else the words and the files define it
+abbrev pub IsCause : Files → List (List ℕ) → (before after : ℕ) → Refusal → Type 0
+IsCause files words before after ReadFault = HasRisen before after
+IsCause files words before after refusal = IsOutcome files words (refused refusal)
+
+-- the status that this leads to: the text of a task is written, or breaks off
+abbrev pub EndsAs : Result Task Refusal → Status → Type 0
+EndsAs (Ok task) status = (status ≡ Done) ⊎ (status ≡ WriteFault)
+EndsAs (Err refusal) status = status ≡ status_of refusal

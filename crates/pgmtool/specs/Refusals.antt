@@ -1,0 +1,36 @@
+-- Refusals: their statuses, and the one text line that each writes.
+use Rattle.std.specs.Prelude.{ℕ, List, [], ◌∷◌, Option, Some, None, codes, decimal}
+use Rattle.sosd_reader.specs.declared.fault.KeyFault.{KeyFault}
+use Rattle.sosd_reader.specs.declared.fault.KeyFault.TheVariants as reader
+use Rattle.pgmtool.specs.declared.refusal.Refusal.{Refusal}
+use Rattle.pgmtool.specs.declared.refusal.Refusal.TheVariants.{Usage, ReadFault, TooMany, Short, Unsorted, Trailing, Wide}
+use Rattle.pgmtool.specs.declared.status.Status.{Status}
+use Rattle.pgmtool.specs.declared.status.Status.TheVariants as ends
+use Rattle.written.specs.TextLines.{text_line}
+
+-- the status that a refusal ends with
+abbrev pub status_of : Refusal → Status
+status_of Usage = ends.Usage
+status_of ReadFault = ends.ReadFault
+status_of refusal = ends.BadKeys
+
+-- the one text line that tells a refusal
+abbrev pub refusal_line : Refusal → List ℕ
+refusal_line Usage = text_line (codes "fault" ∷ codes "usage" ∷ [])
+refusal_line ReadFault = text_line (codes "fault" ∷ codes "read" ∷ [])
+refusal_line (TooMany count) = text_line (codes "fault" ∷ codes "keys" ∷ codes "too" ∷ codes "many" ∷ decimal count ∷ [])
+refusal_line (Short got) = text_line (codes "fault" ∷ codes "keys" ∷ codes "short" ∷ decimal got ∷ [])
+refusal_line (Unsorted at before key) =
+    text_line (codes "fault" ∷ codes "keys" ∷ codes "unsorted" ∷ decimal at ∷ decimal before ∷ decimal key ∷ [])
+refusal_line (Trailing byte) = text_line (codes "fault" ∷ codes "keys" ∷ codes "trailing" ∷ decimal byte ∷ [])
+refusal_line (Wide at value) = text_line (codes "fault" ∷ codes "keys" ∷ codes "wide" ∷ decimal at ∷ decimal value ∷ [])
+
+-- the refusal that tells a fault of a file's bytes; want of memory is no fault of theirs
+abbrev pub refusal_of : KeyFault → Option Refusal
+refusal_of reader.ReadFault = Some ReadFault
+refusal_of (reader.TooMany count) = Some (TooMany count)
+refusal_of (reader.Short got) = Some (Short got)
+refusal_of (reader.Unsorted at before key) = Some (Unsorted at before key)
+refusal_of (reader.Trailing byte) = Some (Trailing byte)
+refusal_of (reader.Wide at value) = Some (Wide at value)
+refusal_of reader.NoMemory = None

@@ -1,0 +1,119 @@
+// Refusals: why there is no text, and the one text line that says so.
+ghost use Rattle.std.specs.Prelude.{◌≡◌, ◌∷◌, ◌+◌, ◌++◌, ◌≤◌, [], length, decimal, MatchOption};
+ghost use Rattle.written.specs.Writing.{WritesUntilFault};
+ghost use Rattle.pgmtool.specs.Refusals.{refusal_line, refusal_of, status_of};
+
+use crate::Status;
+use edge::Sink;
+use sosd_reader::KeyFault;
+use written::{LINE_ROOM, TextLine, hand_over};
+
+/// Why there is no text.
+#[derive(Clone, Copy, Debug, PartialEq, Eq)]
+pub enum Refusal {
+    /// The words are no command.
+    Usage,
+    /// A file isn't there, or can't be read.
+    ReadFault,
+    /// A key file says that it holds 2^32 keys or more.
+    TooMany { count: u64 },
+    /// A key file ends before its count or its last key does.
+    Short { got: u64 },
+    /// A key is below the one before it.
+    Unsorted { at: u64, before: u64, key: u64 },
+    /// A byte follows the last key.
+    Trailing { byte: u8 },
+    /// A coordinate is out of the range of its dimension. No key file has this fault.
+    Wide { at: u64, value: u32 },
+}
+
+/// Why a request's inputs weren't read.
+#[derive(Clone, Copy, Debug, PartialEq, Eq)]
+pub enum Stopped {
+    /// Memory wasn't found.
+    NoMemory,
+    /// There is no text.
+    Refused(Refusal),
+}
+
+impl Refusal {
+    /// The status that the program ends with.
+    pub fn status(self) -> Status
+        ensures { result ≡ status_of self }
+    {
+        match self {
+            Refusal::Usage => Status::Usage,
+            Refusal::ReadFault => Status::ReadFault,
+            Refusal::TooMany { .. }
+            | Refusal::Short { .. }
+            | Refusal::Unsorted { .. }
+            | Refusal::Trailing { .. }
+            | Refusal::Wide { .. } => Status::BadKeys,
+        }
+    }
+}
+
+/// Writes the one text line of the refusal. Its status stays, whatever the sink does.
+pub fn refuse<S: Sink>(out: &mut S, refusal: Refusal) -> Status
+    ensures status { result ≡ status_of refusal }
+    ensures line { WritesUntilFault S.Sink out.old out.new (refusal_line refusal ∷ []) }
+{
+    let mut line = TextLine::new();
+    fill_line(&mut line, refusal);
+    let _ = hand_over(out, line.as_bytes());
+    refusal.status()
+}
+
+fn fill_line(line: &mut TextLine, refusal: Refusal)
+    ensures { line.new ≡ refusal_line refusal }
+{
+    line.clear();
+    line.push(b"fault");
+    match refusal {
+        Refusal::Usage => line.push(b" usage"),
+        Refusal::ReadFault => line.push(b" read"),
+        Refusal::TooMany { count } => push_kind(line, b" keys too many", count),
+        Refusal::Short { got } => push_kind(line, b" keys short", got),
+        Refusal::Trailing { byte } => push_kind(line, b" keys trailing", u64::from(byte)),
+        Refusal::Unsorted { at, before, key } => {
+            push_kind(line, b" keys unsorted", at);
+            line.push_number(before);
+            line.push_number(key);
+        }
+        Refusal::Wide { at, value } => {
+            push_kind(line, b" keys wide", at);
+            line.push_number(value);
+        }
+    }
+    line.push(b"\n");
+}
+
+// Adds what kind of fault it is, and its first number, of at most twenty digits.
+fn push_kind(line: &mut TextLine, kind: &[u8], number: u64)
+    requires { length line.old + length kind.now + (1 + 20) ≤ LINE_ROOM }
+    ensures text { line.new ≡ line.old ++ kind.now ++ 32 ∷ decimal number }
+    ensures room { length line.new ≤ length line.old + length kind.now + (1 + 20) }
+{
+    line.push(kind);
+    line.push_number(number);
+}
+
+impl From<KeyFault> for Stopped {
+    ghost use Rattle.pgmtool.specs.Stops.{IsStopOf};
+
+    ghost from_gives = { IsStopOf };
+
+    fn from(fault: KeyFault) -> Self {
+        match fault {
+            KeyFault::NoMemory => Stopped::NoMemory,
+            KeyFault::ReadFault => Stopped::Refused(Refusal::ReadFault),
+            KeyFault::TooMany { count } => Stopped::Refused(Refusal::TooMany { count }),
+            KeyFault::Short { got } => Stopped::Refused(Refusal::Short { got }),
+            KeyFault::Unsorted { at, before, key } => {
+                Stopped::Refused(Refusal::Unsorted { at, before, key })
+            }
+            KeyFault::Trailing { byte } => Stopped::Refused(Refusal::Trailing { byte }),
+            KeyFault::Wide { at, value } => Stopped::Refused(Refusal::Wide { at, value }),
+        }
+    }
+}

@@ -1,0 +1,4 @@
+pub mod TailLemmas
+pub mod Gaining
+pub mod PieceSteps
+pub mod CallerLemmas
