@@ -1,5 +1,6 @@
 -- What a crate above may cite: the order of slopes, when some line serves a run, the line of the steep pair, runs that follow one another, on which side a refused place lies, and what witnesses show.
 pub use Rattle.exact_cross.proofs.Cleared.{products_le-out, products_le-in, IsAtMost-out, IsAtMost-in, IsWithin-above, IsWithin-below, IsWithin-in}
+pub use Rattle.exact_cross.proofs.FloorLemmas.{IsFloorAt-in, IsFloorAt-out, IsFloorAt-unique, floor_not_below, floor_not_above}
 pub use Rattle.exact_cross.proofs.SlopeOrder.{IsAtMost-refl, IsAtMost-trans, IsAtMost-total, IsAtMost-not_from_lt, IsAtMost-from_not_lt, IsAtMost-not_from_gt, IsAtMost-from_not_gt}
 pub use Rattle.exact_cross.proofs.KeyPoints.{IsAscending-points_of_keys}
 pub use Rattle.exact_cross.proofs.LineSlopes.{flat_at_most_steep}

@@ -1,5 +1,6 @@
 pub mod CallerLemmas
 pub mod Cleared
+pub mod FloorLemmas
 pub mod SlopeOrder
 pub mod SteepLine
 pub mod LineSlopes

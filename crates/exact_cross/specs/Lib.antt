@@ -1,6 +1,7 @@
 pub mod Points
 pub mod Slopes
 pub mod Lines
+pub mod Floors
 pub mod Covers
 pub mod Steep
 pub mod Witnesses

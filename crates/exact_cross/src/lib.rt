@@ -8,6 +8,7 @@
 //! No call takes memory.
 #![tactic(auto)]
 
+mod floor;
 mod line;
 mod segment;
 mod slope;
