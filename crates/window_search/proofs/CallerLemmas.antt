@@ -1,0 +1,1 @@
+-- What a crate above may cite.

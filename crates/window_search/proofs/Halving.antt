@@ -1,0 +1,35 @@
+-- Halving n places takes t steps, with 2 ^ t at most twice n: while `count` places are left, 2 ^ t * (count - 1) is at most n - 1, and each step halves count - 1.
+use Rattle.std.proofs.Common.{◌≡◌, ℕ, ◌+◌, ◌-◌, ◌*◌, ◌/◌, ◌^◌, ◌<◌, ◌≤◌, ap, ◌∙◌, add-one, arith}
+use Rattle.std.proofs.Math.Nat.{pow-suc, mul-le-mul_left}
+use Rattle.window_search.specs.Searches.{HalvesPlaces}
+
+-- from `before` to `now` the steps so far, with `count` of the places left
+pub record IsHalved (before now places count : ℕ) : Type 0 where
+  pub t : ℕ
+  pub taken : now ≡ before + t
+  pub left : 2 ^ t * (count - 1) ≤ places - 1
+  pub bound : 2 ^ t ≤ 2 * places
+
+pub halved_none : (before places count : ℕ) → 1 ≤ count → count ≤ places → IsHalved before before places count
+halved_none before places count some within = record { t = 0; taken = omega arith; left = omega arith; bound = omega arith }
+
+pub halved_more : (before now places count : ℕ) → 1 < count → IsHalved before now places count → IsHalved before (now + 1) places (count - count / 2)
+halved_more before now places count more halved =
+    let t = halved.t in
+    let twice : 2 * (count - count / 2 - 1) ≤ count - 1 = omega arith in
+    let scaled = mul-le-mul_left (2 ^ t) twice in
+    let one = mul-le-mul_left (2 ^ t) (one_of count more) in
+    let power : 2 ^ (t + 1) ≡ 2 * 2 ^ t = ap (λ n. 2 ^ n) (add-one t) ∙ omega (arith, pow-suc 2 t) in
+    let powers = ap (λ n. n * (count - count / 2 - 1)) power in
+    record {
+      t = t + 1;
+      taken = omega (arith, halved.taken);
+      left = omega (arith, halved.left);
+      bound = omega (arith, halved.left, halved.bound);
+    }
+  where
+    one_of : (count : ℕ) → 1 < count → 1 ≤ count - 1
+    one_of count more = omega arith
+
+pub halved_all : (before now places wide count : ℕ) → places ≤ wide → IsHalved before now places count → HalvesPlaces before now wide
+halved_all before now places wide count within halved = (halved.t, halved.taken, omega (arith, halved.bound))

@@ -1,0 +1,4 @@
+pub mod CallerLemmas
+pub mod Halving
+pub mod LowerBounds
+pub mod WindowLemmas
