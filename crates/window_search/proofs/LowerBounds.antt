@@ -115,3 +115,19 @@ lb_not_after keys q m x order read above = elim (cases_lt m (lb keys q)) [
   | inl before ↦ absurd (omega (arith, (IsLowerBound-lb keys q order).before m before))
   | inr from ↦ from
 ]
+
+-- where the first key is at most q, there is a predecessor: the place before the lower bound of the number after q
+pub predecessor_exists : (keys : List ℕ) (q : ℕ) → IsNonDecreasing keys → 0 < length keys → slice_index keys 0 ≤ q → (place : ℕ) × IsPredecessor keys q place
+predecessor_exists keys q order some first =
+    let bound = IsLowerBound-lb keys (q + 1) order in
+    let positive : 0 < lb keys (q + 1) = elim (cases_lt 0 (lb keys (q + 1))) [
+      | inl more ↦ more
+      | inr none ↦ absurd (omega (arith, bound.from 0 none some))
+    ] in (
+      lb keys (q + 1) - 1,
+      record {
+        inside = omega (arith, bound.within);
+        at_most = omega (arith, bound.before (lb keys (q + 1) - 1) (omega arith));
+        last = λ j after inside. omega (arith, bound.from j (omega arith) inside);
+      },
+    )

@@ -53,15 +53,15 @@ pub fn lower_in<L: Ledger>(keys: &[u64], lo: u32, hi: u32, q: u64, steps: &mut S
     ensures cost { HalvesPlaces steps.old steps.new (hi - lo + 1) }
 {
     let counted = CountedKeys::new(keys);
-    // The lower bound is one of the `count` places from `base` on.
-    let mut base = lo as usize;
-    let mut count = hi as usize + 1 - base;
+    // The lower bound is one of the `count` places from `bound` on.
+    let mut bound = lo as usize;
+    let mut count = hi as usize + 1 - bound;
     while count > 1 {
         let half = count / 2;
-        if counted.read(base + half - 1, steps) < q {
-            base += half;
+        if counted.read(bound + half - 1, steps) < q {
+            bound += half;
         }
         count -= half;
     }
-    base as u32
+    bound as u32
 }

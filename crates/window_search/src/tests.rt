@@ -1,8 +1,14 @@
 //! Windows worked out by hand, and searches in them.
 
+ghost use Rattle.std.specs.Prelude.{◌≡◌, ◌<◌, length, IsTrue};
+ghost use Rattle.std.specs.List.Sorted.{IsNonDecreasing};
+
 use crate::{lower_in, predecessor_in, window};
+use budget::Steps;
 use exact_cross::Line;
+use std::marker::Brand;
 use std::process::Abort;
+use std::sync::ledger::{Blank, Ledger};
 
 fn expect_window(
     rt: &impl Abort,
@@ -49,4 +55,63 @@ fn windows(rt: HostRuntime) {
         last,
         (4_293_918_718, last),
     );
+}
+
+fn is_ordered(keys: &[u64]) -> bool
+    ensures { IsTrue result → IsNonDecreasing keys.now }
+{
+    keys.is_sorted()
+}
+
+/// The predecessor in the whole list, where the first key is at most `q`.
+fn predecessor<L: Ledger>(keys: &[u64], q: u64, steps: &mut Steps<L>) -> Option<u32>
+    requires order { IsNonDecreasing keys.now }
+    requires few { length keys.now < 1000 }
+{
+    if keys.is_empty() || q < keys[0] {
+        return None;
+    }
+    Some(predecessor_in(keys, 0, keys.len() as u32, q, steps))
+}
+
+fn expect_found<L: Ledger>(
+    rt: &impl Abort,
+    keys: &[u64],
+    q: u64,
+    lower: u32,
+    place: Option<u32>,
+    blank: Blank,
+)
+    requires name { blank.name ≡ L.name }
+    requires parts { blank.parts ≡ L.parts }
+    requires one { blank.parts ≡ 1 }
+{
+    assert!(rt; is_ordered(keys));
+    assert!(rt; keys.len() < 1000);
+    let mut steps = Steps::<L>::new(blank);
+    assert_eq!(rt; lower_in(keys, 0, keys.len() as u32, q, &mut steps), lower);
+    assert_eq!(rt; predecessor(keys, q, &mut steps), place);
+}
+
+/// Keys, a question, its lower bound and its predecessor: no keys, equal keys, both ends of 64 bits.
+const ROWS: [(&[u64], u64, u32, Option<u32>); 12] = [
+    (&[], 5, 0, None),
+    (&[7], 6, 0, None),
+    (&[7], 7, 0, Some(0)),
+    (&[7], 8, 1, Some(0)),
+    (&[5, 5, 5, 9], 4, 0, None),
+    (&[5, 5, 5, 9], 5, 0, Some(2)),
+    (&[5, 5, 5, 9], 6, 3, Some(2)),
+    (&[5, 5, 5, 9], 10, 4, Some(3)),
+    (&[0, 1, 4, 9, 16, 25], 16, 4, Some(4)),
+    (&[0, 1, 4, 9, 16, 25], 17, 5, Some(4)),
+    (&[0, u64::MAX], u64::MAX, 1, Some(1)),
+    (&[0, u64::MAX], u64::MAX - 1, 1, Some(0)),
+];
+
+#[test]
+fn searches(rt: HostRuntime) {
+    for (keys, q, lower, place) in ROWS {
+        expect_found::<Brand>(&rt, keys, q, lower, place, Blank::new(1));
+    }
 }

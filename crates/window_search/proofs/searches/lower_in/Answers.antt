@@ -10,7 +10,7 @@ loop-count-preserved g c =
     let inv = c.loop-count.invariant in
     let keys = c.args.keys.now in
     let n = c.loop-count.count in
-    let middle = c.loop-count.base + n / 2 - 1 in
+    let middle = c.loop-count.bound + n / 2 - 1 in
     let read : c.read.result ≡ slice_index keys middle = rw c.new-counted.ensures at c.read.ensures.key in
     let halved : IsHalved c.args.steps.now c.read.new.steps (c.args.hi - c.args.lo + 1) (n - n / 2) =
     rw c.read.ensures.cost (halved_more _ _ _ n c.loop-count-test.true inv.halved) in
