@@ -1,5 +1,6 @@
 pub mod Risen
 pub mod Counts
+pub mod Telling
 pub mod Shelf
 pub mod Sink
 pub mod Files

@@ -15,6 +15,10 @@ pub record ReadsBytes (bytes : List ℕ) (room n : ℕ) (buf : List ℕ) (rest :
 abbrev pub ReadsNext : Option (List ℕ) → ℕ → ℕ → List ℕ → Option (List ℕ) → Type 0
 ReadsNext before room n buf rest = IfSome before (λ bytes. ReadsBytes bytes room n buf rest)
 
+-- of what was left at most this many bytes are gone, from the front, and the others are left
+abbrev pub TakesAtMost : ℕ → Option (List ℕ) → Option (List ℕ) → Type 0
+TakesAtMost most before after = IfSome before (λ bytes. (n : ℕ) × (n ≤ most) × (after ≡ Some (drop n bytes)))
+
 -- nothing is left to read
 abbrev pub HasNothingLeft : Option (List ℕ) → Type 0
 HasNothingLeft rest = IfSome rest (λ bytes. bytes ≡ [])

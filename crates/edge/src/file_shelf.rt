@@ -1,5 +1,7 @@
 // Real files.
 
+ghost use Rattle.std.specs.Prelude.{◌≡◌};
+
 use crate::failed::raise;
 use crate::{Failed, Shelf};
 use std::fs::File;
@@ -18,7 +20,9 @@ pub struct FileShelf<'a, R: Files> {
 
 impl<'a, R: Files> FileShelf<'a, R> {
     /// A shelf with no file taken and no fault counted.
-    pub fn new(rt: &'a R) -> Self {
+    pub fn new(rt: &'a R) -> Self
+        ensures { ⟦<FileShelf<'a, R> as Shelf>⟧.faults result ≡ 0 }
+    {
         FileShelf {
             rt,
             taken: None,

@@ -3,10 +3,13 @@ ghost use Rattle.std.specs.Prelude.{◌≡◌, ◌≤◌, ℕ, List, length, Opt
 ghost use Rattle.edge.specs.declared.failed.Failed.{Failed};
 ghost use Rattle.edge.specs.Counts.{HasCause};
 ghost use Rattle.edge.specs.Shelf.{TakesFile, ReadsNext, HasNothingLeft};
+ghost use Rattle.edge.specs.Telling.{TellsAsBefore};
 
 use crate::Failed;
 
 /// Files by name, of which one is taken and read.
+///
+/// A shelf that tells what its files hold, or what is left, goes on telling it, and one that doesn't goes on not to.
 pub trait Shelf {
     /// What is in each file, by its name, where the shelf tells it.
     ghost files: { Self → Option (List ℕ → Option (List ℕ)) };
@@ -32,6 +35,7 @@ pub trait Shelf {
         ensures taken { OnOk result (TakesFile (files self.old) name.now (rest self.new)) }
         ensures failed { OnErr result (HasNothingLeft (rest self.new)) }
         ensures files { files self.new ≡ files self.old }
+        ensures tells { TellsAsBefore (rest self.old) (rest self.new) }
         ensures call { takes self.old name.now result self.new }
         ensures cause { HasCause (faults self.old) (faults self.new) result };
 
@@ -46,6 +50,7 @@ pub trait Shelf {
         ensures next { IfOk result (λ n. ReadsNext (rest self.old) (length buf.old) n buf.new (rest self.new)) }
         ensures failed { OnErr result (HasNothingLeft (rest self.new)) }
         ensures files { files self.new ≡ files self.old }
+        ensures tells { TellsAsBefore (rest self.old) (rest self.new) }
         ensures call { reads self.old (length buf.old) result self.new }
         ensures cause { HasCause (faults self.old) (faults self.new) result };
 }

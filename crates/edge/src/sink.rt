@@ -3,10 +3,11 @@ ghost use Rattle.std.specs.Prelude.{◌≡◌, ◌<◌, ◌≤◌, ℕ, List, le
 ghost use Rattle.edge.specs.declared.failed.Failed.{Failed};
 ghost use Rattle.edge.specs.Counts.{HasCause};
 ghost use Rattle.edge.specs.Sink.{TakesPart};
+ghost use Rattle.edge.specs.Telling.{TellsAsBefore};
 
 use crate::Failed;
 
-/// Takes bytes, in pieces.
+/// Takes bytes, in pieces. A sink that tells what was written goes on telling it, and one that doesn't goes on not to.
 pub trait Sink {
     /// The bytes written so far, where the sink tells them.
     ghost written: { Self → Option (List ℕ) };
@@ -27,6 +28,7 @@ pub trait Sink {
         ensures some { IfOk result (λ n. 0 < length piece.now → 0 < n) }
         ensures taken { IfOk result (λ n. TakesPart (written self.old) piece.now n (written self.new)) }
         ensures failed { OnErr result (written self.new ≡ written self.old) }
+        ensures tells { TellsAsBefore (written self.old) (written self.new) }
         ensures call { puts self.old piece.now result self.new }
         ensures cause { HasCause (faults self.old) (faults self.new) result };
 }
