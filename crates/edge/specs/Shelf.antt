@@ -19,6 +19,10 @@ ReadsNext before room n buf rest = IfSome before (λ bytes. ReadsBytes bytes roo
 abbrev pub TakesAtMost : ℕ → Option (List ℕ) → Option (List ℕ) → Type 0
 TakesAtMost most before after = IfSome before (λ bytes. (n : ℕ) × (n ≤ most) × (after ≡ Some (drop n bytes)))
 
+-- all that was left is gone
+abbrev pub IsEmptied : Option (List ℕ) → Option (List ℕ) → Type 0
+IsEmptied before after = IfSome before (λ _. after ≡ Some [])
+
 -- nothing is left to read
 abbrev pub HasNothingLeft : Option (List ℕ) → Type 0
 HasNothingLeft rest = IfSome rest (λ bytes. bytes ≡ [])

@@ -1,9 +1,10 @@
 -- A chunk whose bytes are all there.
-use Rattle.std.proofs.Common.{◌≡◌, ℕ, ◌+◌, ◌*◌, ◌<◌, List, [], ◌++◌, length, sym, ap, ◌∙◌, subst, length-append, arith, Option, mul-le-mul_left, mul-suc, ⊎_elim}
+use Rattle.std.proofs.Common.{◌≡◌, ℕ, ◌+◌, ◌*◌, ◌^◌, ◌<◌, All, List, [], ◌++◌, length, sym, ap, ◌∙◌, subst, length-append, arith, Option, mul-le-mul_left, mul-suc, ⊎_elim}
 use Rattle.std.specs.List.{flat_map}
 use Rattle.std.proofs.lemmas.Bool.{cases_lt}
 use Rattle.std.proofs.lemmas.List.{append-nil, nil_from_length}
 use Rattle.std.proofs.lemmas.List.Concat.{flat_map-append}
+use Rattle.std.proofs.lemmas.List.Elements.{All-append}
 use Rattle.byteorder.specs.Endian.{little_bytes}
 use Rattle.sosd_reader.specs.Reading.{HasRead, GoesOn, ReadsNumbers}
 use Rattle.sosd_reader.proofs.Steps.{HasRead-append}
@@ -24,7 +25,7 @@ whole-chunk width m front piece keys before after goes read whole =
     let none : goes.over ≡ [] = nil_from_length goes.over (nothing-over width m (length goes.numbers) (length goes.over) (sym whole ∙ ap length goes.stand ∙ length-append F goes.over ∙ ap (λ (n : ℕ). n + length goes.over) (length-numbers width goes.numbers)) goes.whole) in
     let all : piece ≡ F = goes.stand ∙ ap (λ (w : List ℕ). F ++ w) none ∙ append-nil F in
     let P : List ℕ → Type 0 = λ w. HasRead before w after in
-    record { numbers = goes.numbers; added = goes.added; read = subst P all read }
+    record { numbers = goes.numbers; added = goes.added; each_fits = goes.each_fits; read = subst P all read }
 
 -- the keys that were read, and the numbers that were read after them
 pub reads-more : (width : ℕ) (front keys : List ℕ) (first before after : Option (List ℕ)) → HasRead first (flat_map (little_bytes width) front) before →
@@ -34,3 +35,8 @@ reads-more width front keys first before after so_far reads =
     let P : List ℕ → Type 0 = λ w. HasRead first w after in
     let e : F front ++ F reads.numbers ≡ F keys = sym (flat_map-append (little_bytes width) front reads.numbers) ∙ ap F (sym reads.added) in
     subst P e (HasRead-append first before after (F front) (F reads.numbers) so_far reads.read)
+
+pub fit-more : (width : ℕ) (front keys : List ℕ) (before after : Option (List ℕ)) → ReadsNumbers width before front keys after →
+    All (λ number. number < 256 ^ width) front → All (λ number. number < 256 ^ width) keys
+fit-more width front keys before after reads fits =
+    subst (λ (w : List ℕ). All (λ number. number < 256 ^ width) w) (sym reads.added) (All-append (λ number. number < 256 ^ width) front reads.numbers fits reads.each_fits)

@@ -1,4 +1,5 @@
 pub mod Numbers
+pub mod Widths
 pub mod Steps
 pub mod Filling
 pub mod Fronts
@@ -7,4 +8,6 @@ pub mod Unique
 pub mod Pushing
 pub mod Following
 pub mod Chunks
+pub mod Reach
+pub mod Exists
 pub mod Wherever

@@ -12,15 +12,25 @@ risen-from : (fault : KeyFault) (before after : ℕ) → fault ≡ ReadFault →
 risen-from fault before after is cause = let P : KeyFault → Type 0 = λ fault. HasCauseOf fault before after in (subst P is cause).1
 
 -- the bytes have one reading, so it is the answer
-pub reading-wherever : (width : ℕ) (told : Option (List ℕ)) (result : Result (Vec ℕ Global) KeyFault) (before after : ℕ) →
+reading-at : (width : ℕ) (told : Option (List ℕ)) (result : Result (Vec ℕ Global) KeyFault) (before after : ℕ) →
     IfOk result (λ keys. IfSome told (λ bytes. ReadsAs width bytes (Ok keys.items))) →
     IfErr result (HasFault (λ bytes fault. ReadsAs width bytes (Err fault)) told) → HasReadCause before after result →
     IfSome told (λ bytes. (reading : Result (List ℕ) KeyFault) → ReadsAs width bytes reading → (HasRisen before after → ⊥) →
     MatchResult result (λ keys. reading ≡ Ok keys.items) (λ fault. (fault ≡ NoMemory) ⊎ (reading ≡ Err fault)))
-reading-wherever width None result before after _ _ _ = tt
-reading-wherever width (Some x) (Ok read) before after keys _ _ = λ reading reads _. one-reading width x reading (Ok read.items) reads keys
-reading-wherever width (Some x) (Err fault) before after _ has cause = λ reading reads calm.
+reading-at width None result before after _ _ _ = tt
+reading-at width (Some x) (Ok read) before after keys _ _ = λ reading reads _. one-reading width x reading (Ok read.items) reads keys
+reading-at width (Some x) (Err fault) before after _ has cause = λ reading reads calm.
     ⊎_elim
     (λ read. absurd (calm (risen-from fault before after read cause)))
     (λ other. ⊎_elim (λ full. inl full) (λ told. inr (one-reading width x reading (Err fault) reads told)) other)
     has
+
+pub reading-wherever : (width width' : ℕ) (told : Option (List ℕ)) (result : Result (Vec ℕ Global) KeyFault) (before after : ℕ) → width ≡ width' →
+    IfOk result (λ keys. IfSome told (λ bytes. ReadsAs width bytes (Ok keys.items))) →
+    IfErr result (HasFault (λ bytes fault. ReadsAs width bytes (Err fault)) told) → HasReadCause before after result →
+    IfSome told (λ bytes. (reading : Result (List ℕ) KeyFault) → ReadsAs width' bytes reading → (HasRisen before after → ⊥) →
+    MatchResult result (λ keys. reading ≡ Ok keys.items) (λ fault. (fault ≡ NoMemory) ⊎ (reading ≡ Err fault)))
+reading-wherever width width' told result before after same keys has cause =
+    let P : ℕ → Type 0 = λ w. IfSome told (λ bytes. (reading : Result (List ℕ) KeyFault) → ReadsAs w bytes reading → (HasRisen before after → ⊥) →
+    MatchResult result (λ keys. reading ≡ Ok keys.items) (λ fault. (fault ≡ NoMemory) ⊎ (reading ≡ Err fault))) in
+    subst P same (reading-at width told result before after keys has cause)

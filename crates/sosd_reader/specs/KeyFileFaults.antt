@@ -1,5 +1,5 @@
 -- The one reading of any bytes as a key file: its keys, or the first fault in the order of the bytes.
-use Rattle.std.specs.Prelude.{◌≡◌, ◌⊎◌, ℕ, ◌<◌, ◌≤◌, ◌+◌, ◌-◌, ◌*◌, ◌^◌, List, length, drop, slice_index, Result, Ok, Err}
+use Rattle.std.specs.Prelude.{◌≡◌, ◌⊎◌, ℕ, ◌<◌, ◌≤◌, ◌+◌, ◌-◌, ◌*◌, ◌^◌, nat_lt, if◌then◌else◌, List, length, drop, slice_index, All, Result, Ok, Err}
 use Rattle.byteorder.specs.Endian.{little_number}
 use Rattle.sosd_reader.specs.declared.fault.KeyFault.{KeyFault}
 use Rattle.sosd_reader.specs.declared.fault.KeyFault.TheVariants.{ReadFault, TooMany, Short, Unsorted, Trailing, Wide, NoMemory}
@@ -64,3 +64,17 @@ ReadsAs width bytes (Err (Trailing byte)) = IsTrailing width bytes byte
 ReadsAs width bytes (Err ReadFault) = ⊥
 ReadsAs width bytes (Err (Wide at value)) = ⊥
 ReadsAs width bytes (Err NoMemory) = ⊥
+
+-- how many bytes are read at most: the count, and where it is one that a file may have, the keys and one byte
+abbrev pub reach : ℕ → List ℕ → ℕ
+reach width bytes = if nat_lt (count_in bytes) (2 ^ 32) then 8 + width * count_in bytes + 1 else 8
+
+-- bytes, which are numbers below 256, have exactly one reading
+pub record HasOneReading (width : ℕ) (bytes : List ℕ) : Type 0 where
+  pub reading : Result (List ℕ) KeyFault
+  pub is_one : ReadsAs width bytes reading
+  pub only : (other : Result (List ℕ) KeyFault) → ReadsAs width bytes other → other ≡ reading
+
+-- any bytes have
+abbrev pub ReadingsAreOne : ℕ → Type 0
+ReadingsAreOne width = (bytes : List ℕ) → All (λ byte. byte < 256) bytes → HasOneReading width bytes

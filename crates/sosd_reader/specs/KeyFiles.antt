@@ -1,8 +1,16 @@
 -- Key files (SOSD; Kipf et al., 2019).
-use Rattle.std.specs.Prelude.{◌≡◌, ℕ, ◌<◌, ◌^◌, List, ◌++◌, length, All}
+use Rattle.std.specs.Prelude.{◌≡◌, ◌⊎◌, ℕ, ◌<◌, ◌^◌, Bool, if◌then◌else◌, List, ◌++◌, length, All}
 use Rattle.std.specs.List.{flat_map}
 use Rattle.std.specs.List.Sorted.{IsNonDecreasing}
 use Rattle.byteorder.specs.Endian.{little_bytes}
+
+-- how many bytes a key has: 8 where keys are wide, else 4
+abbrev pub key_width : Bool → ℕ
+key_width wide = if wide then 8 else 4
+
+-- one of these widths
+abbrev pub IsWidth : ℕ → Type 0
+IsWidth width = (width ≡ 4) ⊎ (width ≡ 8)
 
 -- what a key file of keys of this width, in bytes, may hold: keys that never fall, fewer than 2^32
 pub record IsKeyList (width : ℕ) (keys : List ℕ) : Type 0 where

@@ -5,16 +5,13 @@ use Rattle.std.specs.List.Sorted.{IsNonDecreasing}
 use Rattle.std.specs.Option.{IsSomeAnd}
 use Rattle.byteorder.specs.Endian.{little_bytes}
 use Rattle.edge.specs.Risen.{HasRisen}
+use Rattle.edge.specs.Shelf.{TakesAtMost, IsEmptied}
 use Rattle.sosd_reader.specs.declared.fault.KeyFault.{KeyFault}
 use Rattle.sosd_reader.specs.declared.fault.KeyFault.TheVariants.{ReadFault, Short, Unsorted, Wide, NoMemory}
 
 -- this piece was what came next, and the bytes after it are left
 abbrev pub HasRead : Option (List ℕ) → List ℕ → Option (List ℕ) → Type 0
 HasRead before piece after = IfSome before (λ bytes. IsSomeAnd after (λ left. bytes ≡ piece ++ left))
-
--- what is left is the end of what was left
-abbrev pub IsEndOf : Option (List ℕ) → Option (List ℕ) → Type 0
-IsEndOf before after = IfSome before (λ bytes. IfSome after (λ left. (read : List ℕ) × (bytes ≡ read ++ left)))
 
 -- the front of the buffer holds the next n bytes, which are all that there were where n is less than its room
 pub record Fills (before : Option (List ℕ)) (n : ℕ) (buf : List ℕ) (after : Option (List ℕ)) : Type 0 where
@@ -63,6 +60,7 @@ HasFault says told fault = IfSome told (λ bytes. (fault ≡ ReadFault) ⊎ (fau
 pub record ReadsNumbers (width : ℕ) (before : Option (List ℕ)) (front keys : List ℕ) (after : Option (List ℕ)) : Type 0 where
   pub numbers : List ℕ
   pub added : keys ≡ front ++ numbers
+  pub each_fits : All (λ number. number < 256 ^ width) numbers
   pub read : HasRead before (flat_map (little_bytes width) numbers) after
 
 -- the count of faults rose where this is the answer, else it stayed; `Wide` is never the answer
@@ -74,3 +72,12 @@ HasCauseOf _ before after = after ≡ before
 -- the same of a call, which leaves the count where it succeeds
 abbrev pub HasReadCause : {T : Type 0} → ℕ → ℕ → Result T KeyFault → Type 0
 HasReadCause before after result = MatchResult result (λ _. after ≡ before) (λ fault. HasCauseOf fault before after)
+
+-- after `ReadFault` nothing is left, and after another fault at most this many bytes are gone
+abbrev pub LeavesBy : ℕ → Option (List ℕ) → Option (List ℕ) → KeyFault → Type 0
+LeavesBy most before after ReadFault = IsEmptied before after
+LeavesBy most before after _ = TakesAtMost most before after
+
+-- the same of a call, after which at most this many bytes are gone where it succeeds
+abbrev pub Leaves : {T : Type 0} → ℕ → Option (List ℕ) → Option (List ℕ) → Result T KeyFault → Type 0
+Leaves most before after result = MatchResult result (λ _. TakesAtMost most before after) (LeavesBy most before after)

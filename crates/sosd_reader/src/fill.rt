@@ -1,8 +1,9 @@
 // Reading from a shelf whose reads may give less than they were asked for.
-ghost use Rattle.std.specs.Prelude.{◌≡◌, ◌<◌, ◌≤◌, [], length, IfOk, IfSome};
+ghost use Rattle.std.specs.Prelude.{◌≡◌, ◌<◌, ◌≤◌, [], length, IfOk, OnErr, IfSome};
 ghost use Rattle.std.specs.Option.{option_to_list};
 ghost use Rattle.edge.specs.Counts.{HasCause};
-ghost use Rattle.sosd_reader.specs.Reading.{HasRead, IsEndOf, Fills};
+ghost use Rattle.edge.specs.Shelf.{IsEmptied};
+ghost use Rattle.sosd_reader.specs.Reading.{HasRead, Fills};
 
 use edge::{Failed, Shelf};
 
@@ -10,7 +11,7 @@ use edge::{Failed, Shelf};
 pub(crate) fn fill<F: Shelf>(shelf: &mut F, buf: &mut [u8]) -> Result<usize, Failed>
     ensures within { IfOk result (λ n. n ≤ length buf.old) }
     ensures next { IfOk result (λ n. Fills (F.rest shelf.old) n buf.new (F.rest shelf.new)) }
-    ensures left { IsEndOf (F.rest shelf.old) (F.rest shelf.new) }
+    ensures emptied { OnErr result (IsEmptied (F.rest shelf.old) (F.rest shelf.new)) }
     ensures files { F.files shelf.new ≡ F.files shelf.old }
     ensures cause { HasCause (F.faults shelf.old) (F.faults shelf.new) result }
 {
@@ -29,7 +30,7 @@ pub(crate) fn fill<F: Shelf>(shelf: &mut F, buf: &mut [u8]) -> Result<usize, Fai
 pub(crate) fn next_byte<F: Shelf>(shelf: &mut F) -> Result<Option<u8>, Failed>
     ensures next { IfOk result (λ byte. HasRead (F.rest shelf.old) (option_to_list byte) (F.rest shelf.new)) }
     ensures ended { IfOk result (λ byte. byte ≡ None → IfSome (F.rest shelf.old) (λ bytes. bytes ≡ [])) }
-    ensures left { IsEndOf (F.rest shelf.old) (F.rest shelf.new) }
+    ensures emptied { OnErr result (IsEmptied (F.rest shelf.old) (F.rest shelf.new)) }
     ensures files { F.files shelf.new ≡ F.files shelf.old }
     ensures cause { HasCause (F.faults shelf.old) (F.faults shelf.new) result }
 {

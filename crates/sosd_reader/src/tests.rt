@@ -138,6 +138,40 @@ fn cut_files(rt: HostRuntime) -> Result<(), Fail> {
     Ok(())
 }
 
+// Files of 32-bit keys, and what they are.
+#[test]
+fn narrow_files(rt: HostRuntime) -> Result<(), Fail> {
+    let keys: &[u8] = b"\x02\0\0\0\0\0\0\0\x05\0\0\0\x09\0\0\0";
+    let mut shelf = shelf_of(&rt, keys, &[], 1000)?;
+    let read = read_keys(rt.alloc(), &mut shelf, false)?;
+    assert_eq!(rt; read.as_slice(), [5, 9].as_slice());
+
+    let faulty: [(&[u8], KeyFault); 3] = [
+        (
+            b"\x02\0\0\0\0\0\0\0\0\0\0\0\0\0",
+            KeyFault::Short { got: 14 },
+        ),
+        (
+            b"\x02\0\0\0\0\0\0\0\x09\0\0\x01\x0a\0\0\0",
+            KeyFault::Unsorted {
+                at: 1,
+                before: 16_777_225,
+                key: 10,
+            },
+        ),
+        (
+            b"\x01\0\0\0\0\0\0\0\x05\0\0\0\x07",
+            KeyFault::Trailing { byte: 7 },
+        ),
+    ];
+    for (bytes, fault) in faulty {
+        let mut shelf = shelf_of(&rt, bytes, &[], 3)?;
+        let read = read_keys(rt.alloc(), &mut shelf, false);
+        assert_eq!(rt; read.err(), Some(fault));
+    }
+    Ok(())
+}
+
 #[test]
 fn messages(rt: HostRuntime) -> Result<(), Fail> {
     let fault = KeyFault::Unsorted {

@@ -1,6 +1,7 @@
 use Rattle.std.proofs.Common.{◌∙◌, arith}
 use Rattle.std.proofs.lemmas.List.{length-take, length-drop, places}
-use Rattle.sosd_reader.proofs.Steps.{IsEndOf-nothing}
+use Rattle.sosd_reader.proofs.Steps.{emptied, emptied-after}
+use Rattle.sosd_reader.proofs.Reach.{on-error}
 use Rattle.sosd_reader.proofs.Filling.{fill-more, fill-ends}
 use Rattle.sosd_reader.proofs.fill.fill.Goals as goal
 
@@ -20,5 +21,5 @@ loop-filled-preserved g c =
       faults = read.cause.ok ∙ before.faults;
     }
 
-pub returns-in_err-n-clause-left : goal.returns-in_err-n-clause-left
-returns-in_err-n-clause-left g c = IsEndOf-nothing _ _ c.in_err-n.ensures.failed
+pub returns-in_err-n-clause-emptied : goal.returns-in_err-n-clause-emptied
+returns-in_err-n-clause-emptied g c = on-error _ _ (emptied-after _ _ _ _ c.loop-filled.invariant.read (emptied _ _ c.in_err-n.ensures.failed c.in_err-n.ensures.tells))

@@ -4,7 +4,7 @@ use Rattle.sosd_reader.proofs.keys.push_keys.Given as goal
 
 abbrev pub invariant-loop-i : goal.invariant-loop-i
 invariant-loop-i l = record {
-  under_way : IsUnderWay 8 l.initial.keys.items l.bytes l.i l.keys.items l.before;
+  under_way : IsUnderWay l.width l.initial.keys.items l.bytes l.i l.keys.items l.before;
   len : vec_len l.keys ≡ vec_len l.initial.keys + l.i;
-  room : vec_len l.initial.keys + length l.bytes / 8 ≤ vec_capacity l.keys;
+  room : vec_len l.initial.keys + length l.bytes / l.width ≤ vec_capacity l.keys;
 }

@@ -7,11 +7,11 @@ use Rattle.sosd_reader.proofs.keys.read_list.Given as goal
 
 abbrev pub invariant-loop-keys : goal.invariant-loop-keys
 invariant-loop-keys g l = record {
-  read : HasRead (g.F.Shelf.rest l.initial.shelf) (flat_map (little_bytes 8) l.keys.items) (g.F.Shelf.rest l.shelf);
+  read : HasRead (g.F.Shelf.rest l.initial.shelf) (flat_map (little_bytes l.width) l.keys.items) (g.F.Shelf.rest l.shelf);
   never_falls : IsNonDecreasing l.keys.items;
-  each_fits : All (λ key. key < 256 ^ 8) l.keys.items;
+  each_fits : All (λ key. key < 256 ^ l.width) l.keys.items;
   in_range : vec_len l.keys ≤ l.count-2;
-  room : vec_len l.bytes ≡ 8 * min l.count-2 65536;
+  room : vec_len l.bytes ≡ l.width * min l.count-2 65536;
   files : g.F.Shelf.files l.shelf ≡ g.F.Shelf.files l.initial.shelf;
   faults : g.F.Shelf.faults l.shelf ≡ g.F.Shelf.faults l.initial.shelf;
 }
