@@ -1,6 +1,6 @@
 // The line of a segment.
-ghost use Rattle.std.specs.List.Sorted.{IsStrictlyIncreasing};
-ghost use Rattle.std.specs.Prelude.{◌<◌, ◌≤◌, ◌^◌, ◌↔◌, length, IsTrue};
+ghost use Rattle.std.specs.List.Sorted.{IsStrictlyIncreasing, IsNonDecreasing};
+ghost use Rattle.std.specs.Prelude.{◌≡◌, ◌<◌, ◌≤◌, ◌^◌, ◌↔◌, length, IsTrue};
 
 /// How far below rank 0 a line can start: the greatest error bound, [`MAX_EPSILON`](crate::MAX_EPSILON).
 const DEPTH: i64 = 1_048_576;
@@ -19,7 +19,7 @@ pub struct Line {
 }
 
 impl Line {
-    ghost use Rattle.exact_cross.specs.Points.{points_of_keys};
+    ghost use Rattle.exact_cross.specs.Points.{points_of};
     ghost use Rattle.exact_cross.specs.Lines.{IsWithin, FitsRun, rational};
     ghost use Rattle.exact_cross.specs.Checked.{IsInRange};
 
@@ -34,19 +34,22 @@ impl Line {
 
     /// Whether the line is within `ε` at every place of `s..e`, exactly. An empty run has no such place.
     ///
-    /// `eps` is the error bound `ε`, in ranks: the line passes a place where it is at most `ε` ranks off the place's rank
-    /// at its key. It is compared times the line's run, in 128 bits, so nothing is rounded.
-    pub fn fits(&self, keys: &[u64], s: u32, e: u32, eps: u32) -> bool
+    /// The place `j` is the point `(xs[j], ys[j])`. `eps` is the error bound `ε`, in ranks: the line passes a place where
+    /// it is at most `ε` above or below the place's `y` at its `x`. It is compared times the line's run, in 128 bits, so
+    /// nothing is rounded.
+    pub fn fits(&self, xs: &[u64], ys: &[u32], s: u32, e: u32, eps: u32) -> bool
         requires in_range { IsInRange self.now }
-        requires ascending { IsStrictlyIncreasing keys.now }
-        requires few { length keys.now < 2 ^ 32 }
+        requires same_length { length ys.now ≡ length xs.now }
+        requires rising { IsStrictlyIncreasing xs.now }
+        requires never_falls { IsNonDecreasing ys.now }
+        requires few { length xs.now < 2 ^ 32 }
         requires bounded { eps ≤ 1048576 }
         requires range { s ≤ e }
-        requires within { e ≤ length keys.now }
-        ensures exact { IsTrue result ↔ ((positive : 0 < self.now.run) × FitsRun (points_of_keys keys.now) eps (rational self.now positive) s e) }
+        requires within { e ≤ length xs.now }
+        ensures exact { IsTrue result ↔ ((positive : 0 < self.now.run) × FitsRun (points_of xs.now ys.now) eps (rational self.now positive) s e) }
     {
         for place in s..e {
-            if !self.passes(keys, place, eps) {
+            if !self.passes(xs, ys, place, eps) {
                 return false;
             }
         }
@@ -54,18 +57,20 @@ impl Line {
     }
 
     /// Whether the line is within `ε` at one place.
-    fn passes(&self, keys: &[u64], place: u32, eps: u32) -> bool
+    fn passes(&self, xs: &[u64], ys: &[u32], place: u32, eps: u32) -> bool
         requires in_range { IsInRange self.now }
+        requires same_length { length ys.now ≡ length xs.now }
         requires bounded { eps ≤ 1048576 }
-        requires within { place < length keys.now }
-        ensures exact { IsTrue result ↔ ((positive : 0 < self.now.run) × IsWithin (points_of_keys keys.now) eps (rational self.now positive) place) }
+        requires within { place < length xs.now }
+        ensures exact { IsTrue result ↔ ((positive : 0 < self.now.run) × IsWithin (points_of xs.now ys.now) eps (rational self.now positive) place) }
     {
         let rise = u128::from(self.rise);
         let run = u128::from(self.run);
-        let key = u128::from(keys[place as usize]);
-        // The heights of line and point at the key, times the run. Both are raised alike, so that none is below 0.
-        let line = rise * key + (self.y0 + DEPTH) as u128 * run;
-        let point = rise * u128::from(self.x0) + (u128::from(place) + DEPTH as u128) * run;
+        let x = u128::from(xs[place as usize]);
+        let y = u128::from(ys[place as usize]);
+        // The heights of line and point at the x, times the run. Both are raised alike, so that none is below 0.
+        let line = rise * x + (self.y0 + DEPTH) as u128 * run;
+        let point = rise * u128::from(self.x0) + (y + DEPTH as u128) * run;
         let slack = u128::from(eps) * run;
         line <= point + slack && point <= line + slack
     }
@@ -73,14 +78,27 @@ impl Line {
 
 #[cfg(test)]
 mod tests {
+    ghost use Rattle.std.specs.Prelude.{ℕ, ◌+◌, slice_index};
+
     use super::*;
     use std::process::Abort;
 
-    fn is_ascending(keys: &[u64]) -> bool
-        ensures { IsTrue result → IsStrictlyIncreasing keys.now }
+    fn rises(xs: &[u64]) -> bool
+        ensures { IsTrue result → IsStrictlyIncreasing xs.now }
     {
-        for i in 1..keys.len() {
-            if keys[i - 1] >= keys[i] {
+        for i in 1..xs.len() {
+            if xs[i - 1] >= xs[i] {
+                return false;
+            }
+        }
+        true
+    }
+
+    fn never_falls(ys: &[u32]) -> bool
+        ensures { IsTrue result → (k : ℕ) → k + 1 < length ys.now → slice_index ys.now k ≤ slice_index ys.now (k + 1) }
+    {
+        for i in 1..ys.len() {
+            if ys[i - 1] > ys[i] {
                 return false;
             }
         }
@@ -94,17 +112,18 @@ mod tests {
     fn expect_fits<R: Abort>(
         rt: &R,
         line: Line,
-        keys: &[u64],
-        s: u32,
-        e: u32,
+        points: (&[u64], &[u32]),
+        range: (u32, u32),
         eps: u32,
         want: bool,
     ) {
-        assert!(rt; is_ascending(keys));
-        assert!(rt; eps <= 1_048_576 && keys.len() < 1000);
-        assert!(rt; s <= e && e as usize <= keys.len());
+        let (xs, ys) = points;
+        let (s, e) = range;
+        assert!(rt; rises(xs) && never_falls(ys));
+        assert!(rt; xs.len() == ys.len() && xs.len() < 1000);
+        assert!(rt; eps <= 1_048_576 && s <= e && e as usize <= xs.len());
         assert!(rt; line.in_range());
-        assert_eq!(rt; line.fits(keys, s, e, eps), want);
+        assert_eq!(rt; line.fits(xs, ys, s, e, eps), want);
     }
 
     // The ends of each range.
@@ -118,20 +137,26 @@ mod tests {
         assert!(rt; !line(0, 0, 4_297_064_448, 1).in_range());
     }
 
-    // The line's ranks at the four keys are -1, 2, 2.3 and 2.6.
+    // The line's heights at the four x are -1, 2, 2.3 and 2.6.
     #[test]
     fn serves(rt: HostRuntime) {
-        let jump = [0, 10, 11, 12];
+        let jump: (&[u64], &[u32]) = (&[0, 10, 11, 12], &[0, 1, 2, 3]);
         let steep = line(0, -1, 3, 10);
-        expect_fits(&rt, steep, &jump, 0, 4, 1, true);
-        expect_fits(&rt, steep, &jump, 0, 4, 0, false);
-        expect_fits(&rt, steep, &jump, 1, 2, 0, false);
-        expect_fits(&rt, steep, &jump, 2, 2, 0, true);
-        expect_fits(&rt, line(10, 1, 1, 1), &jump, 1, 4, 0, true);
-        expect_fits(&rt, line(10, 1, 1, 1), &jump, 0, 4, 0, false);
+        expect_fits(&rt, steep, jump, (0, 4), 1, true);
+        expect_fits(&rt, steep, jump, (0, 4), 0, false);
+        expect_fits(&rt, steep, jump, (1, 2), 0, false);
+        expect_fits(&rt, steep, jump, (2, 2), 0, true);
+        expect_fits(&rt, line(10, 1, 1, 1), jump, (1, 4), 0, true);
+        expect_fits(&rt, line(10, 1, 1, 1), jump, (0, 4), 0, false);
+        // Equal heights, and one far above them.
+        let stairs: (&[u64], &[u32]) = (&[0, 1, 2, 3], &[5, 5, 5, 90]);
+        expect_fits(&rt, line(7, 5, 0, 1), stairs, (0, 3), 0, true);
+        expect_fits(&rt, line(7, 5, 0, 1), stairs, (0, 4), 84, false);
+        expect_fits(&rt, line(7, 5, 0, 1), stairs, (0, 4), 85, true);
         // Exactly the bound off at both ends of the keys.
         let widest = line(0, -1_048_576, 2_097_153, u64::MAX);
-        expect_fits(&rt, widest, &[0, u64::MAX], 0, 2, 1_048_576, true);
-        expect_fits(&rt, widest, &[0, u64::MAX], 0, 2, 1_048_575, false);
+        let ends: (&[u64], &[u32]) = (&[0, u64::MAX], &[0, 1]);
+        expect_fits(&rt, widest, ends, (0, 2), 1_048_576, true);
+        expect_fits(&rt, widest, ends, (0, 2), 1_048_575, false);
     }
 }
