@@ -1,0 +1,126 @@
+// The steep pair of a run, and the hull on which the next pair's lower place is found.
+ghost use Rattle.std.specs.Prelude.{◌≡◌, ℕ, ◌+◌, ◌*◌, ◌-◌, ◌^◌, ◌<◌, ◌≤◌, IfOk, length, [], vec_len, vec_capacity};
+ghost use Rattle.std.specs.Bool.{OnTrue, OnFalse};
+ghost use Rattle.exact_cross.specs.Points.{Points};
+ghost use Rattle.exact_cross.specs.Slopes.{IsAtMost};
+ghost use Rattle.hulls.specs.Slopes.{steepest};
+ghost use Rattle.hulls.specs.Vertices.{vertex_at, lifted_slope, AreLeftOf};
+ghost use Rattle.hulls.specs.Hull.{IsHullOf, IsHullUpTo, IsUnderLine, IsNextVertex, IsVertexOf, lower_of, spare_of};
+
+use crate::search::{kept_before, tangent_to};
+use crate::slope::CountedSlope;
+use crate::vertex::Vertex;
+use budget::{NoMemory, Steps};
+use exact_cross::Slope;
+use std::alloc::Global;
+use std::sync::ledger::Ledger;
+
+/// The steep pair of a run of points, and the upper hull of the points from the pair's lower place on.
+///
+/// For the flat pair the points are turned upside down, so that both are found by the same code.
+#[derive(Drop)]
+pub struct Hull {
+    /// The vertices from left to right; those before `tangent` are done with.
+    vertices: Vec<Vertex>,
+    /// Where the pair's lower place stands among the vertices.
+    tangent: usize,
+    /// The pair's upper place.
+    upper: u32,
+    /// The slope of the pair.
+    slope: CountedSlope,
+}
+
+impl Hull {
+    /// No run yet, and room for `room` points. Nothing takes memory afterwards.
+    pub fn new(alloc: Global, room: u32) -> Result<Hull, NoMemory>
+        ensures empty { IfOk result (λ hull. hull.vertices.items ≡ []) }
+        ensures tangent { IfOk result (λ hull. hull.tangent ≡ 0) }
+        ensures capacity { IfOk result (λ hull. vec_capacity hull.vertices ≡ room) }
+    {
+        let vertices = Vec::with_capacity(alloc, room as usize)?;
+        Ok(Hull {
+            vertices,
+            tangent: 0,
+            upper: 0,
+            slope: CountedSlope::steepest(),
+        })
+    }
+
+    /// Begins a run with its first point.
+    pub fn start(&mut self, first: Vertex)
+        requires { 1 ≤ vec_capacity self.old.vertices }
+        ensures hull { (q : Points) (eps : ℕ) → IsVertexOf q first → IsHullOf q eps first.place (first.place + 1) self.new }
+        ensures spare { spare_of self.new ≡ 0 }
+        ensures capacity { vec_capacity self.old.vertices ≤ vec_capacity self.new.vertices }
+    {
+        self.vertices.clear();
+        let _ = self.vertices.push(first);
+        self.tangent = 0;
+        self.upper = first.place;
+        self.slope = CountedSlope::steepest();
+    }
+
+    /// Whether the next point lies above the line of the pair.
+    pub fn is_over<L: Ledger>(&self, next: Vertex, steps: &mut Steps<L>) -> bool
+        requires { (q : Points) × (eps : ℕ) × (s : ℕ) × (e : ℕ) × IsHullOf q eps s e self.now × IsNextVertex q e next }
+        ensures over { OnTrue result ((q : Points) (eps s e : ℕ) → IsHullOf q eps s e self.now → IsNextVertex q e next
+            → IsUnderLine q (lower_of self.now) self.now.slope.slope e → ⊥) }
+        ensures not_over { OnFalse result ((q : Points) (eps s e : ℕ) → IsHullOf q eps s e self.now → IsNextVertex q e next
+            → IsUnderLine q (lower_of self.now) self.now.slope.slope e) }
+        ensures step { steps.new ≡ steps.old + 1 }
+    {
+        let low = self.vertices[self.tangent];
+        // It is not over where the slope to it is at most the pair's.
+        self.slope
+            .is_below(&CountedSlope::between(low, next, 0), steps)
+    }
+
+    /// Takes in the next point, which isn't over the pair's line.
+    ///
+    /// `lift` is twice the error bound.
+    pub fn extend<L: Ledger>(&mut self, next: Vertex, lift: u32, steps: &mut Steps<L>)
+        requires next { (q : Points) × (eps : ℕ) × (s : ℕ) × (e : ℕ) × IsHullOf q eps s e self.old × IsNextVertex q e next
+            × (lift ≡ 2 * eps) × (eps ≤ 1048576) × IsUnderLine q (lower_of self.old) self.old.slope.slope e }
+        requires room { length self.old.vertices.items < vec_capacity self.old.vertices }
+        ensures hull { (q : Points) (eps s e : ℕ) → IsHullOf q eps s e self.old → IsNextVertex q e next → lift ≡ 2 * eps → eps ≤ 1048576
+            → IsUnderLine q (lower_of self.old) self.old.slope.slope e → IsHullOf q eps s (e + 1) self.new }
+        ensures cost { steps.new + spare_of self.new ≤ steps.old + spare_of self.old + 4 }
+        ensures capacity { vec_capacity self.old.vertices ≤ vec_capacity self.new.vertices }
+    {
+        self.turn_to(next, lift, steps);
+        self.cover(next, steps);
+    }
+
+    /// Finds the pair of the run with the next point.
+    fn turn_to<L: Ledger>(&mut self, next: Vertex, lift: u32, steps: &mut Steps<L>)
+        requires { (q : Points) × (eps : ℕ) × (s : ℕ) × (e : ℕ) × IsHullOf q eps s e self.old × IsNextVertex q e next × (lift ≡ 2 * eps) × (eps ≤ 1048576) }
+        ensures pair { (q : Points) (eps s e : ℕ) → IsHullOf q eps s e self.old → IsNextVertex q e next → lift ≡ 2 * eps → eps ≤ 1048576
+            → IsUnderLine q (lower_of self.old) self.old.slope.slope e → IsHullUpTo q eps s e (e + 1) self.new }
+        ensures vertices { self.new.vertices ≡ self.old.vertices }
+        ensures onward { self.old.tangent ≤ self.new.tangent }
+        ensures inside { self.new.tangent < length self.new.vertices.items }
+        ensures cost { steps.new + self.old.tangent ≤ steps.old + self.new.tangent + 2 }
+    {
+        let low = self.vertices[self.tangent];
+        if CountedSlope::between(low, next, lift).is_below(&self.slope, steps) {
+            let found = tangent_to(&self.vertices, self.tangent, next, lift, steps);
+            self.tangent = found.vertex;
+            self.slope = found.slope;
+            self.upper = next.place;
+        }
+    }
+
+    /// Puts the next point on the hull, and takes off what it covers.
+    fn cover<L: Ledger>(&mut self, next: Vertex, steps: &mut Steps<L>)
+        requires next { (q : Points) × (eps : ℕ) × (s : ℕ) × (e : ℕ) × IsHullUpTo q eps s e (e + 1) self.old × IsNextVertex q e next }
+        requires room { length self.old.vertices.items < vec_capacity self.old.vertices }
+        ensures hull { (q : Points) (eps s e : ℕ) → IsHullUpTo q eps s e (e + 1) self.old → IsNextVertex q e next → IsHullOf q eps s (e + 1) self.new }
+        ensures tangent { self.new.tangent ≡ self.old.tangent }
+        ensures cost { steps.new + length self.new.vertices.items ≤ steps.old + length self.old.vertices.items + 2 }
+        ensures capacity { vec_capacity self.old.vertices ≤ vec_capacity self.new.vertices }
+    {
+        let kept = kept_before(&self.vertices, self.tangent, next, steps);
+        self.vertices.truncate(kept);
+        let _ = self.vertices.push(next);
+    }
+}

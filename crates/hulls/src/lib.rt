@@ -1,0 +1,6 @@
+#![tactic(auto)]
+
+mod hull;
+mod search;
+mod slope;
+mod vertex;
