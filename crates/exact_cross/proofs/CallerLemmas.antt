@@ -9,7 +9,7 @@ pub use Rattle.exact_cross.proofs.RunLemmas.{SomeLineFits-part, run_end-push, Cu
 pub use Rattle.exact_cross.proofs.PairLemmas.{IsPair-rises, some_line-from_extremes, extremes-from_some_line, IsSteepPair-unique, IsFlatPair-unique}
 pub use Rattle.exact_cross.proofs.GreedyLemmas.{CutsInto-rises, IsGreedy-least, IsGreedy-unique}
 pub use Rattle.exact_cross.proofs.LeastCover.{IsCover-from_greedy, IsLeastCover-from_greedy}
-pub use Rattle.exact_cross.proofs.SideLemmas.{IsFollowed, IsOver-in, IsOver-out, IsUnder-in, IsUnder-out, IsOver-no_line, IsUnder-no_line, sides_exclude, side-of_refused}
+pub use Rattle.exact_cross.proofs.SideLemmas.{IsFollowed, IsOver-in, IsOver-out, IsUnder-in, IsUnder-out, IsOver-no_line, IsUnder-no_line, sides_exclude, some_line-longer, some_line-two_places, side-of_refused}
 pub use Rattle.exact_cross.proofs.CheckedLemmas.{EachRun-implies, StartsRise-from_cuts, IsWitness-from_cut, IsCutShort-from_cut, IsInRange-from_steep, AreChecked-from_greedy}
 pub use Rattle.exact_cross.proofs.WitnessLines.{IsOver-sums, IsOver-from_sums, IsUnder-sums, IsUnder-from_sums, no_line_at_witness}
 pub use Rattle.exact_cross.proofs.Certificate.{run_end-within, StartsRise-from_first, run_end-from_checked, IsCover-from_served, at_most-from_cuts, IsLeastCover-from_checked}

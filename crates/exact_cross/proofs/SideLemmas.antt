@@ -14,7 +14,7 @@ use Rattle.exact_cross.proofs.Cleared.{difference_times, products_le-out, produc
 use Rattle.exact_cross.proofs.SteepLine.{IsWide, IsWide-from_pair, rising_line, rising_line_fits}
 use Rattle.exact_cross.proofs.LineSlopes.{flat_at_most_steep}
 use Rattle.exact_cross.proofs.SlopeOrder.{IsAtMost-refl, IsAtMost-trans, IsAtMost-total}
-use Rattle.exact_cross.proofs.PairOrder.{flat_at_most_own_steep, IsAtMost-decided, IsSteepPair-longer}
+use Rattle.exact_cross.proofs.PairOrder.{one_pair_steep, flat_at_most_own_steep, IsAtMost-decided, IsSteepPair-longer}
 use Rattle.exact_cross.proofs.StoredLine.{some_line-from_pairs}
 
 -- the gaps of three places
@@ -243,6 +243,22 @@ flat_at_most_steep-longer p eps s e a b c d run over under i j k l first second 
               (IsAtMost-refl (flat_slope p eps i e))
         ]
 
+-- some line serves the run with such a place
+pub some_line-longer : (p : Points) (eps s e a b c d i j : ℕ) → IsFollowed p eps s e a b c d →
+    IsAtMost (flat_slope p eps b e) (steep_slope p eps a b) → IsAtMost (flat_slope p eps c d) (steep_slope p eps d e) →
+    IsSteepPair p eps s (e + 1) i j → SomeLineFits p eps s (e + 1)
+some_line-longer p eps s e a b c d i j run not_over not_under longer =
+    some_line-from_pairs p eps s (e + 1) i j run.ascends (omega (arith, run.inside)) longer
+    (λ k l pair. flat_at_most_steep-longer p eps s e a b c d run not_over not_under k l i j pair longer.pair)
+
+-- some line serves any two places
+pub some_line-two_places : (p : Points) (eps s : ℕ) → IsAscending p → s + 2 ≤ p.count → SomeLineFits p eps s (s + 2)
+some_line-two_places p eps s ascends inside =
+    some_line-from_pairs p eps s (s + 2) s (s + 1) ascends inside (one_pair_steep p eps s) (λ c d pair.
+    let low : c ≡ s = omega (arith, pair.from_start, pair.rises, pair.to_end) in
+    let high : d ≡ s + 1 = omega (arith, pair.from_start, pair.rises, pair.to_end) in
+    rw (low, high) (flat_at_most_own_steep p eps s (s + 1)))
+
 -- a place over a pair of the run, or under one, ends it
 pub IsOver-no_line : (p : Points) (eps s e a b : ℕ) → IsAscending p → e < p.count → IsPair s e a b → IsOver p eps a b e → SomeLineFits p eps s (e + 1) → ⊥
 IsOver-no_line p eps s e a b ascends inside pair over fits =
@@ -298,7 +314,6 @@ side-of_refused p eps s e a b c d run refused =
         | inr under ↦ inr (IsUnder-in p eps c d e run.ascends flat.rises flat.to_end run.inside under)
         | inl not_under ↦
             let longer = IsSteepPair-longer p eps s e a b run.ascends run.inside run.steep in
-            absurd (refused (some_line-from_pairs p eps s (e + 1) longer.0 longer.1 run.ascends (omega (arith, run.inside)) longer.2
-            (λ i j pair. flat_at_most_steep-longer p eps s e a b c d run not_over not_under i j longer.0 longer.1 pair longer.2.pair)))
+            absurd (refused (some_line-longer p eps s e a b c d longer.0 longer.1 run not_over not_under longer.2))
       ]
     ]

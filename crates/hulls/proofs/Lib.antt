@@ -4,3 +4,6 @@ pub mod Tangents
 pub mod PairSteps
 pub mod Growth
 pub mod HullSteps
+pub mod Mirrored
+pub mod NewPoint
+pub mod PairLine

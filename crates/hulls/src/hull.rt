@@ -11,7 +11,7 @@ use crate::search::{kept_before, tangent_to};
 use crate::slope::CountedSlope;
 use crate::vertex::Vertex;
 use budget::{NoMemory, Steps};
-use exact_cross::Slope;
+use exact_cross::{Side, Slope, Witness};
 use std::alloc::Global;
 use std::sync::ledger::Ledger;
 
@@ -58,6 +58,49 @@ impl Hull {
         self.tangent = 0;
         self.upper = first.place;
         self.slope = CountedSlope::steepest();
+    }
+
+    /// The place after the last point's.
+    pub fn next_place(&self) -> u32
+        requires { (q : Points) × (eps : ℕ) × (s : ℕ) × (e : ℕ) × IsHullOf q eps s e self.now × (e < 2 ^ 32) }
+        ensures { (q : Points) (eps s e : ℕ) → IsHullOf q eps s e self.now → result ≡ e }
+    {
+        self.vertices[self.vertices.len() - 1].place + 1
+    }
+
+    /// The point at the pair's lower place.
+    pub fn lower(&self) -> Vertex
+        requires { self.now.tangent < length self.now.vertices.items }
+        ensures { result ≡ vertex_at self.now.vertices.items self.now.tangent }
+    {
+        self.vertices[self.tangent]
+    }
+
+    /// The pair's upper place.
+    pub fn upper(&self) -> u32
+        ensures { result ≡ self.now.upper }
+    {
+        self.upper
+    }
+
+    /// The pair's slope.
+    pub fn slope(&self) -> Slope
+        ensures { result ≡ self.now.slope.slope }
+    {
+        self.slope.slope()
+    }
+
+    /// The pair with the place before which the run ends.
+    pub fn cut_before(&self, place: u32, side: Side) -> Witness
+        requires { self.now.tangent < length self.now.vertices.items }
+        ensures { result ≡ record { p = lower_of self.now; q = self.now.upper; r = place; side = side } }
+    {
+        Witness {
+            p: self.lower().place,
+            q: self.upper,
+            r: place,
+            side,
+        }
     }
 
     /// Whether the next point lies above the line of the pair.
