@@ -1,3 +1,2 @@
-pub mod ScanSteps
-pub mod Fitting
-pub mod CutLemmas
+pub mod Runs
+pub mod Unique

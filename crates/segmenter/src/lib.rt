@@ -1,118 +1,157 @@
-//! The greedy segmentation of a sorted key list: as few segments as lines can do.
+//! The greedy segmentation of points: as few segments as lines can do.
 //!
-//! The list is cut from the left, and each run is as long as some line is within the error bound `ε` at all its places.
-//! Of the keys 0, 1, 2, 10 with `ε = 0` the runs are `0..3`, on the line through 0 and 1, and `3..4`. Each run but the
-//! last keeps why it ends: no line serves the places 0, 1 and 3, since the key 10 lies under the line through 0 and 1.
+//! The points are cut from the left, and each run is as long as some line is within the error bound `ε` at all its places.
+//! Of the keys 0, 1, 2, 10, each at the height of its rank, with `ε = 0` the runs are `0..3`, on the line through 0 and 1,
+//! and `3..4`. Each run but the last keeps why it ends: no line serves the places 0, 1 and 3, since the key 10 lies under
+//! the line through 0 and 1.
 //!
-//! Main clauses: `greedy`, `cuts` and `least` of [`segment`]. The words of the clauses are those of `exact_cross`.
+//! Main clauses: `greedy`, `cuts` and `least` of [`segment`], and `cost` of [`segment_counted`]: at most 12 steps a point.
+//! The words of the clauses are those of `exact_cross`.
 #![tactic(auto)]
 
-ghost use Rattle.std.specs.List.Sorted.{IsStrictlyIncreasing};
-ghost use Rattle.std.specs.Prelude.{◌≡◌, ◌<◌, ◌≤◌, ◌^◌, length, IfOk};
-ghost use Rattle.exact_cross.specs.Points.{points_of_keys};
+ghost use Rattle.std.specs.List.Sorted.{IsStrictlyIncreasing, IsNonDecreasing};
+ghost use Rattle.std.specs.Prelude.{◌≡◌, ℕ, ◌+◌, ◌-◌, ◌*◌, ◌<◌, ◌≤◌, ◌^◌, List, length, IfOk};
+ghost use Rattle.exact_cross.specs.declared.segment.Segment.{Segment};
+ghost use Rattle.exact_cross.specs.Points.{Points, IsAscending, points_of};
 ghost use Rattle.exact_cross.specs.Covers.{IsGreedy};
-ghost use Rattle.exact_cross.specs.Steep.{IsSteepOf, line_of_pair};
 ghost use Rattle.exact_cross.specs.Segments.{starts_of, EachRun, IsSteepSegment, IsServed};
 ghost use Rattle.exact_cross.specs.Cuts.{HasItsCut};
 ghost use Rattle.exact_cross.specs.Checked.{IsLeastCover, AreChecked};
+ghost use Rattle.segmenter.specs.Segmentation.{IsSegmentation};
 
-mod cut;
-mod pairs;
 mod run;
 
-use budget::NoMemory;
-use exact_cross::{Line, Segment};
-use run::{Run, longest_run};
+use budget::{NoMemory, Steps};
+use exact_cross::Segment;
+use hulls::Hulls;
+use run::longest_run;
 use std::alloc::Global;
+use std::marker::Brand;
+use std::sync::ledger::{Blank, Ledger};
 
-/// The greedy segments of the places `from..to` of a key list, with ranks as in the whole list.
+/// The greedy segments of the places `from..to` of points, with places as in the whole list.
 ///
-/// `eps` is the error bound `ε`, in ranks. Each segment has the steep pair of its run and that pair's line, which
-/// serves the run. Each but the last has a cut, three places that no line serves: those of the steep pair and the next
-/// run's start where this lies over all lines of the run, and those of the flat pair and it where it lies under them.
-/// An empty range has no segment.
+/// The place `j` is the point `(xs[j], ys[j])`, and `eps` the error bound `ε`. Each segment has the steep pair of its run and
+/// that pair's line, which serves the run. Each but the last has a cut, three places that no line serves: those of the steep
+/// pair and the next run's start where this lies over all lines of the run, and those of the flat pair and it where it
+/// lies under them. An empty range has no segment. It takes the steps of [`segment_counted`], and counts nothing.
 ///
 /// # Errors
 ///
-/// `NoMemory` alone, where the list of segments finds none.
+/// `NoMemory` alone, where the list of segments or the two hulls find none. The hulls ask for 32 bytes a point, once for
+/// the whole range, and touch as much as the longest hulls of a run take.
 ///
 /// Source: Ferragina and Vinciguerra, PVLDB 13(8), 2020, section 3.1; O'Rourke, CACM 24(9), 1981.
 pub fn segment(
     alloc: Global,
-    keys: &[u64],
+    xs: &[u64],
+    ys: &[u32],
     eps: u32,
     from: u32,
     to: u32,
 ) -> Result<Vec<Segment>, NoMemory>
-    requires ascending { IsStrictlyIncreasing keys.now }
-    requires few { length keys.now < 2 ^ 32 }
+    requires same_length { length ys.now ≡ length xs.now }
+    requires rising { IsStrictlyIncreasing xs.now }
+    requires never_falls { IsNonDecreasing ys.now }
+    requires few { length xs.now < 2 ^ 32 }
     requires bounded { eps ≤ 1048576 }
     requires range { from ≤ to }
-    requires within { to ≤ length keys.now }
-    ensures greedy { IfOk result (λ segments. IsGreedy (points_of_keys keys.now) eps from to (starts_of segments.items)) }
-    ensures steep { IfOk result (λ segments. EachRun (IsSteepSegment (points_of_keys keys.now) eps) to segments.items) }
-    ensures served { IfOk result (λ segments. EachRun (IsServed (points_of_keys keys.now) eps) to segments.items) }
-    ensures cuts { IfOk result (λ segments. EachRun (HasItsCut (points_of_keys keys.now) eps to) to segments.items) }
+    requires within { to ≤ length xs.now }
+    ensures greedy { IfOk result (λ segments. IsGreedy (points_of xs.now ys.now) eps from to (starts_of segments.items)) }
+    ensures steep { IfOk result (λ segments. EachRun (IsSteepSegment (points_of xs.now ys.now) eps) to segments.items) }
+    ensures served { IfOk result (λ segments. EachRun (IsServed (points_of xs.now ys.now) eps) to segments.items) }
+    ensures cuts { IfOk result (λ segments. EachRun (HasItsCut (points_of xs.now ys.now) eps to) to segments.items) }
     // No cover of the range has fewer runs.
-    ensures least { IfOk result (λ segments. IsLeastCover (points_of_keys keys.now) eps from to (starts_of segments.items)) }
+    ensures least { IfOk result (λ segments. IsLeastCover (points_of xs.now ys.now) eps from to (starts_of segments.items)) }
     // Segments of the whole list show by themselves that they are as few as lines can do.
-    ensures checked { IfOk result (λ segments. from ≡ 0 → to ≡ length keys.now → AreChecked (points_of_keys keys.now) eps segments.items) }
+    ensures checked { IfOk result (λ segments. from ≡ 0 → to ≡ length xs.now → AreChecked (points_of xs.now ys.now) eps segments.items) }
+{
+    segment_from::<Brand>(alloc, xs, ys, eps, from, to, Blank::new(1))
+}
+
+/// The same, counting its steps, at most 12 for each point of the range.
+///
+/// A step is a comparison of two slopes or a test of a point against a line.
+///
+/// # Errors
+///
+/// `NoMemory` alone, as in [`segment`].
+pub fn segment_counted<L: Ledger>(
+    alloc: Global,
+    xs: &[u64],
+    ys: &[u32],
+    eps: u32,
+    from: u32,
+    to: u32,
+    steps: &mut Steps<L>,
+) -> Result<Vec<Segment>, NoMemory>
+    requires same_length { length ys.now ≡ length xs.now }
+    requires rising { IsStrictlyIncreasing xs.now }
+    requires never_falls { IsNonDecreasing ys.now }
+    requires few { length xs.now < 2 ^ 32 }
+    requires bounded { eps ≤ 1048576 }
+    requires range { from ≤ to }
+    requires within { to ≤ length xs.now }
+    ensures greedy { IfOk result (λ segments. IsGreedy (points_of xs.now ys.now) eps from to (starts_of segments.items)) }
+    ensures steep { IfOk result (λ segments. EachRun (IsSteepSegment (points_of xs.now ys.now) eps) to segments.items) }
+    ensures served { IfOk result (λ segments. EachRun (IsServed (points_of xs.now ys.now) eps) to segments.items) }
+    ensures cuts { IfOk result (λ segments. EachRun (HasItsCut (points_of xs.now ys.now) eps to) to segments.items) }
+    // No cover of the range has fewer runs.
+    ensures least { IfOk result (λ segments. IsLeastCover (points_of xs.now ys.now) eps from to (starts_of segments.items)) }
+    // Segments of the whole list show by themselves that they are as few as lines can do.
+    ensures checked { IfOk result (λ segments. from ≡ 0 → to ≡ length xs.now → AreChecked (points_of xs.now ys.now) eps segments.items) }
+    ensures cost { steps.new ≤ steps.old + 12 * (to - from) }
 {
     let mut segments = Vec::new(alloc);
+    let mut hulls = Hulls::new(alloc, eps, to - from)?;
     let mut start = from;
     while start < to {
-        let run = longest_run(keys, eps, start, to);
-        segments.push(segment_of(keys, eps, start, run))?;
+        let run = longest_run(&mut hulls, xs, ys, start, to, steps);
+        segments.push(run.segment)?;
         start = run.end;
     }
     Ok(segments)
 }
 
-/// The segment of a run, its steep pair and its cut.
-fn segment_of(keys: &[u64], eps: u32, start: u32, run: Run) -> Segment
-    requires ascending { IsStrictlyIncreasing keys.now }
-    requires few { length keys.now < 2 ^ 32 }
+/// The same with a counter of its own, from a new ledger.
+fn segment_from<L: Ledger>(
+    alloc: Global,
+    xs: &[u64],
+    ys: &[u32],
+    eps: u32,
+    from: u32,
+    to: u32,
+    blank: Blank,
+) -> Result<Vec<Segment>, NoMemory>
+    requires same_length { length ys.now ≡ length xs.now }
+    requires rising { IsStrictlyIncreasing xs.now }
+    requires never_falls { IsNonDecreasing ys.now }
+    requires few { length xs.now < 2 ^ 32 }
     requires bounded { eps ≤ 1048576 }
-    requires some { start < run.end }
-    requires within { run.end ≤ length keys.now }
-    requires pair { IsSteepOf (points_of_keys keys.now) eps start run.end run.a run.b }
-    ensures start { result.start ≡ start }
-    ensures steep { IsSteepSegment (points_of_keys keys.now) eps result run.end }
-    ensures cut { result.cut ≡ run.cut }
+    requires range { from ≤ to }
+    requires within { to ≤ length xs.now }
+    requires name { blank.name ≡ L.name }
+    requires parts { blank.parts ≡ L.parts }
+    requires one { blank.parts ≡ 1 }
+    ensures greedy { IfOk result (λ segments. IsGreedy (points_of xs.now ys.now) eps from to (starts_of segments.items)) }
+    ensures steep { IfOk result (λ segments. EachRun (IsSteepSegment (points_of xs.now ys.now) eps) to segments.items) }
+    ensures served { IfOk result (λ segments. EachRun (IsServed (points_of xs.now ys.now) eps) to segments.items) }
+    ensures cuts { IfOk result (λ segments. EachRun (HasItsCut (points_of xs.now ys.now) eps to) to segments.items) }
+    // No cover of the range has fewer runs.
+    ensures least { IfOk result (λ segments. IsLeastCover (points_of xs.now ys.now) eps from to (starts_of segments.items)) }
+    // Segments of the whole list show by themselves that they are as few as lines can do.
+    ensures checked { IfOk result (λ segments. from ≡ 0 → to ≡ length xs.now → AreChecked (points_of xs.now ys.now) eps segments.items) }
 {
-    let Run { end: _, a, b, cut } = run;
-    Segment {
-        start,
-        a,
-        b,
-        line: line_of(keys, eps, a, b),
-        cut,
-    }
+    let mut steps = Steps::<L>::new(blank);
+    segment_counted(alloc, xs, ys, eps, from, to, &mut steps)
 }
 
-/// The line through the points `ε` below the place `a` and `ε` above `b`; the level line where the places are one.
-fn line_of(keys: &[u64], eps: u32, a: u32, b: u32) -> Line
-    requires ascending { IsStrictlyIncreasing keys.now }
-    requires few { length keys.now < 2 ^ 32 }
-    requires bounded { eps ≤ 1048576 }
-    requires order { a ≤ b }
-    requires within { b < length keys.now }
-    ensures { result ≡ line_of_pair (points_of_keys keys.now) eps a b }
+/// Points and an error bound have one segmentation: two lists of segments that are greedy, steep and have their cuts are equal.
+pub fn one_segmentation()
+    ensures { (p : Points) (eps from to : ℕ) (one two : List Segment) → IsAscending p → to ≤ p.count
+        → IsSegmentation p eps from to one → IsSegmentation p eps from to two → one ≡ two }
 {
-    let x0 = keys[a as usize];
-    if a == b {
-        return Line {
-            x0,
-            y0: i64::from(a),
-            rise: 0,
-            run: 1,
-        };
-    }
-    let y0 = i64::from(a) - i64::from(eps);
-    let rise = u64::from(b - a) + 2 * u64::from(eps);
-    let run = keys[b as usize] - x0;
-    Line { x0, y0, rise, run }
 }
 
-#[cfg(test)]
-mod tests;
+
+

@@ -1,67 +1,78 @@
 // The longest run from a place that some line serves.
-ghost use Rattle.std.specs.List.Sorted.{IsStrictlyIncreasing};
-ghost use Rattle.std.specs.Prelude.{◌≡◌, ◌+◌, ◌^◌, ◌<◌, ◌≤◌, length, Some, None};
-ghost use Rattle.exact_cross.specs.Points.{points_of_keys};
+ghost use Rattle.std.specs.List.Sorted.{IsStrictlyIncreasing, IsNonDecreasing};
+ghost use Rattle.std.specs.Prelude.{◌≡◌, ℕ, ◌+◌, ◌*◌, ◌^◌, ◌<◌, ◌≤◌, length};
+ghost use Rattle.exact_cross.specs.Points.{Points, points_of};
 ghost use Rattle.exact_cross.specs.Covers.{IsLongest};
-ghost use Rattle.exact_cross.specs.Steep.{IsSteepOf};
-ghost use Rattle.exact_cross.specs.Cuts.{IsCutOf};
-ghost use Rattle.exact_cross.specs.declared.segment.Witness.{Witness};
+ghost use Rattle.exact_cross.specs.Segments.{IsSteepSegment};
+ghost use Rattle.exact_cross.specs.Cuts.{HasItsCut};
+ghost use Rattle.hulls.specs.Hulls.{room_of, bound_of, StandsFor};
 
-use crate::cut::cut_before;
-use crate::pairs::{pairs_between, pairs_with};
-use exact_cross::Witness;
+use budget::Steps;
+use exact_cross::{Segment, Witness};
+use hulls::{Hulls, Offer};
+use std::sync::ledger::Ledger;
 
-/// The end of a run, its steep pair, and why it ends.
+/// A segment and the end of its run.
 #[derive(Clone, Copy)]
 pub struct Run {
+    pub segment: Segment,
     pub end: u32,
-    pub a: u32,
-    pub b: u32,
-    pub cut: Option<Witness>,
 }
 
 /// The longest run from `start` that some line serves, `to` at the furthest.
-///
-/// One place or two have a line in any case. The run ends before the first place with which some pair of it has a flat
-/// slope above another's steep slope.
-pub fn longest_run(keys: &[u64], eps: u32, start: u32, to: u32) -> Run
-    requires ascending { IsStrictlyIncreasing keys.now }
-    requires few { length keys.now < 2 ^ 32 }
-    requires bounded { eps ≤ 1048576 }
+pub fn longest_run<L: Ledger>(
+    hulls: &mut Hulls,
+    xs: &[u64],
+    ys: &[u32],
+    start: u32,
+    to: u32,
+    steps: &mut Steps<L>,
+) -> Run
+    requires same_length { length ys.now ≡ length xs.now }
+    requires rising { IsStrictlyIncreasing xs.now }
+    requires never_falls { IsNonDecreasing ys.now }
+    requires few { length xs.now < 2 ^ 32 }
     requires some { start < to }
-    requires within { to ≤ length keys.now }
+    requires within { to ≤ length xs.now }
+    requires room { to ≤ start + room_of hulls.old }
+    requires bounded { bound_of hulls.old ≤ 1048576 }
+    ensures start { result.segment.start ≡ start }
     ensures further { start < result.end }
     ensures within { result.end ≤ to }
-    ensures longest { IsLongest (points_of_keys keys.now) eps to start result.end }
-    ensures pair { IsSteepOf (points_of_keys keys.now) eps start result.end result.a result.b }
-    ensures last { result.end ≡ to → result.cut ≡ None }
-    ensures cut { result.end < to → (w : Witness) × (result.cut ≡ Some w) × IsCutOf (points_of_keys keys.now) eps start result.end w }
+    ensures longest { IsLongest (points_of xs.now ys.now) (bound_of hulls.old) to start result.end }
+    ensures steep { IsSteepSegment (points_of xs.now ys.now) (bound_of hulls.old) result.segment result.end }
+    ensures cut { HasItsCut (points_of xs.now ys.now) (bound_of hulls.old) to result.segment result.end }
+    ensures cost { steps.new + 12 * start ≤ steps.old + 12 * result.end }
+    ensures room { room_of hulls.old ≤ room_of hulls.new }
+    ensures bound { bound_of hulls.new ≡ bound_of hulls.old }
 {
-    if start + 1 == to {
-        return Run {
-            end: to,
-            a: start,
-            b: start,
-            cut: None,
-        };
-    }
-    let mut pairs = pairs_between(keys, eps, start, start + 1);
-    for place in start + 2..to {
-        let longer = pairs_with(keys, eps, start, place, pairs);
-        if !longer.leave_a_line() {
+    hulls.start(start, xs[start as usize], ys[start as usize]);
+    for place in start + 1..to {
+        if let Offer::Cut(witness) = hulls.offer(xs[place as usize], ys[place as usize], steps) {
+            let segment = segment_of(hulls, start, Some(witness));
             return Run {
+                segment,
                 end: place,
-                a: pairs.steep.low,
-                b: pairs.steep.high,
-                cut: Some(cut_before(keys, eps, start, place, pairs)),
             };
         }
-        pairs = longer;
     }
-    Run {
-        end: to,
-        a: pairs.steep.low,
-        b: pairs.steep.high,
-        cut: None,
+    let segment = segment_of(hulls, start, None);
+    Run { segment, end: to }
+}
+
+/// The segment of the run that the hulls stand for.
+fn segment_of(hulls: &Hulls, start: u32, cut: Option<Witness>) -> Segment
+    requires { (p : Points) × (eps : ℕ) × (e : ℕ) × StandsFor hulls.now p eps start e }
+    ensures start { result.start ≡ start }
+    ensures steep { (p : Points) (eps e : ℕ) → StandsFor hulls.now p eps start e → IsSteepSegment p eps result e }
+    ensures cut { result.cut ≡ cut }
+{
+    let (a, b, line) = hulls.line();
+    Segment {
+        start,
+        a,
+        b,
+        line,
+        cut,
     }
 }

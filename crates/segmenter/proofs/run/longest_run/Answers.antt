@@ -1,78 +1,65 @@
--- Two places have a line. The run grows while no flat slope of it is above a steep one, and ends before the first place where one is.
-use Rattle.std.proofs.Common.{◌≡◌, ◌+◌, refl, sym, arith}
-use Rattle.std.proofs.lemmas.Bool.{false≢true}
-use Rattle.exact_cross.specs.Points.{points_of_keys}
-use Rattle.exact_cross.proofs.CallerLemmas.{IsAscending-points_of_keys, some_line-one_place}
-use Rattle.segmenter.proofs.Fitting.{steep_run_of_pairs, flat_run_of_pairs, some_line-from_order, order-from_some_line, ArePairsOf-two, order-two}
+-- The hulls stand for the run, place by place, until a place is refused.
+use Rattle.std.proofs.Common.{◌≡◌, ◌+◌, ◌∙◌, refl, sym, arith}
+use Rattle.exact_cross.specs.Points.{points_of}
+use Rattle.exact_cross.proofs.CallerLemmas.{IsAscending-points_of}
+use Rattle.hulls.specs.Hulls.{bound_of, StandsFor}
+use Rattle.segmenter.proofs.Runs.{IsNext-place, IsLongest-whole, IsLongest-cut, HasItsCut-cut}
 use Rattle.segmenter.proofs.run.longest_run.Goals as goal
 
-pub returns-then-start-to-clause-longest : goal.returns-then-start-to-clause-longest
-returns-then-start-to-clause-longest c =
-    record {
-      fits = rw (sym c.if-start-to.true) (some_line-one_place (points_of_keys c.args.keys.now) c.args.eps c.args.start);
-      no_longer = λ less line. absurd (omega arith);
-    }
-
 pub loop-place-init : goal.loop-place-init
-loop-place-init c =
-    let p = points_of_keys c.args.keys.now in
+loop-place-init g c =
+    let xs = c.args.xs.now in
+    let ys = c.args.ys.now in
+    let ascends = IsAscending-points_of xs ys c.requires.same_length c.requires.rising c.requires.never_falls in
     record {
-      pairs = ArePairsOf-two p c.args.eps c.args.start c.pairs_between-pairs.result c.pairs_between-pairs.ensures;
-      fits = order-two p c.args.eps c.args.start (c.args.start + 1) c.pairs_between-pairs.result c.pairs_between-pairs.ensures;
-    }
-
-pub leave_a_line-requires-clause-flat_rises : goal.leave_a_line-requires-clause-flat_rises
-leave_a_line-requires-clause-flat_rises c =
-    let keys = c.args.keys.now in
-    flat_run_of_pairs (points_of_keys keys) c.args.eps c.args.start (c.loop-place.place + 1) c.pairs_with-longer.result
-    (IsAscending-points_of_keys keys c.requires.ascending) (omega arith) c.pairs_with-longer.ensures
-
-pub leave_a_line-requires-clause-steep_rises : goal.leave_a_line-requires-clause-steep_rises
-leave_a_line-requires-clause-steep_rises c =
-    let keys = c.args.keys.now in
-    steep_run_of_pairs (points_of_keys keys) c.args.eps c.args.start (c.loop-place.place + 1) c.pairs_with-longer.result
-    (IsAscending-points_of_keys keys c.requires.ascending) (omega arith) c.pairs_with-longer.ensures
-
-pub cut_before-requires-clause-served : goal.cut_before-requires-clause-served
-cut_before-requires-clause-served c =
-    let keys = c.args.keys.now in
-    some_line-from_order (points_of_keys keys) c.args.eps c.args.start c.loop-place.place c.loop-place.pairs (IsAscending-points_of_keys keys c.requires.ascending) (omega arith)
-    c.loop-place.invariant.pairs c.loop-place.invariant.fits
-
-pub cut_before-requires-clause-refused : goal.cut_before-requires-clause-refused
-cut_before-requires-clause-refused c =
-    let keys = c.args.keys.now in
-    λ line.
-    let order = order-from_some_line (points_of_keys keys) c.args.eps c.args.start (c.loop-place.place + 1) c.pairs_with-longer.result
-    (IsAscending-points_of_keys keys c.requires.ascending) (omega arith) c.pairs_with-longer.ensures line in
-    false≢true (c.if-not-leave_a_line.ensures.1 order)
-
-pub returns-then-not-leave_a_line-clause-longest : goal.returns-then-not-leave_a_line-clause-longest
-returns-then-not-leave_a_line-clause-longest c =
-    let keys = c.args.keys.now in
-    let p = points_of_keys keys in
-    let ascends = IsAscending-points_of_keys keys c.requires.ascending in
-    let longer = c.pairs_with-longer.result in
-    record {
-      fits = some_line-from_order p c.args.eps c.args.start c.loop-place.place c.loop-place.pairs ascends (omega arith) c.loop-place.invariant.pairs c.loop-place.invariant.fits;
-      no_longer = λ less line.
-          let order = order-from_some_line p c.args.eps c.args.start (c.loop-place.place + 1) longer ascends (omega arith) c.pairs_with-longer.ensures line in
-          absurd (false≢true (c.if-not-leave_a_line.ensures.1 order));
+      stands = c.start.ensures.stands (points_of xs ys) ascends (omega arith) refl refl;
+      cost = omega (arith, c.start.ensures.spare);
+      room = c.start.ensures.room;
+      bound = c.start.ensures.bound;
     }
 
 pub loop-place-preserved : goal.loop-place-preserved
-loop-place-preserved c =
+loop-place-preserved g c =
+    let xs = c.args.xs.now in
+    let ys = c.args.ys.now in
+    let so_far = c.loop-place.invariant in
+    let next = IsNext-place c.loop-place.hulls xs ys (bound_of c.args.hulls.now) c.args.start c.loop-place.place so_far.stands (omega arith) in
     record {
-      pairs = c.pairs_with-longer.ensures;
-      fits = c.if-not-leave_a_line.ensures.0 refl;
+      stands = c.in_default.ensures.stands (points_of xs ys) (bound_of c.args.hulls.now) c.args.start c.loop-place.place next;
+      cost = omega (arith, c.in_default.ensures.cost, so_far.cost);
+      room = omega (arith, c.in_default.ensures.room, so_far.room);
+      bound = c.in_default.ensures.bound ∙ so_far.bound;
     }
 
+pub returns-in-Cut-clause-longest : goal.returns-in-Cut-clause-longest
+returns-in-Cut-clause-longest g c =
+    let xs = c.args.xs.now in
+    let ys = c.args.ys.now in
+    let stands = c.loop-place.invariant.stands in
+    let next = IsNext-place c.loop-place.hulls xs ys (bound_of c.args.hulls.now) c.args.start c.loop-place.place stands (omega arith) in
+    IsLongest-cut c.loop-place.hulls (points_of xs ys) (bound_of c.args.hulls.now) c.args.to c.args.start c.loop-place.place stands
+    (c.in-Cut.ensures.fits (points_of xs ys) (bound_of c.args.hulls.now) c.args.start c.loop-place.place next)
+
+pub returns-in-Cut-clause-steep : goal.returns-in-Cut-clause-steep
+returns-in-Cut-clause-steep g c =
+    let p = points_of c.args.xs.now c.args.ys.now in
+    c.segment_of-segment.ensures.steep p (bound_of c.args.hulls.now) c.loop-place.place (rw c.in-Cut.ensures.stands c.loop-place.invariant.stands)
+
+pub returns-in-Cut-clause-cut : goal.returns-in-Cut-clause-cut
+returns-in-Cut-clause-cut g c =
+    let xs = c.args.xs.now in
+    let ys = c.args.ys.now in
+    let next = IsNext-place c.loop-place.hulls xs ys (bound_of c.args.hulls.now) c.args.start c.loop-place.place c.loop-place.invariant.stands (omega arith) in
+    HasItsCut-cut (points_of xs ys) (bound_of c.args.hulls.now) c.args.to c.args.start c.loop-place.place c.in-Cut.witness c.segment_of-segment.result
+    c.segment_of-segment.ensures.start c.segment_of-segment.ensures.cut (omega arith)
+    (c.in-Cut.ensures.witness (points_of xs ys) (bound_of c.args.hulls.now) c.args.start c.loop-place.place next)
+
 pub returns-clause-longest : goal.returns-clause-longest
-returns-clause-longest c =
-    let keys = c.args.keys.now in
-    let at_end : c.loop-place.place ≡ c.args.to = omega arith in
-    record {
-      fits = some_line-from_order (points_of_keys keys) c.args.eps c.args.start c.args.to c.loop-place.pairs (IsAscending-points_of_keys keys c.requires.ascending)
-          c.requires.within (rw at_end at c.loop-place.invariant.pairs) c.loop-place.invariant.fits;
-      no_longer = λ less line. absurd (omega arith);
-    }
+returns-clause-longest g c =
+    let at_end : c.loop-place.place ≡ c.args.to = omega (arith, c.loop-place.auto.place-end (omega arith)) in
+    IsLongest-whole c.loop-place.hulls (points_of c.args.xs.now c.args.ys.now) (bound_of c.args.hulls.now) c.args.to c.args.start (rw at_end at c.loop-place.invariant.stands)
+
+pub returns-clause-steep : goal.returns-clause-steep
+returns-clause-steep g c =
+    let at_end : c.loop-place.place ≡ c.args.to = omega (arith, c.loop-place.auto.place-end (omega arith)) in
+    c.segment_of-segment-2.ensures.steep (points_of c.args.xs.now c.args.ys.now) (bound_of c.args.hulls.now) c.args.to (rw at_end at c.loop-place.invariant.stands)

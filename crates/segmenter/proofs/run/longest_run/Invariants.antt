@@ -1,11 +1,13 @@
--- The pairs are those of start..place, and some line serves that run.
-use Rattle.exact_cross.specs.Points.{points_of_keys}
-use Rattle.exact_cross.specs.Slopes.{IsAtMost}
-use Rattle.segmenter.specs.Pairs.{ArePairsOf}
+-- The hulls stand for the run so far, at 12 steps for each place after the first, less those that are spare.
+use Rattle.std.proofs.Common.{◌≡◌, ◌+◌, ◌*◌, ◌≤◌}
+use Rattle.exact_cross.specs.Points.{points_of}
+use Rattle.hulls.specs.Hulls.{room_of, bound_of, spare, StandsFor}
 use Rattle.segmenter.proofs.run.longest_run.Given as goal
 
 abbrev pub invariant-loop-place : goal.invariant-loop-place
-invariant-loop-place l = record {
-  pairs : ArePairsOf (points_of_keys l.keys) l.eps l.start l.place l.pairs;
-  fits : IsAtMost l.pairs.flat.slope l.pairs.steep.slope;
+invariant-loop-place g l = record {
+  stands : StandsFor l.hulls (points_of l.xs l.ys) (bound_of l.fn.hulls) l.start l.place;
+  cost : l.steps + spare l.hulls + 12 * l.start + 12 ≤ l.fn.steps + 12 * l.place;
+  room : room_of l.fn.hulls ≤ room_of l.hulls;
+  bound : bound_of l.hulls ≡ bound_of l.fn.hulls;
 }

@@ -1,0 +1,27 @@
+-- The run that the hulls stand for, as the longest run and its segment.
+use Rattle.std.proofs.Common.{◌≡◌, ℕ, ◌+◌, ◌<◌, ◌≤◌, ◌∙◌, List, length, slice_index, Option, None, Some, refl, sym, subst, arith}
+use Rattle.exact_cross.specs.declared.segment.Witness.{Witness}
+use Rattle.exact_cross.specs.declared.segment.Segment.{Segment}
+use Rattle.exact_cross.specs.Points.{Points, points_of}
+use Rattle.exact_cross.specs.Lines.{SomeLineFits}
+use Rattle.exact_cross.specs.Covers.{IsLongest}
+use Rattle.exact_cross.specs.Cuts.{IsCutOf, HasItsCut}
+use Rattle.hulls.specs.declared.fitting.Hulls.{Hulls}
+use Rattle.hulls.specs.Hulls.{StandsFor, IsNext}
+
+pub IsNext-place : (hulls : Hulls) (xs ys : List ℕ) (eps s e : ℕ) → StandsFor hulls (points_of xs ys) eps s e → e < length xs →
+    IsNext hulls (points_of xs ys) eps s e (slice_index xs e) (slice_index ys e)
+IsNext-place hulls xs ys eps s e stands inside = record { stands = stands; more = inside; at_x = refl; at_y = refl }
+
+-- a run that ends at the range's end, or before a place that no line goes on to
+pub IsLongest-whole : (hulls : Hulls) (p : Points) (eps to s : ℕ) → StandsFor hulls p eps s to → IsLongest p eps to s to
+IsLongest-whole hulls p eps to s stands = record { fits = stands.fits; no_longer = λ more. absurd (omega (arith, more)) }
+
+pub IsLongest-cut : (hulls : Hulls) (p : Points) (eps to s e : ℕ) → StandsFor hulls p eps s e → (SomeLineFits p eps s (e + 1) → ⊥) → IsLongest p eps to s e
+IsLongest-cut hulls p eps to s e stands refused = record { fits = stands.fits; no_longer = λ more. refused }
+
+pub HasItsCut-cut : (p : Points) (eps to start e : ℕ) (w : Witness) (segment : Segment) → segment.start ≡ start → segment.cut ≡ Some w → e < to → IsCutOf p eps start e w → HasItsCut p eps to segment e
+HasItsCut-cut p eps to start e w segment starts cuts before own = record {
+  last = λ at_end. absurd (omega arith);
+  other = λ more. (w, cuts, subst (λ (s : ℕ). IsCutOf p eps s e w) (sym starts) own);
+}
