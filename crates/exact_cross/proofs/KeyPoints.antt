@@ -1,8 +1,9 @@
 -- The points of two lists ascend where the x rise and the y never fall, and those of a key list are its keys with their places.
-use Rattle.std.proofs.Common.{◌≡◌, ℕ, zero, suc, ◌+◌, ◌-◌, ◌<◌, ◌≤◌, List, length, slice_index, refl, ap, sym, ◌∙◌, arith}
+use Rattle.std.proofs.Common.{◌≡◌, ℕ, zero, suc, ◌+◌, ◌-◌, ◌<◌, ◌≤◌, List, length, slice_index, refl, ap, sym, ◌∙◌, arith, ◌++◌, [], ◌∷◌, add-one}
 use Rattle.std.proofs.lemmas.List.{ext_get_or, get_or_default}
 use Rattle.std.specs.List.Sorted.{IsStrictlyIncreasing, IsNonDecreasing}
 use Rattle.std.proofs.lemmas.List.FromFn.{get_or-range_with_len, length-range_with_len}
+use Rattle.std.specs.List.{range_with_len}
 use Rattle.exact_cross.specs.Points.{IsAscending, points_of, points_of_keys, places}
 
 -- of two places the lower has the lesser x; up from `i`, a place at a time
@@ -58,3 +59,12 @@ pub places-from_counting : (ys : List ℕ) (n : ℕ) → length ys ≡ n → ((j
 places-from_counting ys n same counts =
     ext_get_or 0 ys (places n) (same ∙ sym (length-places n)) (λ j inside.
     counts j (omega (arith, same)) ∙ sym (slice_index-places n j (omega (arith, same))))
+
+range-more : (a n : ℕ) → range_with_len a (suc n) ≡ range_with_len a n ++ (a + n) ∷ []
+range-more a zero = ap (λ (k : ℕ). k ∷ []) (omega arith)
+range-more a (suc n) =
+    ap (λ (ks : List ℕ). a ∷ ks) (range-more (a + 1) n ∙ ap (λ (k : ℕ). range_with_len (a + 1) n ++ k ∷ []) (omega arith))
+
+-- one place more
+pub places-more : (n : ℕ) → places (n + 1) ≡ places n ++ n ∷ []
+places-more n = rw add-one (range-more 0 n ∙ ap (λ (k : ℕ). range_with_len 0 n ++ k ∷ []) (omega arith))

@@ -1,7 +1,8 @@
 // The command `explain`.
-ghost use Rattle.std.specs.Prelude.{◌≡◌, ◌∷◌, ◌<◌, ◌≤◌, ◌^◌, ◌+◌, ◌++◌, [], length, drop, codes, decimal, OnOk, OnErr};
+ghost use Rattle.std.specs.Prelude.{◌≡◌, ◌∷◌, ◌<◌, ◌≤◌, ◌^◌, ◌+◌, ◌++◌, [], length, drop, codes, decimal, IfOk, OnOk, OnErr};
 ghost use Rattle.std.specs.Fmt.{signed_decimal};
-ghost use Rattle.std.specs.List.Sorted.{IsStrictlyIncreasing};
+ghost use Rattle.std.specs.List.Sorted.{IsStrictlyIncreasing, IsNonDecreasing};
+ghost use Rattle.exact_cross.specs.Points.{places};
 ghost use Rattle.exact_cross.specs.Covers.{run_end};
 ghost use Rattle.exact_cross.specs.Segments.{starts_of};
 ghost use Rattle.written.specs.Writing.{Writes, BreaksOff, WritesText};
@@ -9,6 +10,7 @@ ghost use Rattle.pgmtool.specs.Commands.Explain.{IsExplained, ExplainsLevel, lev
 
 use crate::request::BuildOptions;
 use crate::task::SortedKeys;
+use budget::NoMemory;
 use edge::{Failed, Sink};
 use exact_cross::{Line, MAX_EPSILON, Segment, Side, Witness};
 use segmenter::segment;
@@ -45,9 +47,23 @@ fn write_distinct<S: Sink>(
         return Ok(());
     }
     let len = keys.len() as u32;
-    let segments = segment(alloc, keys, eps, 0, len)?;
+    let ranks = ranks_of(alloc, len)?;
+    let segments = segment(alloc, keys, &ranks, eps, 0, len)?;
     write_level(out, 0, len, eps, &segments)?;
     Ok(())
+}
+
+// The ranks of so many keys, from 0 on.
+fn ranks_of(alloc: Global, len: u32) -> Result<Vec<u32>, NoMemory>
+    ensures ranks { IfOk result (λ ranks. ranks.items ≡ places len) }
+    ensures len { IfOk result (λ ranks. length ranks.items ≡ len) }
+    ensures never_falls { IfOk result (λ ranks. IsNonDecreasing ranks.items) }
+{
+    let mut ranks = Vec::with_capacity(alloc, len as usize)?;
+    for rank in 0..len {
+        ranks.push(rank)?;
+    }
+    Ok(ranks)
 }
 
 // Writes the text lines of a level of `len` keys, which has these segments.
