@@ -1,0 +1,40 @@
+-- Coordinates at their places in a code, and the zeros of a code that may turn into a one. No public clause cites it.
+use Rattle.std.specs.Prelude.{◌≡◌, ◌⊎◌, ◌==◌, if◌then◌else◌, ℕ, ◌%◌, ◌<◌, ◌≤◌, max}
+use Rattle.std.specs.Int.{bit_at}
+use Rattle.zorder.specs.Codes.{number_of}
+use Rattle.zorder.proofs.CallerLemmas.{DiffersAt}
+
+-- the dilated coordinate c of the code z of d coordinates: z without the bits of the other coordinates
+unfoldable pub dilated : ℕ → ℕ → ℕ → ℕ
+dilated d c z = number_of 64 (λ i. if (i % d) == c then bit_at z i else 0)
+
+-- coordinate c of z is below that of low, or above that of high, and place t decides it
+abbrev pub IsDecidedAt : ℕ → ℕ → ℕ → ℕ → ℕ → ℕ → Type 0
+IsDecidedAt d z low high c t = DiffersAt t (dilated d c z) (dilated d c low) ⊎ DiffersAt t (dilated d c high) (dilated d c z)
+
+-- the greater of a place and of the highest place at which two numbers differ, where the first is the lesser one
+pub record IsRaised (place lesser greater result : ℕ) : Type 0 where
+  pub not_below : place ≤ result
+  pub covers : (t : ℕ) → DiffersAt t lesser greater → t ≤ result
+  pub attained : (result ≡ place) ⊎ DiffersAt result lesser greater
+
+-- the highest place that decides a coordinate of z to be out of its interval, or 0
+pub record IsHighestDecision (d z low high count place : ℕ) : Type 0 where
+  pub highest : (c t : ℕ) → c < count → IsDecidedAt d z low high c t → t ≤ place
+  pub attained : (place ≡ 0) ⊎ ((c : ℕ) × (c < count) × IsDecidedAt d z low high c place)
+
+-- at the place i is a zero of z that may be a one: at or below the highest place where z's coordinate differs from high's, which is above it
+pub record HasRoom (d z high i : ℕ) : Type 0 where
+  pub clear : bit_at z i ≡ 0
+  pub top : ℕ
+  pub differs : DiffersAt top (dilated d (i % d) z) (dilated d (i % d) high)
+  pub within : i ≤ top
+
+-- some code between low and high in each coordinate agrees with z above the place i, where z has a zero and it has a one
+pub record Opens (d z low high i : ℕ) : Type 0 where
+  pub room : HasRoom d z high i
+  pub undecided : (c t : ℕ) → c < d → IsDecidedAt d z low high c t → t ≤ i
+
+-- each coordinate of the code is the greater of those of first and low
+abbrev pub IsLeastFrom : ℕ → ℕ → ℕ → ℕ → Type 0
+IsLeastFrom d first low code = (i : ℕ) → bit_at code i ≡ bit_at (max (dilated d (i % d) first) (dilated d (i % d) low)) i

@@ -1,0 +1,2 @@
+pub mod NextInBox
+pub mod Dilated
