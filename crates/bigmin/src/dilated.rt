@@ -18,7 +18,8 @@ fn places(d: u32) -> u64
     }
 }
 
-/// The dilated coordinate `c` of a code: the code without the bits of the other coordinates (Raman and Wise, 2008).
+/// The dilated coordinate `c` of a code: the code without the bits of the other coordinates (Raman
+/// and Wise, 2008).
 pub fn dilated_coordinate(d: u32, c: u32, z: u64) -> u64
     requires dimension { IsDimension d }
     requires within { c < d }

@@ -11,9 +11,9 @@ use zorder::{Region, encode, is_empty};
 
 /// The least code above `z` that is inside the region (BIGMIN), or `None` where there is none.
 ///
-/// The region's `d` is from 2 to 4 and its intervals' ends are in the coordinates' range; `z` is a code of `d` coordinates,
-/// inside the region or not. An empty region has none. Takes some steps for each coordinate, and none for a code or a bit;
-/// takes no memory.
+/// The region's `d` is from 2 to 4 and its intervals' ends are in the coordinates' range; `z` is a
+/// code of `d` coordinates, inside the region or not. An empty region has none. Takes some steps
+/// for each coordinate, and none for a code or a bit; takes no memory.
 /// Source: Tropf and Herzog, Angewandte Informatik 2/1981.
 pub fn next_in_box(z: u64, region: &Region) -> Option<u64>
     requires region { IsRegion region.now }

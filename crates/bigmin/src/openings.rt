@@ -6,7 +6,8 @@ ghost use Rattle.bigmin.specs.Dilated.{IsRaised, IsHighestDecision, HasRoom, Ope
 
 use crate::dilated::{dilated_coordinate, highest_difference};
 
-/// The greater of a place and of the highest place at which two numbers differ, where the first is the lesser one.
+/// The greater of a place and of the highest place at which two numbers differ, where the first is
+/// the lesser one.
 fn raised(place: u32, lesser: u64, greater: u64) -> u32
     ensures { IsRaised place lesser greater result }
 {
@@ -59,7 +60,8 @@ fn all_zeros_with_room(d: u32, z: u64, high: u64) -> u64
     zeros
 }
 
-/// The lowest place from which on a code between `low` and `high`, coordinate by coordinate, can be above `z`.
+/// The lowest place from which on a code between `low` and `high`, coordinate by coordinate, can be
+/// above `z`.
 pub fn lowest_opening(d: u32, z: u64, low: u64, high: u64) -> Option<u32>
     requires { IsDimension d }
     ensures { MatchOption result ((i : ℕ) → Opens d z low high i → ⊥)

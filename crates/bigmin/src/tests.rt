@@ -1,4 +1,5 @@
-//! Next codes that a plain program found by going through all points of each box, and each call once.
+//! Next codes that a plain program found by going through all points of each box, and each call
+//! once.
 
 ghost use Rattle.zorder.specs.Codes.{IsDimension, IsInRange};
 
@@ -9,7 +10,8 @@ use zorder::{Region, fits_range};
 /// A dimension, a box by its low and its high corner, a code, and the next code in the box.
 type Row = (u32, [u32; 4], [u32; 4], u64, Option<u64>);
 
-/// The square from (1, 1) to (2, 2), empty boxes and boxes of one point, both ends of the coordinates, and some boxes by chance.
+/// The square from (1, 1) to (2, 2), empty boxes and boxes of one point, both ends of the
+/// coordinates, and some boxes by chance.
 const ROWS: [Row; 45] = [
     (2, [1, 1, 0, 0], [2, 2, 0, 0], 0, Some(3)),
     (2, [1, 1, 0, 0], [2, 2, 0, 0], 2, Some(3)),

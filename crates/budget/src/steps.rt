@@ -4,10 +4,11 @@ ghost use Rattle.std.specs.Prelude.{◌≡◌, ◌+◌};
 use std::marker::Model;
 use std::sync::ledger::{Blank, Book, Ledger, Share};
 
-/// How many steps were taken, seen as that number. It takes no bytes, and only [`Steps::tick`] raises it.
+/// How many steps were taken, seen as that number. It takes no bytes, and only [`Steps::tick`]
+/// raises it.
 ///
-/// What a step is, the call that counts says: a comparison of two slopes, a key read. A caller that counts nothing passes
-/// a counter of its own and forgets it.
+/// What a step is, the call that counts says: a comparison of two slopes, a key read. A caller that
+/// counts nothing passes a counter of its own and forgets it.
 #[derive(Drop)]
 pub struct Steps<L: Ledger> {
     book: Book<L>,

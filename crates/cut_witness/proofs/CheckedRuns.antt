@@ -3,7 +3,7 @@ use Rattle.std.proofs.Common.{◌≡◌, ℕ, zero, suc, ◌+◌, ◌-◌, ◌<�
 use Rattle.exact_cross.specs.declared.segment.Segment.{Segment}
 use Rattle.exact_cross.specs.Points.{Points}
 use Rattle.exact_cross.specs.Covers.{run_end}
-use Rattle.exact_cross.specs.Segments.{starts_of, EachRun, IsServed}
+use Rattle.exact_cross.specs.Segments.{starts_of, EachRun, IsFitted}
 use Rattle.exact_cross.specs.Checked.{IsInRange, IsCutShort, StartsRise, AreChecked}
 use Rattle.exact_cross.proofs.CallerLemmas.{run_end-within}
 use Rattle.cut_witness.specs.Runs.{IsCheckedRun}
@@ -29,9 +29,9 @@ in_range-from_runs : (p : Points) (eps to : ℕ) (segments : List Segment) → E
 in_range-from_runs p eps to [] runs = tt
 in_range-from_runs p eps to (segment ∷ later) runs = (runs.0.in_range, in_range-from_runs p eps to later runs.1)
 
-served-from_runs : (p : Points) (eps to : ℕ) (segments : List Segment) → EachRun (IsCheckedRun p eps to) to segments → EachRun (IsServed p eps) to segments
-served-from_runs p eps to [] runs = tt
-served-from_runs p eps to (segment ∷ later) runs = (runs.0.served, served-from_runs p eps to later runs.1)
+fitted-from_runs : (p : Points) (eps to : ℕ) (segments : List Segment) → EachRun (IsCheckedRun p eps to) to segments → EachRun (IsFitted p eps) to segments
+fitted-from_runs p eps to [] runs = tt
+fitted-from_runs p eps to (segment ∷ later) runs = (runs.0.fitted, fitted-from_runs p eps to later runs.1)
 
 cut-from_runs : (p : Points) (eps to : ℕ) (segments : List Segment) → EachRun (IsCheckedRun p eps to) to segments → EachRun (IsCutShort p eps to) to segments
 cut-from_runs p eps to [] runs = tt
@@ -39,13 +39,13 @@ cut-from_runs p eps to (segment ∷ later) runs = (runs.0.cut, cut-from_runs p e
 
 -- and the runs from their parts
 runs-from_parts : (p : Points) (eps from to : ℕ) (segments : List Segment) → StartsRise from to (starts_of segments) →
-    EachRun (λ segment e. IsInRange segment.line) to segments → EachRun (IsServed p eps) to segments → EachRun (IsCutShort p eps to) to segments →
+    EachRun (λ segment e. IsInRange segment.line) to segments → EachRun (IsFitted p eps) to segments → EachRun (IsCutShort p eps to) to segments →
     EachRun (IsCheckedRun p eps to) to segments
-runs-from_parts p eps from to [] rise in_range served cut = tt
-runs-from_parts p eps from to (segment ∷ later) rise in_range served cut =
+runs-from_parts p eps from to [] rise in_range fitted cut = tt
+runs-from_parts p eps from to (segment ∷ later) rise in_range fitted cut =
     let next = run_end-within (segment.start + 1) to (starts_of later) (omega (arith, rise.1)) rise.2 in (
-      record { some = omega (arith, next.0); in_range = in_range.0; served = served.0; cut = cut.0 },
-      runs-from_parts p eps (segment.start + 1) to later rise.2 in_range.1 served.1 cut.1,
+      record { some = omega (arith, next.0); in_range = in_range.0; fitted = fitted.0; cut = cut.0 },
+      runs-from_parts p eps (segment.start + 1) to later rise.2 in_range.1 fitted.1 cut.1,
     )
 
 first-from_end : (p : Points) (segments : List Segment) → run_end (starts_of segments) p.count ≡ 0 →
@@ -59,12 +59,12 @@ AreChecked-from_runs p eps segments end runs = record {
   first = first-from_end p segments end;
   rise = StartsRise-sooner 0 p.count (starts_of segments) (omega arith) (StartsRise-from_runs p eps p.count segments runs).0;
   in_range = in_range-from_runs p eps p.count segments runs;
-  served = served-from_runs p eps p.count segments runs;
+  fitted = fitted-from_runs p eps p.count segments runs;
   cut = cut-from_runs p eps p.count segments runs;
 }
 
 pub runs-from_checked : (p : Points) (eps : ℕ) (segments : List Segment) → AreChecked p eps segments → EachRun (IsCheckedRun p eps p.count) p.count segments
-runs-from_checked p eps segments checked = runs-from_parts p eps 0 p.count segments checked.rise checked.in_range checked.served checked.cut
+runs-from_checked p eps segments checked = runs-from_parts p eps 0 p.count segments checked.rise checked.in_range checked.fitted checked.cut
 
 -- each run is checked, the one at place k too
 run_at : (p : Points) (eps to k : ℕ) (segments : List Segment) (none : Segment) → k < length segments → EachRun (IsCheckedRun p eps to) to segments →

@@ -2,12 +2,12 @@
 use Rattle.std.specs.Prelude.{ℕ, ◌<◌}
 use Rattle.exact_cross.specs.declared.segment.Segment.{Segment}
 use Rattle.exact_cross.specs.Points.{Points}
-use Rattle.exact_cross.specs.Segments.{IsServed}
+use Rattle.exact_cross.specs.Segments.{IsFitted}
 use Rattle.exact_cross.specs.Checked.{IsInRange, IsCutShort}
 
--- the run from the segment's start to `e` has a place or more, a line in range that serves it, and its cut
+-- the run from the segment's start to `e` has a place or more, a line in range that fits it, and its cut
 pub record IsCheckedRun (p : Points) (eps to : ℕ) (segment : Segment) (e : ℕ) : Type 0 where
   pub some : segment.start < e
   pub in_range : IsInRange segment.line
-  pub served : IsServed p eps segment e
+  pub fitted : IsFitted p eps segment e
   pub cut : IsCutShort p eps to segment e

@@ -1,4 +1,5 @@
-// Worked lists: which places are witnesses and which segments pass was found by hand from the definitions.
+// Worked lists: which places are witnesses and which segments pass was found by hand from the
+// definitions.
 ghost use Rattle.std.specs.Prelude.{◌+◌, ◌<◌, ◌≤◌, ℕ, IsTrue, length, slice_index};
 ghost use Rattle.std.specs.List.Sorted.{IsStrictlyIncreasing};
 
@@ -18,7 +19,8 @@ fn rises(xs: &[u64]) -> bool
 }
 
 fn never_falls(ys: &[u32]) -> bool
-    ensures { IsTrue result → (k : ℕ) → k + 1 < length ys.now → slice_index ys.now k ≤ slice_index ys.now (k + 1) }
+    ensures { IsTrue result → (k : ℕ) → k + 1 < length ys.now → slice_index ys.now k
+        ≤ slice_index ys.now (k + 1) }
 {
     for i in 1..ys.len() {
         if ys[i - 1] > ys[i] {
@@ -79,7 +81,8 @@ fn worked_witnesses(rt: HostRuntime) {
     let late: Points = (&[0, 8, 9], &[0, 1, 2]);
     expect_holds(&rt, late, 0, witness(0, 1, 2, Side::Over), true);
     expect_holds(&rt, late, 1, witness(0, 1, 2, Side::Over), false);
-    // Heights that repeat and jump: at 2 the chord from (0, 5) to (4, 9) stands at 7, two above 5 and two below 9.
+    // Heights that repeat and jump: at 2 the chord from (0, 5) to (4, 9) stands at 7, two above 5
+    // and two below 9.
     let flat: Points = (&[0, 2, 4], &[5, 5, 9]);
     expect_holds(&rt, flat, 0, witness(0, 1, 2, Side::Over), true);
     expect_holds(&rt, flat, 1, witness(0, 1, 2, Side::Over), false);
@@ -111,5 +114,11 @@ fn worked_covers(rt: HostRuntime) {
 
     expect_cover(&rt, (&[], &[]), 0, &[], true);
     expect_cover(&rt, (&[], &[]), 0, &[last], false);
-    expect_cover(&rt, (&[7], &[0]), 0, &[row(0, 0, 0, line(7, 0, 0, 1), None)], true);
+    expect_cover(
+        &rt,
+        (&[7], &[0]),
+        0,
+        &[row(0, 0, 0, line(7, 0, 0, 1), None)],
+        true,
+    );
 }

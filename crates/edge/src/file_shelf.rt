@@ -10,7 +10,8 @@ use std::rt::Files;
 
 /// The files of the system, by their paths. It tells nothing of what they hold.
 ///
-/// Each error of the system is a fault: a missing file, a directory that is read, an interrupted call.
+/// Each error of the system is a fault: a missing file, a directory that is read, an interrupted
+/// call.
 #[derive(Drop)]
 pub struct FileShelf<'a, R: Files> {
     rt: &'a R,

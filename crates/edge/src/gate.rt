@@ -18,7 +18,8 @@ pub enum Place {
     Published(u64),
 }
 
-/// What is told of each place that a thread passes. It has no meaning: it may hold a thread there, and no more.
+/// What is told of each place that a thread passes. It has no meaning: it may hold a thread there,
+/// and no more.
 pub trait Gate: Sync {
     /// A thread passes the place.
     fn at(&self, place: Place);

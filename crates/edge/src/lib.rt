@@ -1,8 +1,9 @@
 //! The outside as traits: files that are read, a sink that is written, a gate that threads pass.
 //!
-//! A call fails only where the object's count of faults rises, so a reader that gives up by itself meets no contract.
-//! [`MemShelf`], [`MemSink`] and [`OpenGate`] stand in for the outside and tell all that they hold; [`FileShelf`] and
-//! [`OutSink`] carry real files and a real writer and tell nothing.
+//! A call fails only where the object's count of faults rises, so a reader that gives up by itself
+//! meets no contract. [`MemShelf`], [`MemSink`] and [`OpenGate`] stand in for the outside and tell
+//! all that they hold; [`FileShelf`] and [`OutSink`] carry real files and a real writer and tell
+//! nothing.
 //!
 //! The words of the clauses are in `specs/`.
 #![tactic(auto)]

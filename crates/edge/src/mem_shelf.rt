@@ -35,7 +35,8 @@ impl MemShelf {
 
     /// A shelf of these files, the first of each name, with no fault counted and none taken.
     ///
-    /// The calls whose numbers are in `failing` fail, and one read gives at most `most` bytes. Takes no memory.
+    /// The calls whose numbers are in `failing` fail, and one read gives at most `most` bytes.
+    /// Takes no memory.
     pub fn new(files: Vec<(String, Vec<u8>)>, failing: Vec<u64>, most: usize) -> Self
         requires { 1 ≤ most }
         ensures device { device_of result ≡ fresh_device failing.items most }
@@ -123,7 +124,8 @@ fn file_of(files: &[(String, Vec<u8>)], i: usize) -> &[u8]
 // Copies the first bytes of what is left, at most `most`, and answers how many.
 fn copy_front(left: &[u8], buf: &mut [u8], most: usize) -> usize
     requires { 1 ≤ most }
-    ensures bytes { ReadsBytes left.now (length buf.old) result buf.new (Some (drop result left.now)) }
+    ensures bytes { ReadsBytes left.now (length buf.old) result buf.new
+        (Some (drop result left.now)) }
     ensures count { result ≡ min (min (length left.now) (length buf.old)) most }
 {
     let n = left.len().min(buf.len()).min(most);
@@ -133,7 +135,8 @@ fn copy_front(left: &[u8], buf: &mut [u8], most: usize) -> usize
 
 // The place of the first file of this name.
 fn find(files: &[(String, Vec<u8>)], name: &str) -> Option<usize>
-    ensures found { MatchOption result (contents_of files.now name.now ≡ None) (λ i. contents_of files.now name.now ≡ Some (file_at files.now i)) }
+    ensures found { MatchOption result (contents_of files.now name.now ≡ None)
+        (λ i. contents_of files.now name.now ≡ Some (file_at files.now i)) }
     ensures there { MatchOption result ⊤ (λ i. i < length files.now) }
 {
     for (i, file) in files.iter().enumerate() {

@@ -26,13 +26,16 @@ impl MemSink {
     ghost use Rattle.edge.specs.Device.{fresh_device};
     ghost use Rattle.edge.specs.Memories.{memory_of};
 
-    /// An empty sink of room for `room` bytes, with no fault counted. The only error is want of memory.
+    /// An empty sink of room for `room` bytes, with no fault counted. The only error is want of
+    /// memory.
     ///
-    /// The calls whose numbers are in `failing` fail, one call takes at most `most` bytes, and a call that would pass
-    /// the room fails.
+    /// The calls whose numbers are in `failing` fail, one call takes at most `most` bytes, and a
+    /// call that would pass the room fails.
     pub fn new(alloc: Global, room: usize, failing: Vec<u64>, most: usize) -> Result<Self, NoMemory>
         requires { 1 ≤ most }
-        ensures memory { IfOk result (λ sink. memory_of sink ≡ record { device = fresh_device failing.items most; room = room; bytes = [] }) }
+        ensures memory { IfOk result
+            (λ sink. memory_of sink
+            ≡ record { device = fresh_device failing.items most; room = room; bytes = [] }) }
         ensures written { IfOk result (λ sink. ⟦<MemSink as Sink>⟧.written sink ≡ Some []) }
         ensures faults { IfOk result (λ sink. ⟦<MemSink as Sink>⟧.faults sink ≡ 0) }
     {

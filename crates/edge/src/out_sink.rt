@@ -11,9 +11,10 @@ use std::io::{BufWriter, Write};
 
 /// A writer behind a buffer of fixed size. It tells nothing of what was written.
 ///
-/// Each error of the writer is a fault, and so is a write that takes no byte. What the buffer holds is written when it is
-/// full and by [`OutSink::flush`]; a write of it that a signal interrupts is tried again there and is no fault. A piece as
-/// long as the buffer goes straight to the writer, and there an interrupted write is one.
+/// Each error of the writer is a fault, and so is a write that takes no byte. What the buffer holds
+/// is written when it is full and by [`OutSink::flush`]; a write of it that a signal interrupts is
+/// tried again there and is no fault. A piece as long as the buffer goes straight to the writer,
+/// and there an interrupted write is one.
 #[derive(Drop)]
 pub struct OutSink<W: Write + Drop> {
     writer: BufWriter<W>,
@@ -21,7 +22,8 @@ pub struct OutSink<W: Write + Drop> {
 }
 
 impl<W: Write + Drop> OutSink<W> {
-    /// A sink with no fault counted, whose buffer of `room` bytes is taken here. The only error is want of memory.
+    /// A sink with no fault counted, whose buffer of `room` bytes is taken here. The only error is
+    /// want of memory.
     pub fn new(alloc: Global, writer: W, room: usize) -> Result<Self, NoMemory>
         ensures { IfOk result (λ sink. ⟦<OutSink<W> as Sink>⟧.faults sink ≡ 0) }
     {
@@ -35,9 +37,11 @@ impl<W: Write + Drop> OutSink<W> {
     ///
     /// # Errors
     ///
-    /// `Failed` where the writer failed, and only where the count of faults rose. Then what was left in the buffer may be lost.
+    /// `Failed` where the writer failed, and only where the count of faults rose. Then what was
+    /// left in the buffer may be lost.
     pub fn flush(&mut self) -> Result<(), Failed>
-        ensures cause { HasCause (⟦<OutSink<W> as Sink>⟧.faults self.old) (⟦<OutSink<W> as Sink>⟧.faults self.new) result }
+        ensures cause { HasCause (⟦<OutSink<W> as Sink>⟧.faults self.old)
+            (⟦<OutSink<W> as Sink>⟧.faults self.new) result }
     {
         match self.writer.flush() {
             Ok(()) => Ok(()),

@@ -7,7 +7,8 @@ ghost use Rattle.edge.specs.Telling.{TellsAsBefore};
 
 use crate::Failed;
 
-/// Takes bytes, in pieces. A sink that tells what was written goes on telling it, and one that doesn't goes on not to.
+/// Takes bytes, in pieces. A sink that tells what was written goes on telling it, and one that
+/// doesn't goes on not to.
 pub trait Sink {
     /// The bytes written so far, where the sink tells them.
     ghost written: { Self → Option (List ℕ) };
@@ -18,7 +19,8 @@ pub trait Sink {
     /// A call of `put` may lead from a sink, with this piece and this answer, to this sink.
     ghost puts: { Self → List ℕ → Result ℕ Failed → Self → Type 0 };
 
-    /// Takes a front part of the piece, at least one byte unless the piece is empty, and answers how many bytes.
+    /// Takes a front part of the piece, at least one byte unless the piece is empty, and answers
+    /// how many bytes.
     ///
     /// # Errors
     ///
@@ -26,7 +28,8 @@ pub trait Sink {
     fn put(&mut self, piece: &[u8]) -> Result<usize, Failed>
         ensures within { IfOk result (λ n. n ≤ length piece.now) }
         ensures some { IfOk result (λ n. 0 < length piece.now → 0 < n) }
-        ensures taken { IfOk result (λ n. TakesPart (written self.old) piece.now n (written self.new)) }
+        ensures taken { IfOk result
+            (λ n. TakesPart (written self.old) piece.now n (written self.new)) }
         ensures failed { OnErr result (written self.new ≡ written self.old) }
         ensures tells { TellsAsBefore (written self.old) (written self.new) }
         ensures call { puts self.old piece.now result self.new }

@@ -7,7 +7,7 @@ use Rattle.exact_cross.specs.declared.segment.Segment.{Segment}
 use Rattle.exact_cross.specs.Points.{Points, IsAscending}
 use Rattle.exact_cross.specs.Lines.{SomeLineFits, rational}
 use Rattle.exact_cross.specs.Covers.{run_end, IsCover}
-use Rattle.exact_cross.specs.Segments.{starts_of, EachRun, IsServed}
+use Rattle.exact_cross.specs.Segments.{starts_of, EachRun, IsFitted}
 use Rattle.exact_cross.specs.Witnesses.{IsWitness}
 use Rattle.exact_cross.specs.Checked.{StartsRise, IsCutShort, AreChecked, IsLeastCover}
 use Rattle.exact_cross.proofs.WitnessLines.{no_line_at_witness}
@@ -22,7 +22,7 @@ pub StartsRise-from_first : (to from : ℕ) (starts : List ℕ) → StartsRise f
 StartsRise-from_first to from [] rise = tt
 StartsRise-from_first to from (start ∷ later) rise = (omega arith, rise.1, rise.2)
 
--- a run that some line serves, from the cut run's start or before it, ends by the cut's end
+-- a run that some line fits, from the cut run's start or before it, ends by the cut's end
 ends_by_cut : (p : Points) (eps to : ℕ) (segment : Segment) (e from end : ℕ) → IsAscending p → from ≤ segment.start → e < to →
     IsCutShort p eps to segment e → SomeLineFits p eps from end → end ≤ e
 ends_by_cut p eps to segment e from end ascends before inside cut fits =
@@ -40,19 +40,19 @@ ends_by_cut p eps to segment e from end ascends before inside cut fits =
       | inr by_cut ↦ by_cut
     ]
 
--- the runs of rising starts, each served by its line, are a cover
-pub IsCover-from_served : (p : Points) (eps from to : ℕ) (segments : List Segment) →
-    run_end (starts_of segments) to ≡ from → StartsRise from to (starts_of segments) → EachRun (IsServed p eps) to segments →
+-- the runs of rising starts, each fitted by its line, are a cover
+pub IsCover-from_fitted : (p : Points) (eps from to : ℕ) (segments : List Segment) →
+    run_end (starts_of segments) to ≡ from → StartsRise from to (starts_of segments) → EachRun (IsFitted p eps) to segments →
     IsCover p eps from to (starts_of segments)
-IsCover-from_served p eps from to [] first rise served = sym first
-IsCover-from_served p eps from to (segment ∷ later) first rise served =
+IsCover-from_fitted p eps from to [] first rise fitted = sym first
+IsCover-from_fitted p eps from to (segment ∷ later) first rise fitted =
     let next = run_end-within (segment.start + 1) to (starts_of later) (omega (arith, rise.1)) rise.2 in
     let end : ℕ = run_end (starts_of later) to in
-    let run : SomeLineFits p eps segment.start end = (rational segment.line served.0.positive, served.0.fits) in (
+    let run : SomeLineFits p eps segment.start end = (rational segment.line fitted.0.positive, fitted.0.fits) in (
       first,
       omega (arith, first, next.0),
       subst (λ (n : ℕ). SomeLineFits p eps n end) first run,
-      IsCover-from_served p eps end to later refl (StartsRise-from_first to (segment.start + 1) (starts_of later) rise.2) served.1,
+      IsCover-from_fitted p eps end to later refl (StartsRise-from_first to (segment.start + 1) (starts_of later) rise.2) fitted.1,
     )
 
 -- a cover that begins no later than the checked segments has as many runs: its first run ends by the first cut
@@ -83,6 +83,6 @@ run_end-from_checked p eps (segment ∷ later) checked =
 pub IsLeastCover-from_checked : (p : Points) (eps : ℕ) (segments : List Segment) → IsAscending p → AreChecked p eps segments →
     IsLeastCover p eps 0 p.count (starts_of segments)
 IsLeastCover-from_checked p eps segments ascends checked = record {
-  cover = IsCover-from_served p eps 0 p.count segments (run_end-from_checked p eps segments checked) checked.rise checked.served;
+  cover = IsCover-from_fitted p eps 0 p.count segments (run_end-from_checked p eps segments checked) checked.rise checked.fitted;
   least = λ others cover. rw length-map (at_most-from_cuts p eps p.count segments 0 others ascends refl checked.rise checked.cut cover);
 }

@@ -9,7 +9,7 @@ use Rattle.exact_cross.specs.declared.segment.Witness.{Witness}
 use Rattle.exact_cross.specs.declared.segment.Segment.{Segment}
 use Rattle.exact_cross.specs.Points.{Points, IsAscending}
 use Rattle.exact_cross.specs.Covers.{run_end, CutsInto, IsGreedy, IsLongest}
-use Rattle.exact_cross.specs.Segments.{starts_of, EachRun, IsSteepSegment, IsServed}
+use Rattle.exact_cross.specs.Segments.{starts_of, EachRun, IsSteepSegment, IsFitted}
 use Rattle.exact_cross.specs.Witnesses.{IsBeyond, IsWitness}
 use Rattle.exact_cross.specs.Cuts.{CutsAt, IsCutOf, HasItsCut}
 use Rattle.exact_cross.specs.Checked.{IsInRange, StartsRise, IsCutShort, AreChecked}
@@ -98,15 +98,15 @@ first_start p eps to (segment ∷ later) greedy some = (segment, later, refl, gr
 
 pub AreChecked-from_greedy : (p : Points) (eps from to : ℕ) (segments : List Segment) → from ≡ 0 → to ≡ p.count →
     IsGreedy p eps from to (starts_of segments) → EachRun (λ segment e. IsInRange segment.line) to segments →
-    EachRun (IsServed p eps) to segments → EachRun (HasItsCut p eps to) to segments → AreChecked p eps segments
-AreChecked-from_greedy p eps from to segments at_first at_end greedy in_range served cuts =
+    EachRun (IsFitted p eps) to segments → EachRun (HasItsCut p eps to) to segments → AreChecked p eps segments
+AreChecked-from_greedy p eps from to segments at_first at_end greedy in_range fitted cuts =
     let whole : IsGreedy p eps 0 p.count (starts_of segments) =
     subst (λ (n : ℕ). IsGreedy p eps 0 n (starts_of segments)) at_end (subst (λ (n : ℕ). IsGreedy p eps n to (starts_of segments)) at_first greedy) in
     record {
       first = first_start p eps p.count segments whole;
       rise = StartsRise-from_cuts (IsLongest p eps p.count) (starts_of segments) 0 0 p.count (omega arith) whole;
       in_range = subst (λ (n : ℕ). EachRun (λ segment e. IsInRange segment.line) n segments) at_end in_range;
-      served = subst (λ (n : ℕ). EachRun (IsServed p eps) n segments) at_end served;
+      fitted = subst (λ (n : ℕ). EachRun (IsFitted p eps) n segments) at_end fitted;
       cut = EachRun-implies (HasItsCut p eps p.count) (IsCutShort p eps p.count) (IsCutShort-from_cut p eps) p.count segments
           (subst (λ (n : ℕ). EachRun (HasItsCut p eps n) n segments) at_end cuts);
     }

@@ -11,7 +11,7 @@ pub CutsInto-rises : (R : ℕ → ℕ → Type 0) (starts : List ℕ) (from to :
 CutsInto-rises R [] from to cuts = omega arith
 CutsInto-rises R (start ∷ later) from to cuts = omega (arith, cuts.1, CutsInto-rises R later (run_end later to) to cuts.3)
 
--- a longest run goes at least as far as each run from there or before that some line serves
+-- a longest run goes at least as far as each run from there or before that some line fits
 longest_furthest : (p : Points) (eps to before s e e' : ℕ) → before ≤ s → s ≤ e → e' ≤ to → IsLongest p eps to s e → SomeLineFits p eps before e' → e' ≤ e
 longest_furthest p eps to before s e e' earlier some within longest fits =
     elim (cases_lt e e') [

@@ -1,4 +1,4 @@
--- A line that serves a run rises at least as fast as each flat slope of the run, and at most as fast as each steep one.
+-- A line that fits a run rises at least as fast as each flat slope of the run, and at most as fast as each steep one.
 use Rattle.std.proofs.Common.{◌≡◌, ℕ, ◌+◌, ◌*◌, ◌-◌, ◌<◌, ◌≤◌, ap, arith}
 use Rattle.std.proofs.Math.Nat.{mul-le-mul_right, le_of_mul-le-mul_right}
 use borrow.Author.Differences.{up, down}
@@ -30,7 +30,7 @@ compared : (rise fall den eps u v ya yb yc yd : ℕ) → 0 < den →
 compared rise fall den eps u v ya yb yc yd positive enough little =
     le_of_mul-le-mul_right {k = den} (omega (arith, mul-le-mul_right v enough, mul-le-mul_right u little)) positive
 
--- where some line serves the run, no flat slope of it is above a steep one
+-- where some line fits the run, no flat slope of it is above a steep one
 pub flat_at_most_steep : (p : Points) (eps s e a b c d : ℕ) → IsAscending p → e ≤ p.count → SomeLineFits p eps s e →
     IsPair s e a b → IsPair s e c d → IsAtMost (flat_slope p eps a b) (steep_slope p eps c d)
 flat_at_most_steep p eps s e a b c d ascends inside fits first second =

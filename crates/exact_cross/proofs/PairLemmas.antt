@@ -1,4 +1,4 @@
--- The steep and the flat pair of a run decide whether some line serves it, and each is one pair.
+-- The steep and the flat pair of a run decide whether some line fits it, and each is one pair.
 use Rattle.std.proofs.Common.{◌≡◌, ℕ, ◌-◌, ◌<◌, ◌≤◌, arith}
 use Rattle.exact_cross.specs.Points.{Points, IsAscending}
 use Rattle.exact_cross.specs.Lines.{SomeLineFits}
@@ -14,7 +14,7 @@ IsPair-rises p s e a b ascends inside pair =
     let right : p.x a < p.x b = ascends.x_rises a b pair.rises (omega (arith, pair.to_end)) in
     omega arith
 
--- some line serves a run exactly where its greatest flat slope isn't above its least steep one
+-- some line fits a run exactly where its greatest flat slope isn't above its least steep one
 pub some_line-from_extremes : (p : Points) (eps s e a b c d : ℕ) → IsAscending p → e ≤ p.count → IsSteepPair p eps s e a b → IsFlatPair p eps s e c d →
     IsAtMost (flat_slope p eps c d) (steep_slope p eps a b) → SomeLineFits p eps s e
 some_line-from_extremes p eps s e a b c d ascends inside steep flat order =

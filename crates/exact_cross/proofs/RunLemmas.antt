@@ -6,7 +6,7 @@ use Rattle.exact_cross.specs.Lines.{SomeLineFits}
 use Rattle.exact_cross.specs.Covers.{run_end, CutsInto}
 use Rattle.exact_cross.specs.Segments.{starts_of, EachRun}
 
--- a line that serves a run serves each part of it
+-- a line that fits a run fits each part of it
 pub SomeLineFits-part : (p : Points) (eps s e from to : ℕ) → s ≤ from → to ≤ e → SomeLineFits p eps s e → SomeLineFits p eps from to
 SomeLineFits-part p eps s e from to low high fits = (fits.0, λ j above below. fits.1 j (omega arith) (omega arith))
 

@@ -136,7 +136,7 @@ under_left : (yc yd yj yr eps width after gap step : ℕ) → gap ≡ after + wi
 under_left yc yd yj yr eps width after gap step gaps below reaches =
     omega (arith, below, reaches, ap (λ (t : ℕ). yd * t) gaps, ap (λ (t : ℕ). (yc + 2 * eps) * t) gaps)
 
--- a run that some line serves, with its steep and its flat pair, and a place after it
+-- a run that some line fits, with its steep and its flat pair, and a place after it
 pub record IsFollowed (p : Points) (eps s e a b c d : ℕ) : Type 0 where
   pub ascends : IsAscending p
   pub inside : e < p.count
@@ -243,7 +243,7 @@ flat_at_most_steep-longer p eps s e a b c d run over under i j k l first second 
               (IsAtMost-refl (flat_slope p eps i e))
         ]
 
--- some line serves the run with such a place
+-- some line fits the run with such a place
 pub some_line-longer : (p : Points) (eps s e a b c d i j : ℕ) → IsFollowed p eps s e a b c d →
     IsAtMost (flat_slope p eps b e) (steep_slope p eps a b) → IsAtMost (flat_slope p eps c d) (steep_slope p eps d e) →
     IsSteepPair p eps s (e + 1) i j → SomeLineFits p eps s (e + 1)
@@ -251,7 +251,7 @@ some_line-longer p eps s e a b c d i j run not_over not_under longer =
     some_line-from_pairs p eps s (e + 1) i j run.ascends (omega (arith, run.inside)) longer
     (λ k l pair. flat_at_most_steep-longer p eps s e a b c d run not_over not_under k l i j pair longer.pair)
 
--- some line serves any two places
+-- some line fits any two places
 pub some_line-two_places : (p : Points) (eps s : ℕ) → IsAscending p → s + 2 ≤ p.count → SomeLineFits p eps s (s + 2)
 some_line-two_places p eps s ascends inside =
     some_line-from_pairs p eps s (s + 2) s (s + 1) ascends inside (one_pair_steep p eps s) (λ c d pair.

@@ -1,4 +1,4 @@
--- The line of the steep pair serves the whole run, where no flat slope is above the steep one.
+-- The line of the steep pair fits the whole run, where no flat slope is above the steep one.
 use Rattle.std.proofs.Common.{◌≡◌, ℕ, ◌+◌, ◌*◌, ◌-◌, ◌<◌, ◌≤◌, pos, ◌-ℤ◌, inl, inr, ap, arith}
 use Rattle.std.proofs.lemmas.Int.{ints}
 use Rattle.std.proofs.lemmas.Bool.{cases_order}

@@ -1,4 +1,4 @@
--- The line of a segment's pair serves its run, if any line does.
+-- The line of a segment's pair fits its run, if any line does.
 use Rattle.std.proofs.Common.{◌≡◌, ◌==◌, ℕ, ◌+◌, ◌<◌, ◌≤◌, ◌∙◌, inl, inr, pos, ap, sym, subst, arith}
 use Rattle.std.proofs.lemmas.Int.{ints}
 use Rattle.std.proofs.lemmas.Bool.{cases_lt, ne_eqb, eq-eqb, cond-false, cond-true}
@@ -8,7 +8,7 @@ use Rattle.exact_cross.specs.Points.{Points, IsAscending}
 use Rattle.exact_cross.specs.Lines.{FitsRun, SomeLineFits, rational}
 use Rattle.exact_cross.specs.Slopes.{IsAtMost, steep_slope, flat_slope}
 use Rattle.exact_cross.specs.Steep.{IsPair, IsSteepPair, IsSteepOf, line_of_pair}
-use Rattle.exact_cross.specs.Segments.{IsSteepSegment, IsServed}
+use Rattle.exact_cross.specs.Segments.{IsSteepSegment, IsFitted}
 use Rattle.exact_cross.proofs.Cleared.{IsWithin-in}
 use Rattle.exact_cross.proofs.SteepLine.{IsWide, IsWide-from_pair, rising_line, rising_line_fits}
 use Rattle.exact_cross.proofs.LineSlopes.{flat_at_most_steep}
@@ -85,9 +85,9 @@ segment_line_fits p eps e segment ascends some inside steep fits =
     FitsRun-equal p eps segment.start e (line_of_pair p eps segment.a segment.b) segment.line steep.line
     (steep_line_fits p eps segment.start e segment.a segment.b ascends some inside steep.pair fits)
 
-pub IsServed-from_steep : (p : Points) (eps e : ℕ) (segment : Segment) → IsAscending p → segment.start < e → e ≤ p.count →
-    IsSteepSegment p eps segment e → SomeLineFits p eps segment.start e → IsServed p eps segment e
-IsServed-from_steep p eps e segment ascends some inside steep fits = record {
+pub IsFitted-from_steep : (p : Points) (eps e : ℕ) (segment : Segment) → IsAscending p → segment.start < e → e ≤ p.count →
+    IsSteepSegment p eps segment e → SomeLineFits p eps segment.start e → IsFitted p eps segment e
+IsFitted-from_steep p eps e segment ascends some inside steep fits = record {
   positive = subst (λ (line : Line). 0 < line.run) (sym steep.line) (line_of_pair-positive p eps segment.start e segment.a segment.b ascends some inside steep.pair);
   fits = segment_line_fits p eps e segment ascends some inside steep fits _;
 }

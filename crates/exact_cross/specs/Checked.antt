@@ -5,7 +5,7 @@ use Rattle.exact_cross.specs.declared.segment.Witness.{Witness}
 use Rattle.exact_cross.specs.declared.segment.Segment.{Segment}
 use Rattle.exact_cross.specs.Points.{Points}
 use Rattle.exact_cross.specs.Covers.{IsCover}
-use Rattle.exact_cross.specs.Segments.{starts_of, EachRun, IsServed}
+use Rattle.exact_cross.specs.Segments.{starts_of, EachRun, IsFitted}
 use Rattle.exact_cross.specs.Witnesses.{IsWitness}
 
 -- a line whose numbers are those that a segment's line can have
@@ -20,7 +20,7 @@ abbrev pub StartsRise : ℕ → ℕ → List ℕ → Type 0
 StartsRise from to [] = Unit {0}
 StartsRise from to (start ∷ later) = (from ≤ start) × (start < to) × StartsRise (start + 1) to later
 
--- a run that ends before `to` has a cut at its end whose three places lie from its start on and are served by no line
+-- a run that ends before `to` has a cut at its end whose three places lie from its start on and are fitted by no line
 pub record IsCutShort (p : Points) (eps to : ℕ) (segment : Segment) (e : ℕ) : Type 0 where
   pub last : e ≡ to → segment.cut ≡ None
   pub other : e < to → (w : Witness) × (segment.cut ≡ Some w) × IsWitness p eps w × (segment.start ≤ w.p) × (w.r ≡ e)
@@ -30,7 +30,7 @@ pub record AreChecked (p : Points) (eps : ℕ) (segments : List Segment) : Type 
   pub first : 0 < p.count → (segment : Segment) × (later : List Segment) × (segments ≡ segment ∷ later) × (segment.start ≡ 0)
   pub rise : StartsRise 0 p.count (starts_of segments)
   pub in_range : EachRun (λ segment e. IsInRange segment.line) p.count segments
-  pub served : EachRun (IsServed p eps) p.count segments
+  pub fitted : EachRun (IsFitted p eps) p.count segments
   pub cut : EachRun (IsCutShort p eps p.count) p.count segments
 
 -- a cover than which no cover has fewer runs

@@ -14,11 +14,11 @@ CutsInto R from to [] = from ≡ to
 CutsInto R from to (start ∷ later) =
     (start ≡ from) × (from < run_end later to) × R from (run_end later to) × CutsInto R (run_end later to) to later
 
--- a cover: runs that some line serves
+-- a cover: runs that some line fits
 abbrev pub IsCover : Points → ℕ → ℕ → ℕ → List ℕ → Type 0
 IsCover p eps from to starts = CutsInto (SomeLineFits p eps) from to starts
 
--- a run that some line serves, and no line serves it with the place after it
+-- a run that some line fits, and no line fits it with the place after it
 pub record IsLongest (p : Points) (eps to s e : ℕ) : Type 0 where
   pub fits : SomeLineFits p eps s e
   pub no_longer : e < to → SomeLineFits p eps s (e + 1) → ⊥

@@ -1,4 +1,4 @@
--- Lines, and which of them serve a run of places.
+-- Lines, and which of them fit a run of places.
 use Rattle.std.specs.Prelude.{ℕ, ◌*◌, ◌<◌, ◌≤◌, ℤ, pos, ◌+ℤ◌, ◌-ℤ◌, ◌*ℤ◌, unsigned_abs}
 use Rattle.exact_cross.specs.declared.line.Line.{Line}
 use Rattle.exact_cross.specs.Points.{Points}

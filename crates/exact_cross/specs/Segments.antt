@@ -21,6 +21,6 @@ pub record IsSteepSegment (p : Points) (eps : ℕ) (segment : Segment) (e : ℕ)
   pub line : segment.line ≡ line_of_pair p eps segment.a segment.b
 
 -- the segment's line is within eps at every place of its run
-pub record IsServed (p : Points) (eps : ℕ) (segment : Segment) (e : ℕ) : Type 0 where
+pub record IsFitted (p : Points) (eps : ℕ) (segment : Segment) (e : ℕ) : Type 0 where
   pub positive : 0 < segment.line.run
   pub fits : FitsRun p eps (rational segment.line positive) segment.start e

@@ -1,4 +1,4 @@
--- Three places that no line serves.
+-- Three places that no line fits.
 use Rattle.std.specs.Prelude.{ℕ, ◌+◌, ◌-◌, ◌<◌, pos, ◌+ℤ◌, ◌-ℤ◌, ◌*ℤ◌, ◌<ℤ◌}
 use Rattle.exact_cross.specs.declared.segment.Side.{Side}
 use Rattle.exact_cross.specs.declared.segment.Side.TheVariants.{Over, Under}

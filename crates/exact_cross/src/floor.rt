@@ -8,8 +8,8 @@ impl Line {
 
     /// The greatest whole number that isn't above the line at the key `q`, in ranks.
     ///
-    /// Exact for every key, also for one below `x0` and for ranks below 0: the height is taken times the line's run, in
-    /// 128 bits. This is what the line predicts for the key.
+    /// Exact for every key, also for one below `x0` and for ranks below 0: the height is taken
+    /// times the line's run, in 128 bits. This is what the line predicts for the key.
     /// Source: Ferragina and Vinciguerra, PVLDB 13(8), 2020, section 2.
     pub fn floor_at(&self, q: u64) -> i128
         requires in_range { IsInRange self.now }
@@ -38,7 +38,8 @@ mod tests {
         assert_eq!(rt; line.floor_at(q), floor);
     }
 
-    // The heights -1, -1 + 33/10, exactly 2, and left of the line's point -1 - 3/10 and -1 - 30/10; and the ends of the types.
+    // The heights -1, -1 + 33/10, exactly 2, and left of the line's point -1 - 3/10 and -1 - 30/10;
+    // and the ends of the types.
     #[test]
     fn floors(rt: HostRuntime) {
         let jump = Line {

@@ -1,11 +1,13 @@
-//! Slopes, lines and the plain types of a piecewise linear index, compared exactly by cross products.
+//! Slopes, lines and the plain types of a piecewise linear index, compared exactly by cross
+//! products.
 //!
-//! A key list stands for points: the key of rank `j` is the point `(key, j)`. A line serves a run of places within the
-//! error bound `ε` where it passes each of their points at a vertical distance of at most `ε`. Of the keys 0, 10, 11, 12
-//! no line passes all four points exactly, so with `ε = 0` two runs are needed, `0..2` and `2..4`.
+//! A key list stands for points: the key of rank `j` is the point `(key, j)`. A line fits a run of
+//! places within the error bound `ε` where it passes each of their points at a vertical distance of
+//! at most `ε`. Of the keys 0, 10, 11, 12 no line passes all four points exactly, so with `ε = 0`
+//! two runs are needed, `0..2` and `2..4`.
 //!
-//! The words of the clauses are in `specs/`: points, slopes, lines, covers, the steep and the flat pair, witnesses.
-//! No call takes memory.
+//! The words of the clauses are in `specs/`: points, slopes, lines, covers, the steep and the flat
+//! pair, witnesses. No call takes memory.
 #![tactic(auto)]
 
 mod floor;

@@ -2,8 +2,11 @@
 ghost use Rattle.std.specs.List.Sorted.{IsStrictlyIncreasing, IsNonDecreasing};
 ghost use Rattle.std.specs.Prelude.{◌≡◌, ◌<◌, ◌≤◌, ◌^◌, ◌↔◌, length, IsTrue};
 
-/// How far below rank 0 a line can start: the greatest error bound, [`MAX_EPSILON`](crate::MAX_EPSILON).
-const DEPTH: i64 = 1_048_576;
+use crate::MAX_EPSILON;
+
+/// How far below rank 0 a line can start: the greatest error bound,
+/// [`MAX_EPSILON`](crate::MAX_EPSILON).
+const DEPTH: i64 = MAX_EPSILON as i64;
 
 /// The line `y0 + rise * (x - x0) / run`: the rank that a segment predicts for the key `x`.
 #[derive(Clone, Copy, Debug, PartialEq, Eq)]
@@ -32,21 +35,24 @@ impl Line {
         self.run >= 1 && self.y0 >= -DEPTH && self.y0 < 1 << 32 && self.rise < (1 << 32) + (1 << 21)
     }
 
-    /// Whether the line is within `ε` at every place of `s..e`, exactly. An empty run has no such place.
+    /// Whether the line is within `ε` at every place of `s..e`, exactly. An empty run has no such
+    /// place.
     ///
-    /// The place `j` is the point `(xs[j], ys[j])`. `eps` is the error bound `ε`, in ranks: the line passes a place where
-    /// it is at most `ε` above or below the place's `y` at its `x`. It is compared times the line's run, in 128 bits, so
-    /// nothing is rounded.
+    /// The place `j` is the point `(xs[j], ys[j])`. `eps` is the error bound `ε`, in ranks: the
+    /// line passes a place where it is at most `ε` above or below the place's `y` at its `x`. It is
+    /// compared times the line's run, in 128 bits, so nothing is rounded.
     pub fn fits(&self, xs: &[u64], ys: &[u32], s: u32, e: u32, eps: u32) -> bool
         requires in_range { IsInRange self.now }
         requires same_length { length ys.now ≡ length xs.now }
         requires rising { IsStrictlyIncreasing xs.now }
         requires never_falls { IsNonDecreasing ys.now }
         requires few { length xs.now < 2 ^ 32 }
-        requires bounded { eps ≤ 1048576 }
+        requires bounded { eps ≤ MAX_EPSILON }
         requires range { s ≤ e }
         requires within { e ≤ length xs.now }
-        ensures exact { IsTrue result ↔ ((positive : 0 < self.now.run) × FitsRun (points_of xs.now ys.now) eps (rational self.now positive) s e) }
+        ensures exact { IsTrue result ↔
+            ((positive : 0 < self.now.run) × FitsRun (points_of xs.now ys.now) eps
+            (rational self.now positive) s e) }
     {
         for place in s..e {
             if !self.passes(xs, ys, place, eps) {
@@ -60,15 +66,18 @@ impl Line {
     fn passes(&self, xs: &[u64], ys: &[u32], place: u32, eps: u32) -> bool
         requires in_range { IsInRange self.now }
         requires same_length { length ys.now ≡ length xs.now }
-        requires bounded { eps ≤ 1048576 }
+        requires bounded { eps ≤ MAX_EPSILON }
         requires within { place < length xs.now }
-        ensures exact { IsTrue result ↔ ((positive : 0 < self.now.run) × IsWithin (points_of xs.now ys.now) eps (rational self.now positive) place) }
+        ensures exact { IsTrue result ↔
+            ((positive : 0 < self.now.run) × IsWithin (points_of xs.now ys.now) eps
+            (rational self.now positive) place) }
     {
         let rise = u128::from(self.rise);
         let run = u128::from(self.run);
         let x = u128::from(xs[place as usize]);
         let y = u128::from(ys[place as usize]);
-        // The heights of line and point at the x, times the run. Both are raised alike, so that none is below 0.
+        // The heights of line and point at the x, times the run. Both are raised alike, so that
+        // none is below 0.
         let line = rise * x + (self.y0 + DEPTH) as u128 * run;
         let point = rise * u128::from(self.x0) + (y + DEPTH as u128) * run;
         let slack = u128::from(eps) * run;
@@ -95,7 +104,8 @@ mod tests {
     }
 
     fn never_falls(ys: &[u32]) -> bool
-        ensures { IsTrue result → (k : ℕ) → k + 1 < length ys.now → slice_index ys.now k ≤ slice_index ys.now (k + 1) }
+        ensures { IsTrue result → (k : ℕ) → k + 1 < length ys.now → slice_index ys.now k
+            ≤ slice_index ys.now (k + 1) }
     {
         for i in 1..ys.len() {
             if ys[i - 1] > ys[i] {
@@ -139,7 +149,7 @@ mod tests {
 
     // The line's heights at the four x are -1, 2, 2.3 and 2.6.
     #[test]
-    fn serves(rt: HostRuntime) {
+    fn fits_exactly(rt: HostRuntime) {
         let jump: (&[u64], &[u32]) = (&[0, 10, 11, 12], &[0, 1, 2, 3]);
         let steep = line(0, -1, 3, 10);
         expect_fits(&rt, steep, jump, (0, 4), 1, true);

@@ -1,17 +1,17 @@
-// A segment: a run of places, the line that serves it, and what shows that no line goes on.
+// A segment: a run of places, the line that fits it, and what shows that no line goes on.
 
 use crate::Line;
 
-/// On which side of all lines that serve a run the next point lies.
+/// On which side of all lines that fit a run the next point lies.
 #[derive(Clone, Copy, Debug, PartialEq, Eq)]
 pub enum Side {
-    /// The point lies wholly above the steepest line that serves the run.
+    /// The point lies wholly above the steepest line that fits the run.
     Over,
-    /// The point lies wholly below the flattest line that serves the run.
+    /// The point lies wholly below the flattest line that fits the run.
     Under,
 }
 
-/// Three places that no line serves: a proof that a run had to end.
+/// Three places that no line fits: a proof that a run had to end.
 #[derive(Clone, Copy, Debug, PartialEq, Eq)]
 pub struct Witness {
     /// The first place of the pair in the run.
@@ -24,7 +24,8 @@ pub struct Witness {
     pub side: Side,
 }
 
-/// A segment of a piecewise linear index. Its run goes to the next segment's start, the last one's to the list's end.
+/// A segment of a piecewise linear index. Its run goes to the next segment's start, the last one's
+/// to the list's end.
 #[derive(Clone, Copy, Debug, PartialEq, Eq)]
 pub struct Segment {
     /// The first place of the run.

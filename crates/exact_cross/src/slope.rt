@@ -31,7 +31,8 @@ impl Slope {
 mod tests {
     use super::*;
 
-    // Fractions compared by hand: equal ones unreduced, ones between whole numbers, falling ones, and the ends of the types.
+    // Fractions compared by hand: equal ones unreduced, ones between whole numbers, falling ones,
+    // and the ends of the types.
     #[test]
     fn compares(rt: HostRuntime) {
         assert_eq!(rt;

@@ -114,8 +114,14 @@ IsUpperHull-grows q v v' t last e at kept right inside whole onward within kept_
         | inl before ↦
             let low_old : v at ≤ j = omega (arith, low, same at (omega (arith, kept_to.from_tangent))) in
             elim (cases_lt j (v kept)) [
-              | inr late ↦ inr (kept, kept_to.from_tangent, omega arith, omega (arith, same kept (omega arith)), omega (arith, new),
-                  rw (same kept (omega arith), new) (under_new_edge q v at last e kept right inside hull kept_to (last - kept) kept (omega (arith, kept_to.inside)) (omega arith) j late before))
+              | inr late ↦ inr (
+                kept,
+                kept_to.from_tangent,
+                omega arith,
+                omega (arith, same kept (omega arith)),
+                omega (arith, new),
+                rw (same kept (omega arith), new) (under_new_edge q v at last e kept right inside hull kept_to (last - kept) kept (omega (arith, kept_to.inside)) (omega arith) j late before),
+              )
               | inl early ↦ elim (hull.under j low_old before) [
                 | inl end ↦ absurd (omega (arith, end, early, place_rises q v at last e kept last hull kept_to.from_tangent kept_to.inside (omega arith)))
                 | inr edge ↦
@@ -124,8 +130,14 @@ IsUpperHull-grows q v v' t last e at kept right inside whole onward within kept_
                       | inl less ↦ less
                       | inr not_less ↦ absurd (omega (arith, edge.3, early, place_rises q v at last e kept k hull kept_to.from_tangent not_less (omega (arith, edge.2))))
                     ] in
-                    inr (k, edge.1, omega arith, omega (arith, same k (omega arith), edge.3), omega (arith, same (k + 1) (omega arith), edge.4),
-                    rw (same k (omega arith), same (k + 1) (omega arith)) edge.5)
+                    inr (
+                      k,
+                      edge.1,
+                      omega arith,
+                      omega (arith, same k (omega arith), edge.3),
+                      omega (arith, same (k + 1) (omega arith), edge.4),
+                      rw (same k (omega arith), same (k + 1) (omega arith)) edge.5,
+                    )
               ]
             ]
       ];

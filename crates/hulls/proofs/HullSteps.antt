@@ -111,9 +111,9 @@ IsTangent-from_walk : (q : Points) (eps s e lift at : ℕ) (hull : Hull) (next :
     IsTangent q eps (λ k. (vertex_at hull.vertices.items k).place) hull.tangent (length hull.vertices.items - 1) e at
 IsTangent-from_walk q eps s e lift at hull next is new twice onward inside falls stops =
     let slope : (k : ℕ) → hull.tangent ≤ k → k < length hull.vertices.items →
-        lifted_slope (vertex_at hull.vertices.items k) next lift ≡ steep_slope q eps (vertex_at hull.vertices.items k).place e = λ k low within.
-        lifted_is_steep q eps lift (vertex_at hull.vertices.items k) next (is.are_points k low within) new.point twice
-        ∙ ap (steep_slope q eps (vertex_at hull.vertices.items k).place) new.place in
+    lifted_slope (vertex_at hull.vertices.items k) next lift ≡ steep_slope q eps (vertex_at hull.vertices.items k).place e = λ k low within.
+    lifted_is_steep q eps lift (vertex_at hull.vertices.items k) next (is.are_points k low within) new.point twice
+    ∙ ap (steep_slope q eps (vertex_at hull.vertices.items k).place) new.place in
     record {
       onward = onward;
       inside = omega arith;

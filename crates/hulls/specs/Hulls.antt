@@ -1,5 +1,6 @@
 -- What two hulls stand for: a run of points, given place by place.
 use Rattle.std.specs.Prelude.{◌≡◌, ℕ, ◌+◌, ◌-◌, ◌^◌, ◌<◌, ◌≤◌, min, vec_capacity}
+use Rattle.exact_cross.specs.declared.TheConstants.{MAX_EPSILON}
 use Rattle.exact_cross.specs.declared.segment.Witness.{Witness}
 use Rattle.exact_cross.specs.Points.{Points, IsAscending}
 use Rattle.exact_cross.specs.Lines.{SomeLineFits}
@@ -35,7 +36,7 @@ pub record StandsFor (hulls : Hulls) (p : Points) (eps s e : ℕ) : Type 0 where
   pub inside : e ≤ p.count
   pub low : (j : ℕ) → s ≤ j → j < e → p.y j < 2 ^ 32
   pub bound : hulls.eps ≡ eps
-  pub bounded : eps ≤ 1048576
+  pub bounded : eps ≤ MAX_EPSILON
   pub fits : SomeLineFits p eps s e
   pub steep : IsHullOf p eps s e hulls.steep
   pub flat : IsHullOf (mirrored p) eps s e hulls.flat

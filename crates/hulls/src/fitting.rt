@@ -9,20 +9,21 @@ ghost use Rattle.hulls.specs.Hulls.{MatchOffer, mirrored, bound_of, room_of, spa
 use crate::hull::Hull;
 use crate::vertex::Vertex;
 use budget::{NoMemory, Steps};
-use exact_cross::{Line, Side, Witness};
+use exact_cross::{Line, MAX_EPSILON, Side, Witness};
 use std::alloc::Global;
 use std::sync::ledger::Ledger;
 
 /// The answer to a point that is offered.
 #[derive(Clone, Copy, Debug, PartialEq, Eq)]
 pub enum Offer {
-    /// Some line serves the run with the point, which belongs to the run from now on.
+    /// Some line fits the run with the point, which belongs to the run from now on.
     Extended,
     /// No line does, as the witness shows. The run is as before.
     Cut(Witness),
 }
 
-/// The lines within the error bound of a run of points, kept as the steepest and the flattest of them.
+/// The lines within the error bound of a run of points, kept as the steepest and the flattest of
+/// them.
 ///
 /// Source: O'Rourke, CACM 24(9), 1981.
 #[derive(Drop)]
@@ -38,14 +39,14 @@ pub struct Hulls {
 impl Hulls {
     /// No run yet, with room for `room` points of one run.
     ///
-    /// `eps` is the error bound `ε`. This call alone takes memory: `room` points of 16 bytes for each of the two hulls,
-    /// which aren't touched before they are used.
+    /// `eps` is the error bound `ε`. This call alone takes memory: `room` points of 16 bytes for
+    /// each of the two hulls, which aren't touched before they are used.
     ///
     /// # Errors
     ///
     /// `NoMemory` alone.
     pub fn new(alloc: Global, eps: u32, room: u32) -> Result<Hulls, NoMemory>
-        requires { eps ≤ 1048576 }
+        requires { eps ≤ MAX_EPSILON }
         ensures room { IfOk result (λ hulls. room_of hulls ≡ room) }
         ensures bound { IfOk result (λ hulls. bound_of hulls ≡ eps) }
         ensures spare { IfOk result (λ hulls. spare hulls ≡ 0) }
@@ -58,8 +59,9 @@ impl Hulls {
     /// Forgets all, and begins a run with the point `(x, y)` at `place`. Takes no step.
     pub fn start(&mut self, place: u32, x: u64, y: u32)
         requires room { 1 ≤ room_of self.old }
-        requires bounded { bound_of self.old ≤ 1048576 }
-        ensures stands { (p : Points) → IsAscending p → place < p.count → p.x place ≡ x → p.y place ≡ y → StandsFor self.new p (bound_of self.old) place (place + 1) }
+        requires bounded { bound_of self.old ≤ MAX_EPSILON }
+        ensures stands { (p : Points) → IsAscending p → place < p.count → p.x place ≡ x → p.y place
+            ≡ y → StandsFor self.new p (bound_of self.old) place (place + 1) }
         ensures spare { spare self.new ≡ 0 }
         ensures room { room_of self.old ≤ room_of self.new }
         ensures bound { bound_of self.new ≡ bound_of self.old }
@@ -76,24 +78,31 @@ impl Hulls {
         });
     }
 
-    /// Whether some line serves the run with its next point `(x, y)`, exactly, and if so takes the point in.
+    /// Whether some line fits the run with its next point `(x, y)`, exactly, and if so takes the
+    /// point in.
     ///
-    /// A step is a comparison of two slopes or a test of the point against a line. A point that no line serves is answered
-    /// with the run's witness, after at most two steps: the steep pair and the point, where it lies above every line that
-    /// serves the run, and else the flat pair and the point, below every such line. A point that is taken in takes at most
-    /// 12 steps, and as many more as fewer points are [spare](Self) afterwards. Takes no memory.
+    /// A step is a comparison of two slopes or a test of the point against a line. A point that no
+    /// line fits is answered with the run's witness, after at most two steps: the steep pair and
+    /// the point, where it lies above every line that fits the run, and else the flat pair and the
+    /// point, below every such line. A point that is taken in takes at most 12 steps, and as many
+    /// more as fewer points are [spare](Self) afterwards. Takes no memory.
     ///
     /// Source: O'Rourke, CACM 24(9), 1981.
     pub fn offer<L: Ledger>(&mut self, x: u64, y: u32, steps: &mut Steps<L>) -> Offer
-        requires { (p : Points) × (eps : ℕ) × (s : ℕ) × (e : ℕ) × IsNext self.old p eps s e x y × (e < 2 ^ 32) × (e < s + room_of self.old) }
+        requires { (p : Points) × (eps : ℕ) × (s : ℕ) × (e : ℕ) × IsNext self.old p eps s e x y ×
+            (e < 2 ^ 32) × (e < s + room_of self.old) }
         ensures fits { MatchOffer result
-            ((p : Points) (eps s e : ℕ) → IsNext self.old p eps s e x y → SomeLineFits p eps s (e + 1))
-            (λ _. (p : Points) (eps s e : ℕ) → IsNext self.old p eps s e x y → SomeLineFits p eps s (e + 1) → ⊥) }
+            ((p : Points) (eps s e : ℕ) → IsNext self.old p eps s e x y → SomeLineFits p eps s
+            (e + 1))
+            (λ _. (p : Points) (eps s e : ℕ) → IsNext self.old p eps s e x y → SomeLineFits p eps s
+            (e + 1) → ⊥) }
         ensures stands { MatchOffer result
-            ((p : Points) (eps s e : ℕ) → IsNext self.old p eps s e x y → StandsFor self.new p eps s (e + 1))
+            ((p : Points) (eps s e : ℕ) → IsNext self.old p eps s e x y →
+            StandsFor self.new p eps s (e + 1))
             (λ _. self.new ≡ self.old) }
         ensures witness { MatchOffer result (Unit {0})
-            (λ w. (p : Points) (eps s e : ℕ) → IsNext self.old p eps s e x y → IsCutOf p eps s e w) }
+            (λ w. (p : Points) (eps s e : ℕ) → IsNext self.old p eps s e x y →
+            IsCutOf p eps s e w) }
         ensures cost { MatchOffer result
             (steps.new + spare self.new ≤ steps.old + spare self.old + 12)
             (λ _. steps.new ≤ steps.old + 2) }
@@ -125,11 +134,14 @@ impl Hulls {
 
     /// The steep pair of the run and its line.
     ///
-    /// Of a run of one point it is the point's place twice, and the level line through the point. Takes no step.
+    /// Of a run of one point it is the point's place twice, and the level line through the point.
+    /// Takes no step.
     pub fn line(&self) -> (u32, u32, Line)
         requires { (p : Points) × (eps : ℕ) × (s : ℕ) × (e : ℕ) × StandsFor self.now p eps s e }
-        ensures pair { (p : Points) (eps s e : ℕ) → StandsFor self.now p eps s e → IsSteepOf p eps s e result.0 result.1 }
-        ensures line { (p : Points) (eps s e : ℕ) → StandsFor self.now p eps s e → result.2 ≡ line_of_pair p eps result.0 result.1 }
+        ensures pair { (p : Points) (eps s e : ℕ) → StandsFor self.now p eps s e →
+            IsSteepOf p eps s e result.0 result.1 }
+        ensures line { (p : Points) (eps s e : ℕ) → StandsFor self.now p eps s e → result.2
+            ≡ line_of_pair p eps result.0 result.1 }
     {
         let low = self.steep.lower();
         let b = self.steep.upper();

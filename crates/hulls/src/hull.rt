@@ -11,11 +11,12 @@ use crate::search::{kept_before, tangent_to};
 use crate::slope::CountedSlope;
 use crate::vertex::Vertex;
 use budget::{NoMemory, Steps};
-use exact_cross::{Side, Slope, Witness};
+use exact_cross::{MAX_EPSILON, Side, Slope, Witness};
 use std::alloc::Global;
 use std::sync::ledger::Ledger;
 
-/// The steep pair of a run of points, and the upper hull of the points from the pair's lower place on.
+/// The steep pair of a run of points, and the upper hull of the points from the pair's lower place
+/// on.
 ///
 /// For the flat pair the points are turned upside down, so that both are found by the same code.
 #[derive(Drop)]
@@ -49,7 +50,8 @@ impl Hull {
     /// Begins a run with its first point.
     pub fn start(&mut self, first: Vertex)
         requires { 1 ≤ vec_capacity self.old.vertices }
-        ensures hull { (q : Points) (eps : ℕ) → IsVertexOf q first → IsHullOf q eps first.place (first.place + 1) self.new }
+        ensures hull { (q : Points) (eps : ℕ) → IsVertexOf q first → IsHullOf q eps first.place
+            (first.place + 1) self.new }
         ensures spare { spare_of self.new ≡ 0 }
         ensures capacity { vec_capacity self.old.vertices ≤ vec_capacity self.new.vertices }
     {
@@ -62,7 +64,8 @@ impl Hull {
 
     /// The place after the last point's.
     pub fn next_place(&self) -> u32
-        requires { (q : Points) × (eps : ℕ) × (s : ℕ) × (e : ℕ) × IsHullOf q eps s e self.now × (e < 2 ^ 32) }
+        requires { (q : Points) × (eps : ℕ) × (s : ℕ) × (e : ℕ) × IsHullOf q eps s e self.now ×
+            (e < 2 ^ 32) }
         ensures { (q : Points) (eps s e : ℕ) → IsHullOf q eps s e self.now → result ≡ e }
     {
         self.vertices[self.vertices.len() - 1].place + 1
@@ -93,7 +96,8 @@ impl Hull {
     /// The pair with the place before which the run ends.
     pub fn cut_before(&self, place: u32, side: Side) -> Witness
         requires { self.now.tangent < length self.now.vertices.items }
-        ensures { result ≡ record { p = lower_of self.now; q = self.now.upper; r = place; side = side } }
+        ensures { result
+            ≡ record { p = lower_of self.now; q = self.now.upper; r = place; side = side } }
     {
         Witness {
             p: self.lower().place,
@@ -105,10 +109,13 @@ impl Hull {
 
     /// Whether the next point lies above the line of the pair.
     pub fn is_over<L: Ledger>(&self, next: Vertex, steps: &mut Steps<L>) -> bool
-        requires { (q : Points) × (eps : ℕ) × (s : ℕ) × (e : ℕ) × IsHullOf q eps s e self.now × IsNextVertex q e next }
-        ensures over { OnTrue result ((q : Points) (eps s e : ℕ) → IsHullOf q eps s e self.now → IsNextVertex q e next
+        requires { (q : Points) × (eps : ℕ) × (s : ℕ) × (e : ℕ) × IsHullOf q eps s e self.now ×
+            IsNextVertex q e next }
+        ensures over { OnTrue result
+            ((q : Points) (eps s e : ℕ) → IsHullOf q eps s e self.now → IsNextVertex q e next
             → IsUnderLine q (lower_of self.now) self.now.slope.slope e → ⊥) }
-        ensures not_over { OnFalse result ((q : Points) (eps s e : ℕ) → IsHullOf q eps s e self.now → IsNextVertex q e next
+        ensures not_over { OnFalse result
+            ((q : Points) (eps s e : ℕ) → IsHullOf q eps s e self.now → IsNextVertex q e next
             → IsUnderLine q (lower_of self.now) self.now.slope.slope e) }
         ensures step { steps.new ≡ steps.old + 1 }
     {
@@ -122,11 +129,15 @@ impl Hull {
     ///
     /// `lift` is twice the error bound.
     pub fn extend<L: Ledger>(&mut self, next: Vertex, lift: u32, steps: &mut Steps<L>)
-        requires next { (q : Points) × (eps : ℕ) × (s : ℕ) × (e : ℕ) × IsHullOf q eps s e self.old × IsNextVertex q e next
-            × (lift ≡ 2 * eps) × (eps ≤ 1048576) × IsUnderLine q (lower_of self.old) self.old.slope.slope e }
+        requires next { (q : Points) × (eps : ℕ) × (s : ℕ) × (e : ℕ) × IsHullOf q eps s e self.old
+            × IsNextVertex q e next
+            × (lift ≡ 2 * eps) × (eps ≤ MAX_EPSILON) × IsUnderLine q
+            (lower_of self.old) self.old.slope.slope e }
         requires room { length self.old.vertices.items < vec_capacity self.old.vertices }
-        ensures hull { (q : Points) (eps s e : ℕ) → IsHullOf q eps s e self.old → IsNextVertex q e next → lift ≡ 2 * eps → eps ≤ 1048576
-            → IsUnderLine q (lower_of self.old) self.old.slope.slope e → IsHullOf q eps s (e + 1) self.new }
+        ensures hull { (q : Points) (eps s e : ℕ) → IsHullOf q eps s e self.old →
+            IsNextVertex q e next → lift ≡ 2 * eps → eps ≤ MAX_EPSILON
+            → IsUnderLine q (lower_of self.old) self.old.slope.slope e → IsHullOf q eps s
+            (e + 1) self.new }
         ensures cost { steps.new + spare_of self.new ≤ steps.old + spare_of self.old + 4 }
         ensures capacity { vec_capacity self.old.vertices ≤ vec_capacity self.new.vertices }
     {
@@ -136,9 +147,12 @@ impl Hull {
 
     /// Finds the pair of the run with the next point.
     fn turn_to<L: Ledger>(&mut self, next: Vertex, lift: u32, steps: &mut Steps<L>)
-        requires { (q : Points) × (eps : ℕ) × (s : ℕ) × (e : ℕ) × IsHullOf q eps s e self.old × IsNextVertex q e next × (lift ≡ 2 * eps) × (eps ≤ 1048576) }
-        ensures pair { (q : Points) (eps s e : ℕ) → IsHullOf q eps s e self.old → IsNextVertex q e next → lift ≡ 2 * eps → eps ≤ 1048576
-            → IsUnderLine q (lower_of self.old) self.old.slope.slope e → IsHullUpTo q eps s e (e + 1) self.new }
+        requires { (q : Points) × (eps : ℕ) × (s : ℕ) × (e : ℕ) × IsHullOf q eps s e self.old ×
+            IsNextVertex q e next × (lift ≡ 2 * eps) × (eps ≤ MAX_EPSILON) }
+        ensures pair { (q : Points) (eps s e : ℕ) → IsHullOf q eps s e self.old →
+            IsNextVertex q e next → lift ≡ 2 * eps → eps ≤ MAX_EPSILON
+            → IsUnderLine q (lower_of self.old) self.old.slope.slope e → IsHullUpTo q eps s e
+            (e + 1) self.new }
         ensures vertices { self.new.vertices ≡ self.old.vertices }
         ensures onward { self.old.tangent ≤ self.new.tangent }
         ensures inside { self.new.tangent < length self.new.vertices.items }
@@ -155,11 +169,14 @@ impl Hull {
 
     /// Puts the next point on the hull, and takes off what it covers.
     fn cover<L: Ledger>(&mut self, next: Vertex, steps: &mut Steps<L>)
-        requires next { (q : Points) × (eps : ℕ) × (s : ℕ) × (e : ℕ) × IsHullUpTo q eps s e (e + 1) self.old × IsNextVertex q e next }
+        requires next { (q : Points) × (eps : ℕ) × (s : ℕ) × (e : ℕ) × IsHullUpTo q eps s e
+            (e + 1) self.old × IsNextVertex q e next }
         requires room { length self.old.vertices.items < vec_capacity self.old.vertices }
-        ensures hull { (q : Points) (eps s e : ℕ) → IsHullUpTo q eps s e (e + 1) self.old → IsNextVertex q e next → IsHullOf q eps s (e + 1) self.new }
+        ensures hull { (q : Points) (eps s e : ℕ) → IsHullUpTo q eps s e (e + 1) self.old →
+            IsNextVertex q e next → IsHullOf q eps s (e + 1) self.new }
         ensures tangent { self.new.tangent ≡ self.old.tangent }
-        ensures cost { steps.new + length self.new.vertices.items ≤ steps.old + length self.old.vertices.items + 2 }
+        ensures cost { steps.new + length self.new.vertices.items
+            ≤ steps.old + length self.old.vertices.items + 2 }
         ensures capacity { vec_capacity self.old.vertices ≤ vec_capacity self.new.vertices }
     {
         let kept = kept_before(&self.vertices, self.tangent, next, steps);

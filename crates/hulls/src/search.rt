@@ -1,4 +1,5 @@
-// The two searches on a hull: for the tangent to a new point, and for the vertices that stay under it.
+// The two searches on a hull: for the tangent to a new point, and for the vertices that stay under
+// it.
 ghost use Rattle.std.specs.Prelude.{◌≡◌, ℕ, ◌+◌, ◌<◌, ◌≤◌, length};
 ghost use Rattle.exact_cross.specs.Slopes.{IsAtMost};
 ghost use Rattle.hulls.specs.Vertices.{vertex_at, lifted_slope, AreLeftOf, IsNoTurn};
@@ -28,11 +29,14 @@ pub fn tangent_to<L: Ledger>(
     requires lift { lift ≤ 2097152 }
     ensures onward { from ≤ result.vertex }
     ensures inside { result.vertex < length vertices.now }
-    ensures slope { result.slope.slope ≡ lifted_slope (vertex_at vertices.now result.vertex) next lift }
+    ensures slope { result.slope.slope ≡ lifted_slope
+        (vertex_at vertices.now result.vertex) next lift }
     ensures falls { (k : ℕ) → from ≤ k → k < result.vertex
-        → IsAtMost (lifted_slope (vertex_at vertices.now k) next lift) (lifted_slope (vertex_at vertices.now (k + 1)) next lift) → ⊥ }
+        → IsAtMost (lifted_slope (vertex_at vertices.now k) next lift)
+        (lifted_slope (vertex_at vertices.now (k + 1)) next lift) → ⊥ }
     ensures stops { result.vertex + 1 < length vertices.now
-        → IsAtMost (lifted_slope (vertex_at vertices.now result.vertex) next lift) (lifted_slope (vertex_at vertices.now (result.vertex + 1)) next lift) }
+        → IsAtMost (lifted_slope (vertex_at vertices.now result.vertex) next lift)
+        (lifted_slope (vertex_at vertices.now (result.vertex + 1)) next lift) }
     ensures cost { steps.new + from ≤ steps.old + result.vertex + 1 }
 {
     let mut vertex = from;
@@ -50,7 +54,8 @@ pub fn tangent_to<L: Ledger>(
 
 /// How many vertices stay where the next point comes on the hull.
 ///
-/// From the end on, those go from which it is straight on to the next point or up. The tangent's vertex stays.
+/// From the end on, those go from which it is straight on to the next point or up. The tangent's
+/// vertex stays.
 pub fn kept_before<L: Ledger>(
     vertices: &[Vertex],
     tangent: usize,
@@ -61,8 +66,10 @@ pub fn kept_before<L: Ledger>(
     requires left { AreLeftOf vertices.now tangent next }
     ensures some { tangent < result }
     ensures inside { result ≤ length vertices.now }
-    ensures dropped { (k : ℕ) → result ≤ k + 1 → k + 1 < length vertices.now → IsNoTurn (vertex_at vertices.now k) (vertex_at vertices.now (k + 1)) next }
-    ensures turns { (k : ℕ) → tangent ≤ k → k + 2 ≡ result → IsNoTurn (vertex_at vertices.now k) (vertex_at vertices.now (k + 1)) next → ⊥ }
+    ensures dropped { (k : ℕ) → result ≤ k + 1 → k + 1 < length vertices.now → IsNoTurn
+        (vertex_at vertices.now k) (vertex_at vertices.now (k + 1)) next }
+    ensures turns { (k : ℕ) → tangent ≤ k → k + 2 ≡ result → IsNoTurn (vertex_at vertices.now k)
+        (vertex_at vertices.now (k + 1)) next → ⊥ }
     ensures cost { steps.new + result ≤ steps.old + length vertices.now + 1 }
 {
     let mut kept = vertices.len();

@@ -17,8 +17,8 @@ use std::alloc::Global;
 ///
 /// # Errors
 ///
-/// `Refused` with the refusal that the first bad input gives, and with `ReadFault` where a call on the files failed.
-/// `NoMemory` where memory wasn't found.
+/// `Refused` with the refusal that the first bad input gives, and with `ReadFault` where a call on
+/// the files failed. `NoMemory` where memory wasn't found.
 pub fn read<F: Shelf>(alloc: Global, files: &mut F, request: Request<'_>) -> Result<Task, Stopped>
     ensures answer { Answers (reads (F.files files.old) (asked_of request.entry)) task_of
         (F.faults files.old) (F.faults files.new) result }
@@ -40,7 +40,8 @@ pub fn read<F: Shelf>(alloc: Global, files: &mut F, request: Request<'_>) -> Res
 fn sorted_keys<F: Shelf>(alloc: Global, files: &mut F, name: &str) -> Result<SortedKeys, Stopped>
     ensures answer { Answers (reads_keys (F.files files.old) name.now) (λ sorted. sorted.keys.items)
         (F.faults files.old) (F.faults files.new) result }
-    ensures missing { IsMissing (F.files files.old) name.now → result ≡ Err (Stopped.Refused Refusal.ReadFault) }
+    ensures missing { IsMissing (F.files files.old) name.now → result ≡ Err
+        (Stopped.Refused Refusal.ReadFault) }
 {
     match files.take_file(name) {
         Ok(()) => {}

@@ -22,8 +22,9 @@ use written::Unfinished;
 
 /// Does what the words ask for, and writes the answer's text.
 ///
-/// `words` begins with the program's name. All reading is done before anything is written. Each text line is handed to the
-/// sink as one piece, and what it left of it again. Returns the status that the program ends with.
+/// `words` begins with the program's name. All reading is done before anything is written. Each
+/// text line is handed to the sink as one piece, and what it left of it again. Returns the status
+/// that the program ends with.
 pub fn run<R: AllocGlobal, F: Shelf, S: Sink, G: Gate>(
     rt: &R,
     words: &[String],
@@ -31,30 +32,38 @@ pub fn run<R: AllocGlobal, F: Shelf, S: Sink, G: Gate>(
     out: &mut S,
     gate: &G,
 ) -> Status
-    // Done: the sink gained exactly a text that the words and the files define, and no fault was counted.
+    // Done: the sink gained exactly a text that the words and the files define, and no fault was
+    // counted.
     ensures done { result ≡ Status.Done → (pieces : List (List ℕ))
-        × IsOutcome (F.files files.old) (map string_bytes words.now) (text pieces) × Writes S.Sink out.old out.new pieces }
+        × IsOutcome (F.files files.old) (map string_bytes words.now) (text pieces) ×
+        Writes S.Sink out.old out.new pieces }
     ensures unfaulted { result ≡ Status.Done → F.faults files.new ≡ F.faults files.old }
 
     // WriteFault: a call of the sink failed, and a front part of such a text stands.
     ensures broke_off { result ≡ Status.WriteFault → (pieces : List (List ℕ))
-        × IsOutcome (F.files files.old) (map string_bytes words.now) (text pieces) × BreaksOff S.Sink out.old out.new pieces }
+        × IsOutcome (F.files files.old) (map string_bytes words.now) (text pieces) ×
+        BreaksOff S.Sink out.old out.new pieces }
 
     // NoMemory: nothing was handed over.
     ensures no_memory { result ≡ Status.NoMemory → out.new ≡ out.old }
 
-    // Any other status: a refusal that has a cause wrote its one text line, or a front part of it where the sink failed.
-    ensures refused { (result ≡ Status.Done) ⊎ (result ≡ Status.WriteFault) ⊎ (result ≡ Status.NoMemory)
+    // Any other status: a refusal that has a cause wrote its one text line, or a front part of it
+    // where the sink failed.
+    ensures refused { (result ≡ Status.Done) ⊎ (result ≡ Status.WriteFault) ⊎
+        (result ≡ Status.NoMemory)
         ⊎ ((refusal : Refusal) × (result ≡ status_of refusal)
-        × IsCause (F.files files.old) (map string_bytes words.now) (F.faults files.old) (F.faults files.new) refusal
+        × IsCause (F.files files.old) (map string_bytes words.now) (F.faults files.old)
+        (F.faults files.new) refusal
         × WritesUntilFault S.Sink out.old out.new (refusal_line refusal ∷ [])) }
 
-    // Where files are told, what they and the words define comes, or memory ran out, or a call on them failed.
+    // Where files are told, what they and the words define comes, or memory ran out, or a call on
+    // them failed.
     ensures wherever { IsSome (F.files files.old) → (defined : Result Task Refusal)
         → Defines (F.files files.old) (map string_bytes words.now) defined
         → EndsAs defined result ⊎ (result ≡ Status.NoMemory) ⊎ (result ≡ Status.ReadFault) }
 
-    // ReadFault: wherever a call on the files failed, and where the first file is told not to be there.
+    // ReadFault: wherever a call on the files failed, and where the first file is told not to be
+    // there.
     ensures read_faulted { F.faults files.old < F.faults files.new → result ≡ Status.ReadFault }
     ensures missing { (request : Request) → request_of (map string_bytes words.now) ≡ Some request
         → IsMissing (F.files files.old) (first_file request) → result ≡ Status.ReadFault }

@@ -14,7 +14,6 @@ use Rattle.exact_cross.specs.Cuts.{CutsAt, IsCutOf, HasItsCut}
 use Rattle.exact_cross.proofs.CallerLemmas.{IsSteepPair-unique, IsFlatPair-unique, IsGreedy-unique, CutsInto-rises}
 use Rattle.segmenter.specs.Segmentation.{IsSegmentation}
 
-
 -- a run has one cut on one side
 cuts_agree : (p : Points) (eps s e : ℕ) (side side' : Side) (a b a' b' : ℕ) → CutsAt p eps s e side a b → CutsAt p eps s e side' a' b' →
     (a ≡ a') × (b ≡ b') × (side ≡ side')

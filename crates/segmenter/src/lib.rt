@@ -1,12 +1,12 @@
 //! The greedy segmentation of points: as few segments as lines can do.
 //!
-//! The points are cut from the left, and each run is as long as some line is within the error bound `ε` at all its places.
-//! Of the keys 0, 1, 2, 10, each at the height of its rank, with `ε = 0` the runs are `0..3`, on the line through 0 and 1,
-//! and `3..4`. Each run but the last keeps why it ends: no line serves the places 0, 1 and 3, since the key 10 lies under
-//! the line through 0 and 1.
+//! The points are cut from the left, and each run is as long as some line is within the error bound
+//! `ε` at all its places. Of the keys 0, 1, 2, 10, each at the height of its rank, with `ε = 0` the
+//! runs are `0..3`, on the line through 0 and 1, and `3..4`. Each run but the last keeps why it
+//! ends: no line fits the places 0, 1 and 3, since the key 10 lies under the line through 0 and 1.
 //!
-//! Main clauses: `greedy`, `cuts` and `least` of [`segment`], and `cost` of [`segment_counted`]: at most 12 steps a point.
-//! The words of the clauses are those of `exact_cross`.
+//! Main clauses: `greedy`, `cuts` and `least` of [`segment`], and `cost` of [`segment_counted`]: at
+//! most 12 steps a point. The words of the clauses are those of `exact_cross`.
 #![tactic(auto)]
 
 ghost use Rattle.std.specs.List.Sorted.{IsStrictlyIncreasing, IsNonDecreasing};
@@ -14,7 +14,7 @@ ghost use Rattle.std.specs.Prelude.{◌≡◌, ℕ, ◌+◌, ◌-◌, ◌*◌, �
 ghost use Rattle.exact_cross.specs.declared.segment.Segment.{Segment};
 ghost use Rattle.exact_cross.specs.Points.{Points, IsAscending, points_of};
 ghost use Rattle.exact_cross.specs.Covers.{IsGreedy};
-ghost use Rattle.exact_cross.specs.Segments.{starts_of, EachRun, IsSteepSegment, IsServed};
+ghost use Rattle.exact_cross.specs.Segments.{starts_of, EachRun, IsSteepSegment, IsFitted};
 ghost use Rattle.exact_cross.specs.Cuts.{HasItsCut};
 ghost use Rattle.exact_cross.specs.Checked.{IsLeastCover, AreChecked};
 ghost use Rattle.segmenter.specs.Segmentation.{IsSegmentation};
@@ -22,7 +22,7 @@ ghost use Rattle.segmenter.specs.Segmentation.{IsSegmentation};
 mod run;
 
 use budget::{NoMemory, Steps};
-use exact_cross::Segment;
+use exact_cross::{MAX_EPSILON, Segment};
 use hulls::Hulls;
 use run::longest_run;
 use std::alloc::Global;
@@ -31,15 +31,16 @@ use std::sync::ledger::{Blank, Ledger};
 
 /// The greedy segments of the places `from..to` of points, with places as in the whole list.
 ///
-/// The place `j` is the point `(xs[j], ys[j])`, and `eps` the error bound `ε`. Each segment has the steep pair of its run and
-/// that pair's line, which serves the run. Each but the last has a cut, three places that no line serves: those of the steep
-/// pair and the next run's start where this lies over all lines of the run, and those of the flat pair and it where it
-/// lies under them. An empty range has no segment. It takes the steps of [`segment_counted`], and counts nothing.
+/// The place `j` is the point `(xs[j], ys[j])`, and `eps` the error bound `ε`. Each segment has the
+/// steep pair of its run and that pair's line, which fits the run. Each but the last has a cut,
+/// three places that no line fits: those of the steep pair and the next run's start where this lies
+/// over all lines of the run, and those of the flat pair and it where it lies under them. An empty
+/// range has no segment. It takes the steps of [`segment_counted`], and counts nothing.
 ///
 /// # Errors
 ///
-/// `NoMemory` alone, where the list of segments or the two hulls find none. The hulls ask for 32 bytes a point, once for
-/// the whole range, and touch as much as the longest hulls of a run take.
+/// `NoMemory` alone, where the list of segments or the two hulls find none. The hulls ask for 32
+/// bytes a point, once for the whole range, and touch as much as the longest hulls of a run take.
 ///
 /// Source: Ferragina and Vinciguerra, PVLDB 13(8), 2020, section 3.1; O'Rourke, CACM 24(9), 1981.
 pub fn segment(
@@ -54,17 +55,25 @@ pub fn segment(
     requires rising { IsStrictlyIncreasing xs.now }
     requires never_falls { IsNonDecreasing ys.now }
     requires few { length xs.now < 2 ^ 32 }
-    requires bounded { eps ≤ 1048576 }
+    requires bounded { eps ≤ MAX_EPSILON }
     requires range { from ≤ to }
     requires within { to ≤ length xs.now }
-    ensures greedy { IfOk result (λ segments. IsGreedy (points_of xs.now ys.now) eps from to (starts_of segments.items)) }
-    ensures steep { IfOk result (λ segments. EachRun (IsSteepSegment (points_of xs.now ys.now) eps) to segments.items) }
-    ensures served { IfOk result (λ segments. EachRun (IsServed (points_of xs.now ys.now) eps) to segments.items) }
-    ensures cuts { IfOk result (λ segments. EachRun (HasItsCut (points_of xs.now ys.now) eps to) to segments.items) }
+    ensures greedy { IfOk result
+        (λ segments. IsGreedy (points_of xs.now ys.now) eps from to (starts_of segments.items)) }
+    ensures steep { IfOk result
+        (λ segments. EachRun (IsSteepSegment (points_of xs.now ys.now) eps) to segments.items) }
+    ensures fitted { IfOk result
+        (λ segments. EachRun (IsFitted (points_of xs.now ys.now) eps) to segments.items) }
+    ensures cuts { IfOk result
+        (λ segments. EachRun (HasItsCut (points_of xs.now ys.now) eps to) to segments.items) }
     // No cover of the range has fewer runs.
-    ensures least { IfOk result (λ segments. IsLeastCover (points_of xs.now ys.now) eps from to (starts_of segments.items)) }
+    ensures least { IfOk result
+        (λ segments. IsLeastCover (points_of xs.now ys.now) eps from to
+        (starts_of segments.items)) }
     // Segments of the whole list show by themselves that they are as few as lines can do.
-    ensures checked { IfOk result (λ segments. from ≡ 0 → to ≡ length xs.now → AreChecked (points_of xs.now ys.now) eps segments.items) }
+    ensures checked { IfOk result
+        (λ segments. from ≡ 0 → to ≡ length xs.now → AreChecked
+        (points_of xs.now ys.now) eps segments.items) }
 {
     segment_from::<Brand>(alloc, xs, ys, eps, from, to, Blank::new(1))
 }
@@ -89,17 +98,25 @@ pub fn segment_counted<L: Ledger>(
     requires rising { IsStrictlyIncreasing xs.now }
     requires never_falls { IsNonDecreasing ys.now }
     requires few { length xs.now < 2 ^ 32 }
-    requires bounded { eps ≤ 1048576 }
+    requires bounded { eps ≤ MAX_EPSILON }
     requires range { from ≤ to }
     requires within { to ≤ length xs.now }
-    ensures greedy { IfOk result (λ segments. IsGreedy (points_of xs.now ys.now) eps from to (starts_of segments.items)) }
-    ensures steep { IfOk result (λ segments. EachRun (IsSteepSegment (points_of xs.now ys.now) eps) to segments.items) }
-    ensures served { IfOk result (λ segments. EachRun (IsServed (points_of xs.now ys.now) eps) to segments.items) }
-    ensures cuts { IfOk result (λ segments. EachRun (HasItsCut (points_of xs.now ys.now) eps to) to segments.items) }
+    ensures greedy { IfOk result
+        (λ segments. IsGreedy (points_of xs.now ys.now) eps from to (starts_of segments.items)) }
+    ensures steep { IfOk result
+        (λ segments. EachRun (IsSteepSegment (points_of xs.now ys.now) eps) to segments.items) }
+    ensures fitted { IfOk result
+        (λ segments. EachRun (IsFitted (points_of xs.now ys.now) eps) to segments.items) }
+    ensures cuts { IfOk result
+        (λ segments. EachRun (HasItsCut (points_of xs.now ys.now) eps to) to segments.items) }
     // No cover of the range has fewer runs.
-    ensures least { IfOk result (λ segments. IsLeastCover (points_of xs.now ys.now) eps from to (starts_of segments.items)) }
+    ensures least { IfOk result
+        (λ segments. IsLeastCover (points_of xs.now ys.now) eps from to
+        (starts_of segments.items)) }
     // Segments of the whole list show by themselves that they are as few as lines can do.
-    ensures checked { IfOk result (λ segments. from ≡ 0 → to ≡ length xs.now → AreChecked (points_of xs.now ys.now) eps segments.items) }
+    ensures checked { IfOk result
+        (λ segments. from ≡ 0 → to ≡ length xs.now → AreChecked
+        (points_of xs.now ys.now) eps segments.items) }
     ensures cost { steps.new ≤ steps.old + 12 * (to - from) }
 {
     let mut segments = Vec::new(alloc);
@@ -127,31 +144,36 @@ fn segment_from<L: Ledger>(
     requires rising { IsStrictlyIncreasing xs.now }
     requires never_falls { IsNonDecreasing ys.now }
     requires few { length xs.now < 2 ^ 32 }
-    requires bounded { eps ≤ 1048576 }
+    requires bounded { eps ≤ MAX_EPSILON }
     requires range { from ≤ to }
     requires within { to ≤ length xs.now }
     requires name { blank.name ≡ L.name }
     requires parts { blank.parts ≡ L.parts }
     requires one { blank.parts ≡ 1 }
-    ensures greedy { IfOk result (λ segments. IsGreedy (points_of xs.now ys.now) eps from to (starts_of segments.items)) }
-    ensures steep { IfOk result (λ segments. EachRun (IsSteepSegment (points_of xs.now ys.now) eps) to segments.items) }
-    ensures served { IfOk result (λ segments. EachRun (IsServed (points_of xs.now ys.now) eps) to segments.items) }
-    ensures cuts { IfOk result (λ segments. EachRun (HasItsCut (points_of xs.now ys.now) eps to) to segments.items) }
+    ensures greedy { IfOk result
+        (λ segments. IsGreedy (points_of xs.now ys.now) eps from to (starts_of segments.items)) }
+    ensures steep { IfOk result
+        (λ segments. EachRun (IsSteepSegment (points_of xs.now ys.now) eps) to segments.items) }
+    ensures fitted { IfOk result
+        (λ segments. EachRun (IsFitted (points_of xs.now ys.now) eps) to segments.items) }
+    ensures cuts { IfOk result
+        (λ segments. EachRun (HasItsCut (points_of xs.now ys.now) eps to) to segments.items) }
     // No cover of the range has fewer runs.
-    ensures least { IfOk result (λ segments. IsLeastCover (points_of xs.now ys.now) eps from to (starts_of segments.items)) }
+    ensures least { IfOk result
+        (λ segments. IsLeastCover (points_of xs.now ys.now) eps from to
+        (starts_of segments.items)) }
     // Segments of the whole list show by themselves that they are as few as lines can do.
-    ensures checked { IfOk result (λ segments. from ≡ 0 → to ≡ length xs.now → AreChecked (points_of xs.now ys.now) eps segments.items) }
+    ensures checked { IfOk result
+        (λ segments. from ≡ 0 → to ≡ length xs.now → AreChecked
+        (points_of xs.now ys.now) eps segments.items) }
 {
     let mut steps = Steps::<L>::new(blank);
     segment_counted(alloc, xs, ys, eps, from, to, &mut steps)
 }
 
-/// Points and an error bound have one segmentation: two lists of segments that are greedy, steep and have their cuts are equal.
+/// Points and an error bound have one segmentation: two lists of segments that are greedy, steep
+/// and have their cuts are equal.
 pub fn one_segmentation()
     ensures { (p : Points) (eps from to : ℕ) (one two : List Segment) → IsAscending p → to ≤ p.count
         → IsSegmentation p eps from to one → IsSegmentation p eps from to two → one ≡ two }
-{
-}
-
-
-
+{}

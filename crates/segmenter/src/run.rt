@@ -1,4 +1,4 @@
-// The longest run from a place that some line serves.
+// The longest run from a place that some line fits.
 ghost use Rattle.std.specs.List.Sorted.{IsStrictlyIncreasing, IsNonDecreasing};
 ghost use Rattle.std.specs.Prelude.{◌≡◌, ℕ, ◌+◌, ◌*◌, ◌^◌, ◌<◌, ◌≤◌, length};
 ghost use Rattle.exact_cross.specs.Points.{Points, points_of};
@@ -8,7 +8,7 @@ ghost use Rattle.exact_cross.specs.Cuts.{HasItsCut};
 ghost use Rattle.hulls.specs.Hulls.{room_of, bound_of, StandsFor};
 
 use budget::Steps;
-use exact_cross::{Segment, Witness};
+use exact_cross::{MAX_EPSILON, Segment, Witness};
 use hulls::{Hulls, Offer};
 use std::sync::ledger::Ledger;
 
@@ -19,7 +19,7 @@ pub struct Run {
     pub end: u32,
 }
 
-/// The longest run from `start` that some line serves, `to` at the furthest.
+/// The longest run from `start` that some line fits, `to` at the furthest.
 pub fn longest_run<L: Ledger>(
     hulls: &mut Hulls,
     xs: &[u64],
@@ -35,13 +35,15 @@ pub fn longest_run<L: Ledger>(
     requires some { start < to }
     requires within { to ≤ length xs.now }
     requires room { to ≤ start + room_of hulls.old }
-    requires bounded { bound_of hulls.old ≤ 1048576 }
+    requires bounded { bound_of hulls.old ≤ MAX_EPSILON }
     ensures start { result.segment.start ≡ start }
     ensures further { start < result.end }
     ensures within { result.end ≤ to }
     ensures longest { IsLongest (points_of xs.now ys.now) (bound_of hulls.old) to start result.end }
-    ensures steep { IsSteepSegment (points_of xs.now ys.now) (bound_of hulls.old) result.segment result.end }
-    ensures cut { HasItsCut (points_of xs.now ys.now) (bound_of hulls.old) to result.segment result.end }
+    ensures steep { IsSteepSegment (points_of xs.now ys.now)
+        (bound_of hulls.old) result.segment result.end }
+    ensures cut { HasItsCut (points_of xs.now ys.now)
+        (bound_of hulls.old) to result.segment result.end }
     ensures cost { steps.new + 12 * start ≤ steps.old + 12 * result.end }
     ensures room { room_of hulls.old ≤ room_of hulls.new }
     ensures bound { bound_of hulls.new ≡ bound_of hulls.old }
@@ -64,7 +66,8 @@ pub fn longest_run<L: Ledger>(
 fn segment_of(hulls: &Hulls, start: u32, cut: Option<Witness>) -> Segment
     requires { (p : Points) × (eps : ℕ) × (e : ℕ) × StandsFor hulls.now p eps start e }
     ensures start { result.start ≡ start }
-    ensures steep { (p : Points) (eps e : ℕ) → StandsFor hulls.now p eps start e → IsSteepSegment p eps result e }
+    ensures steep { (p : Points) (eps e : ℕ) → StandsFor hulls.now p eps start e →
+        IsSteepSegment p eps result e }
     ensures cut { result.cut ≡ cut }
 {
     let (a, b, line) = hulls.line();

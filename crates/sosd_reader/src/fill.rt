@@ -28,8 +28,10 @@ pub(crate) fn fill<F: Shelf>(shelf: &mut F, buf: &mut [u8]) -> Result<usize, Fai
 
 // The next byte, or nothing at the end of the file.
 pub(crate) fn next_byte<F: Shelf>(shelf: &mut F) -> Result<Option<u8>, Failed>
-    ensures next { IfOk result (λ byte. HasRead (F.rest shelf.old) (option_to_list byte) (F.rest shelf.new)) }
-    ensures ended { IfOk result (λ byte. byte ≡ None → IfSome (F.rest shelf.old) (λ bytes. bytes ≡ [])) }
+    ensures next { IfOk result
+        (λ byte. HasRead (F.rest shelf.old) (option_to_list byte) (F.rest shelf.new)) }
+    ensures ended { IfOk result
+        (λ byte. byte ≡ None → IfSome (F.rest shelf.old) (λ bytes. bytes ≡ [])) }
     ensures emptied { OnErr result (IsEmptied (F.rest shelf.old) (F.rest shelf.new)) }
     ensures files { F.files shelf.new ≡ F.files shelf.old }
     ensures cause { HasCause (F.faults shelf.old) (F.faults shelf.new) result }

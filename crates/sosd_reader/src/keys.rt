@@ -18,7 +18,8 @@ use std::alloc::Global;
 /// How many numbers a chunk has at most: so far memory is taken ahead of the bytes.
 const CHUNK: usize = 65_536;
 
-/// Any bytes have exactly one reading as a key file, with keys of 8 bytes and with keys of 4. It does nothing.
+/// Any bytes have exactly one reading as a key file, with keys of 8 bytes and with keys of 4. It
+/// does nothing.
 pub fn readings_are_one()
     ensures wide { ReadingsAreOne 8 }
     ensures narrow { ReadingsAreOne 4 }
@@ -26,32 +27,39 @@ pub fn readings_are_one()
 
 /// The keys of the taken file, whose keys are 64 bits wide where `wide` is true, and else 32.
 ///
-/// Memory is taken by chunks of at most 65,536 keys, each exactly and before its bytes are read, and never by the file's
-/// own count. At most one byte past the last key is read, and none past a count that is too great.
+/// Memory is taken by chunks of at most 65,536 keys, each exactly and before its bytes are read,
+/// and never by the file's own count. At most one byte past the last key is read, and none past a
+/// count that is too great.
 ///
 /// # Errors
 ///
 /// The first fault in the order of the bytes that were left to read:
 ///
 /// - `TooMany` where the first eight bytes say 2^32 keys or more.
-/// - `Unsorted` where one of the keys that are whole is below the one before it. Keys are judged after each chunk, so
-///   what is wrong behind that chunk isn't seen.
-/// - `Short` where the bytes end before the count or the last key does, and the keys that are whole never fall. `got`
-///   counts all bytes, those of the count too.
+/// - `Unsorted` where one of the keys that are whole is below the one before it. Keys are judged
+///   after each chunk, so what is wrong behind that chunk isn't seen.
+/// - `Short` where the bytes end before the count or the last key does, and the keys that are whole
+///   never fall. `got` counts all bytes, those of the count too.
 /// - `Trailing` where a byte follows the last key.
 ///
-/// `ReadFault` at once where the shelf failed, and the keys of that chunk aren't judged; then nothing is left. `NoMemory`
-/// where memory for the next chunk wasn't found. Never `Wide`. After each the keys are given up.
+/// `ReadFault` at once where the shelf failed, and the keys of that chunk aren't judged; then
+/// nothing is left. `NoMemory` where memory for the next chunk wasn't found. Never `Wide`. After
+/// each the keys are given up.
 ///
 /// Source: Kipf et al., "SOSD: A Benchmark for Learned Indexes", 2019.
 pub fn read_keys<F: Shelf>(alloc: Global, shelf: &mut F, wide: bool) -> Result<Vec<u64>, KeyFault>
-    // Where the shelf tells the bytes: their one reading, unless the shelf failed or memory ran out.
-    ensures keys { IfOk result (λ keys. IfSome (F.rest shelf.old) (λ bytes. ReadsAs (key_width wide) bytes (Ok keys.items))) }
+    // Where the shelf tells the bytes: their one reading, unless the shelf failed or memory ran
+    // out.
+    ensures keys { IfOk result
+        (λ keys. IfSome (F.rest shelf.old)
+        (λ bytes. ReadsAs (key_width wide) bytes (Ok keys.items))) }
     ensures fault { IfErr result (λ fault. IfSome (F.rest shelf.old) (λ bytes.
         (fault ≡ KeyFault.ReadFault) ⊎ (fault ≡ KeyFault.NoMemory) ⊎ ReadsAs (key_width wide) bytes (Err fault))) }
-    ensures wherever { IfSome (F.rest shelf.old) (λ bytes. (reading : Result (List ℕ) KeyFault) → ReadsAs (key_width wide) bytes reading →
+    ensures wherever { IfSome (F.rest shelf.old)
+        (λ bytes. (reading : Result (List ℕ) KeyFault) → ReadsAs (key_width wide) bytes reading →
         (HasRisen (F.faults shelf.old) (F.faults shelf.new) → ⊥) →
-        MatchResult result (λ keys. reading ≡ Ok keys.items) (λ fault. (fault ≡ KeyFault.NoMemory) ⊎ (reading ≡ Err fault))) }
+        MatchResult result (λ keys. reading ≡ Ok keys.items)
+        (λ fault. (fault ≡ KeyFault.NoMemory) ⊎ (reading ≡ Err fault))) }
 
     // Told or not.
     ensures never_falls { IfOk result (λ keys. IsNonDecreasing keys.items) }
@@ -59,14 +67,18 @@ pub fn read_keys<F: Shelf>(alloc: Global, shelf: &mut F, wide: bool) -> Result<V
     ensures each_fits { IfOk result (λ keys. All (λ key. key < 256 ^ key_width wide) keys.items) }
     ensures not_wide { (at value : ℕ) → result ≢ Err (KeyFault.Wide at value) }
 
-    ensures read_fault { IsErrOf result KeyFault.ReadFault → HasRisen (F.faults shelf.old) (F.faults shelf.new) }
+    ensures read_fault { IsErrOf result KeyFault.ReadFault → HasRisen (F.faults shelf.old)
+        (F.faults shelf.new) }
     ensures faulted { F.faults shelf.old < F.faults shelf.new → IsErrOf result KeyFault.ReadFault }
     ensures faults { F.faults shelf.old ≤ F.faults shelf.new }
     ensures files { F.files shelf.new ≡ F.files shelf.old }
 
     // What is left is what was left, but for a front part: one byte past the last key, at most.
-    ensures taken { IfSome (F.rest shelf.old) (λ bytes. result ≢ Err KeyFault.ReadFault → TakesAtMost (reach (key_width wide) bytes) (F.rest shelf.old) (F.rest shelf.new)) }
-    ensures nothing_left { IsErrOf result KeyFault.ReadFault → IsEmptied (F.rest shelf.old) (F.rest shelf.new) }
+    ensures taken { IfSome (F.rest shelf.old)
+        (λ bytes. result ≢ Err KeyFault.ReadFault → TakesAtMost (reach (key_width wide) bytes)
+        (F.rest shelf.old) (F.rest shelf.new)) }
+    ensures nothing_left { IsErrOf result KeyFault.ReadFault → IsEmptied (F.rest shelf.old)
+        (F.rest shelf.new) }
 {
     let width = width_of(wide);
     read_file(alloc, shelf, width)
@@ -84,13 +96,15 @@ fn width_of(wide: bool) -> usize
 fn read_file<F: Shelf>(alloc: Global, shelf: &mut F, width: usize) -> Result<Vec<u64>, KeyFault>
     requires { IsWidth width }
     ensures keys { IfOk result (λ keys. IfSome (F.rest shelf.old) (IsKeyFileOf width keys.items)) }
-    ensures fault { IfErr result (HasFault (λ bytes fault. ReadsAs width bytes (Err fault)) (F.rest shelf.old)) }
+    ensures fault { IfErr result
+        (HasFault (λ bytes fault. ReadsAs width bytes (Err fault)) (F.rest shelf.old)) }
     ensures never_falls { IfOk result (λ keys. IsNonDecreasing keys.items) }
     ensures few { IfOk result (λ keys. vec_len keys < 2 ^ 32) }
     ensures each_fits { IfOk result (λ keys. All (λ key. key < 256 ^ width) keys.items) }
     ensures cause { HasReadCause (F.faults shelf.old) (F.faults shelf.new) result }
     ensures files { F.files shelf.new ≡ F.files shelf.old }
-    ensures taken { IfSome (F.rest shelf.old) (λ bytes. Leaves (reach width bytes) (F.rest shelf.old) (F.rest shelf.new) result) }
+    ensures taken { IfSome (F.rest shelf.old)
+        (λ bytes. Leaves (reach width bytes) (F.rest shelf.old) (F.rest shelf.new) result) }
 {
     let count = read_count(shelf)?;
     let keys = read_list(alloc, shelf, width, count)?;
@@ -103,8 +117,10 @@ fn read_file<F: Shelf>(alloc: Global, shelf: &mut F, width: usize) -> Result<Vec
 
 // How many keys there are, by the first eight bytes. Their width plays no part.
 fn read_count<F: Shelf>(shelf: &mut F) -> Result<u32, KeyFault>
-    ensures count { IfOk result (λ count. HasRead (F.rest shelf.old) (little_bytes 8 count) (F.rest shelf.new)) }
-    ensures fault { (width : ℕ) → IfErr result (HasFault (λ bytes fault. ReadsAs width bytes (Err fault)) (F.rest shelf.old)) }
+    ensures count { IfOk result
+        (λ count. HasRead (F.rest shelf.old) (little_bytes 8 count) (F.rest shelf.new)) }
+    ensures fault { (width : ℕ) → IfErr result
+        (HasFault (λ bytes fault. ReadsAs width bytes (Err fault)) (F.rest shelf.old)) }
     ensures cause { HasReadCause (F.faults shelf.old) (F.faults shelf.new) result }
     ensures files { F.files shelf.new ≡ F.files shelf.old }
     ensures taken { Leaves 8 (F.rest shelf.old) (F.rest shelf.new) result }
@@ -129,7 +145,9 @@ fn read_list<F: Shelf>(
     count: u32,
 ) -> Result<Vec<u64>, KeyFault>
     requires { IsWidth width }
-    ensures keys { IfOk result (λ keys. HasRead (F.rest shelf.old) (flat_map (little_bytes width) keys.items) (F.rest shelf.new)) }
+    ensures keys { IfOk result
+        (λ keys. HasRead (F.rest shelf.old) (flat_map (little_bytes width) keys.items)
+        (F.rest shelf.new)) }
     ensures count { IfOk result (λ keys. vec_len keys ≡ count) }
     ensures never_falls { IfOk result (λ keys. IsNonDecreasing keys.items) }
     ensures each_fits { IfOk result (λ keys. All (λ key. key < 256 ^ width) keys.items) }
@@ -148,8 +166,9 @@ fn read_list<F: Shelf>(
     Ok(keys)
 }
 
-// Adds the next keys, as many as these bytes have room for: takes their memory, reads, judges the whole numbers in
-// order, and then whether all were there. The file has a count of eight bytes before all keys.
+// Adds the next keys, as many as these bytes have room for: takes their memory, reads, judges the
+// whole numbers in order, and then whether all were there. The file has a count of eight bytes
+// before all keys.
 fn read_chunk<F: Shelf>(
     shelf: &mut F,
     width: usize,
@@ -161,7 +180,8 @@ fn read_chunk<F: Shelf>(
     requires room { length bytes.old ≡ width * room }
     requires few { vec_len keys.old + room < 2 ^ 32 }
     requires never_falls { IsNonDecreasing keys.old.items }
-    ensures keys { OnOk result (ReadsNumbers width (F.rest shelf.old) keys.old.items keys.new.items (F.rest shelf.new)) }
+    ensures keys { OnOk result
+        (ReadsNumbers width (F.rest shelf.old) keys.old.items keys.new.items (F.rest shelf.new)) }
     ensures len { OnOk result (vec_len keys.new ≡ vec_len keys.old + room) }
     ensures never_falls { OnOk result (IsNonDecreasing keys.new.items) }
     ensures fault { IfErr result (HasFault (StopsAs width room keys.old.items) (F.rest shelf.old)) }
@@ -197,7 +217,8 @@ fn push_keys(width: usize, keys: &mut Vec<u64>, bytes: &[u8]) -> Result<(), KeyF
     ensures keys { OnOk result (GoesOn width keys.old.items bytes.now keys.new.items) }
     ensures len { OnOk result (vec_len keys.new ≡ vec_len keys.old + length bytes.now / width) }
     ensures never_falls { OnOk result (IsNonDecreasing keys.new.items) }
-    ensures fault { IfErr result (StopsAs width (length bytes.now / width) keys.old.items bytes.now) }
+    ensures fault { IfErr result
+        (StopsAs width (length bytes.now / width) keys.old.items bytes.now) }
 {
     let mut before = keys.last().copied().unwrap_or(0);
     for i in 0..bytes.len() / width {

@@ -1,12 +1,14 @@
-//! Key files: an unsigned 64-bit count, then that many ascending unsigned keys of 64 or 32 bits, all little endian (SOSD).
+//! Key files: an unsigned 64-bit count, then that many ascending unsigned keys of 64 or 32 bits,
+//! all little endian (SOSD).
 //!
-//! The keys 7, 7, 9 are the file of the eight bytes 3, 0, .., the eight bytes 7, 0, .. twice, and 9, 0, ...
+//! The keys 7, 7, 9 are the file of the eight bytes 3, 0, .., the eight bytes 7, 0, .. twice, and
+//! 9, 0, ...
 //!
-//! All other bytes have one fault, the first in their order: the keys 3, 2 fall at key 1, and a file that says three
-//! keys and has two, in order, is short at 24 bytes.
+//! All other bytes have one fault, the first in their order: the keys 3, 2 fall at key 1, and a
+//! file that says three keys and has two, in order, is short at 24 bytes.
 //!
-//! Main clauses: `keys`, `fault`, `wherever` and `taken` of [`read_keys`]. The words of the clauses are in `specs/KeyFiles.antt`
-//! and `specs/KeyFileFaults.antt`.
+//! Main clauses: `keys`, `fault`, `wherever` and `taken` of [`read_keys`]. The words of the clauses
+//! are in `specs/KeyFiles.antt` and `specs/KeyFileFaults.antt`.
 #![tactic(auto)]
 
 mod fault;

@@ -1,9 +1,10 @@
 //! Entry lists, as the levels of the logarithmic method hold them, and their merge.
 //!
-//! A map that changes is kept as lists of entries, each strictly ascending by key, with the newer entries in the smaller
-//! lists (Bentley and Saxe, Decomposable searching problems, J. Algorithms 1(4), 1980). A deletion is an entry too: one
-//! without a value, a tombstone, which hides what older lists have at its key (O'Neil, Cheng, Gawlick and O'Neil, The
-//! log-structured merge-tree, Acta Informatica 33, 1996). Where two lists are merged, the newer entry of a key stays. A
+//! A map that changes is kept as lists of entries, each strictly ascending by key, with the newer
+//! entries in the smaller lists (Bentley and Saxe, Decomposable searching problems, J. Algorithms
+//! 1(4), 1980). A deletion is an entry too: one without a value, a tombstone, which hides what
+//! older lists have at its key (O'Neil, Cheng, Gawlick and O'Neil, The log-structured merge-tree,
+//! Acta Informatica 33, 1996). Where two lists are merged, the newer entry of a key stays. A
 //! tombstone stays as well, unless no older list is left below the merged one:
 //!
 //!     newer     5 none        7 1
@@ -11,7 +12,8 @@
 //!     merged    5 none  6 2   7 1
 //!     deepest           6 2   7 1
 //!
-//! Main clauses: `ascending` and `winners` of [`merge`]. The words of the clauses are in `specs/Entries.antt`.
+//! Main clauses: `ascending` and `winners` of [`merge`]. The words of the clauses are in
+//! `specs/Entries.antt`.
 #![tactic(auto)]
 
 ghost use Rattle.std.specs.Prelude.{◌≡◌, ℕ, ◌+◌, ◌<◌, ◌≤◌, ◌++◌, ◌∷◌, ◌↔◌, [], if◌then◌else◌, Some, None, IfOk, IsTrue, vec_len, vec_capacity};
@@ -34,9 +36,10 @@ pub fn is_ascending(entries: &[Entry]) -> bool
 
 /// Merges two lists of entries, each strictly ascending by key, into one.
 ///
-/// At each key of either list the result has the newer's entry, where there is one, else the older's. With `deepest`, for
-/// a result that no older list lies below, tombstones are left out, whichever list they come from. The result is strictly
-/// ascending too. It is made in one pass, and its room is taken once, for as many entries as both lists have.
+/// At each key of either list the result has the newer's entry, where there is one, else the
+/// older's. With `deepest`, for a result that no older list lies below, tombstones are left out,
+/// whichever list they come from. The result is strictly ascending too. It is made in one pass, and
+/// its room is taken once, for as many entries as both lists have.
 ///
 /// # Errors
 ///
@@ -67,7 +70,8 @@ pub fn merge(
     Ok(merged)
 }
 
-/// Whether a merge keeps the entry: all but tombstones, and these unless the result is the deepest list.
+/// Whether a merge keeps the entry: all but tombstones, and these unless the result is the deepest
+/// list.
 fn is_kept(entry: &Entry, deepest: bool) -> bool
     ensures { kept deepest (Some entry.now) ≡ (if result then Some entry.now else None) }
 {

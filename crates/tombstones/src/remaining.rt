@@ -30,7 +30,8 @@ impl Remaining<'_> {
         // Up to its key nothing is left.
         ensures least { IfSome result (λ entry. (key : ℕ) → key ≤ entry.key →
             winner_at self.new.newer.now self.new.older.now key ≡ None) }
-        ensures none { IfNone result ((key : ℕ) → winner_at self.old.newer.now self.old.older.now key ≡ None) }
+        ensures none { IfNone result
+            ((key : ℕ) → winner_at self.old.newer.now self.old.older.now key ≡ None) }
 
         // The lists get shorter, so a merge ends, and its room suffices.
         ensures shorter { IfSome result (λ _.

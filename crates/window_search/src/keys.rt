@@ -5,7 +5,8 @@ use budget::Steps;
 use std::marker::Model;
 use std::sync::ledger::Ledger;
 
-/// Keys of a search. Their only read is a step, so a search over them can't look at a key that it doesn't count.
+/// Keys of a search. Their only read is a step, so a search over them can't look at a key that it
+/// doesn't count.
 #[derive(Drop)]
 pub struct CountedKeys<'a> {
     keys: &'a [u64],

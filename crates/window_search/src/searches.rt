@@ -9,8 +9,9 @@ use std::sync::ledger::Ledger;
 
 /// The predecessor of `q`: the last place whose key is at most `q`.
 ///
-/// It is searched among the places `lo..=hi`, where the caller knows that it is. One step is one key read, and t steps are
-/// taken with `2^t <= 2 * (hi - lo + 1)`. Cannot fail and takes no memory.
+/// It is searched among the places `lo..=hi`, where the caller knows that it is. One step is one
+/// key read, and t steps are taken with `2^t <= 2 * (hi - lo + 1)`. Cannot fail and takes no
+/// memory.
 pub fn predecessor_in<L: Ledger>(
     keys: &[u64],
     lo: u32,
@@ -41,8 +42,9 @@ pub fn predecessor_in<L: Ledger>(
 
 /// The lower bound of `q`: how many keys are below `q`.
 ///
-/// It is searched among the places `lo..=hi`, where the caller knows that it is. Equal keys may stand side by side. One step
-/// is one key read, and t steps are taken with `2^t <= 2 * (hi - lo + 1)`. Cannot fail and takes no memory.
+/// It is searched among the places `lo..=hi`, where the caller knows that it is. Equal keys may
+/// stand side by side. One step is one key read, and t steps are taken with `2^t <= 2 * (hi - lo +
+/// 1)`. Cannot fail and takes no memory.
 pub fn lower_in<L: Ledger>(keys: &[u64], lo: u32, hi: u32, q: u64, steps: &mut Steps<L>) -> u32
     requires order { IsNonDecreasing keys.now }
     requires range { lo ≤ hi }

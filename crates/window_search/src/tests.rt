@@ -29,7 +29,8 @@ fn line(x0: u64, y0: i64, rise: u64, run: u64) -> Line {
     Line { x0, y0, rise, run }
 }
 
-// The keys 0, 10, 11, 12; the two ends of 64 bits; and the keys 0, 1, 4, 9, 16, 25, whose three levels are asked for 17.
+// The keys 0, 10, 11, 12; the two ends of 64 bits; and the keys 0, 1, 4, 9, 16, 25, whose three
+// levels are asked for 17.
 #[test]
 fn windows(rt: HostRuntime) {
     let jump = line(0, -1, 3, 10);
@@ -93,7 +94,8 @@ fn expect_found<L: Ledger>(
     assert_eq!(rt; predecessor(keys, q, &mut steps), place);
 }
 
-/// Keys, a question, its lower bound and its predecessor: no keys, equal keys, both ends of 64 bits.
+/// Keys, a question, its lower bound and its predecessor: no keys, equal keys, both ends of 64
+/// bits.
 const ROWS: [(&[u64], u64, u32, Option<u32>); 12] = [
     (&[], 5, 0, None),
     (&[7], 6, 0, None),

@@ -10,7 +10,8 @@ use edge::{Failed, Sink};
 ///
 /// # Errors
 ///
-/// `Failed` where a call of the sink failed: the sink has gained what was taken before it, a front part of the piece.
+/// `Failed` where a call of the sink failed: the sink has gained what was taken before it, a front
+/// part of the piece.
 pub fn hand_over<S: Sink>(out: &mut S, piece: &[u8]) -> Result<(), Failed>
     ensures ok { OnOk result (Writes S.Sink out.old out.new (piece.now ∷ [])) }
     ensures err { OnErr result (BreaksOff S.Sink out.old out.new (piece.now ∷ [])) }

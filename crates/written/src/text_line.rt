@@ -66,7 +66,8 @@ impl TextLine {
     /// Adds a label and two places, each a space and at most ten digits.
     pub fn push_places(&mut self, label: &[u8], first: u32, second: u32)
         requires { length self.old + length label.now + 2 * (1 + 10) ≤ LINE_ROOM }
-        ensures text { self.new ≡ self.old ++ label.now ++ 32 ∷ decimal first ++ 32 ∷ decimal second }
+        ensures text { self.new
+            ≡ self.old ++ label.now ++ 32 ∷ decimal first ++ 32 ∷ decimal second }
         ensures room { length self.new ≤ length self.old + length label.now + 2 * (1 + 10) }
     {
         self.push(label);

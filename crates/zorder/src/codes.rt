@@ -7,10 +7,10 @@ use crate::spread::{gather, spread};
 
 /// The Morton code of a point.
 ///
-/// `d` is how many coordinates the point has, from 2 to 4, and `coords` begins with them, each in range: of at most 32,
-/// 21 or 16 bits for 2, 3 or 4 coordinates. Bit `b` of coordinate `c` goes to bit `b * d + c` of the code, so codes and
-/// points are one to one, and raising a coordinate never lowers the code. Cannot fail and takes no memory.
-/// Source: Morton, IBM Ottawa, 1966.
+/// `d` is how many coordinates the point has, from 2 to 4, and `coords` begins with them, each in
+/// range: of at most 32, 21 or 16 bits for 2, 3 or 4 coordinates. Bit `b` of coordinate `c` goes to
+/// bit `b * d + c` of the code, so codes and points are one to one, and raising a coordinate never
+/// lowers the code. Cannot fail and takes no memory. Source: Morton, IBM Ottawa, 1966.
 pub fn encode(d: u32, coords: &[u32]) -> u64
     requires dimension { IsDimension d }
     requires enough { d ≤ length coords.now }
@@ -30,8 +30,8 @@ pub fn encode(d: u32, coords: &[u32]) -> u64
 
 /// The coordinates of a Morton code; the unused ones, from `d` on, are 0.
 ///
-/// `d` is how many coordinates the code has, from 2 to 4. A code of three coordinates is below 2^63; of two or four, any
-/// number is a code. Cannot fail and takes no memory.
+/// `d` is how many coordinates the code has, from 2 to 4. A code of three coordinates is below
+/// 2^63; of two or four, any number is a code. Cannot fail and takes no memory.
 /// Source: Morton, IBM Ottawa, 1966.
 pub fn decode(d: u32, z: u64) -> [u32; 4]
     requires dimension { IsDimension d }
@@ -49,8 +49,8 @@ pub fn decode(d: u32, z: u64) -> [u32; 4]
     coords
 }
 
-/// Whether a number is in the range of a coordinate: below 2^32, 2^21 or 2^16, as `d`, the number of coordinates, is 2, 3
-/// or 4. Cannot fail and takes no memory.
+/// Whether a number is in the range of a coordinate: below 2^32, 2^21 or 2^16, as `d`, the number
+/// of coordinates, is 2, 3 or 4. Cannot fail and takes no memory.
 pub fn fits_range(d: u32, value: u32) -> bool
     requires { IsDimension d }
     ensures { IsTrue result ↔ (value < 2 ^ coordinate_bits d) }

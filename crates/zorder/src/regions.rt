@@ -9,8 +9,8 @@ use crate::codes::decode;
 
 /// A region: the points whose coordinates each lie between a low and a high, both included.
 ///
-/// `d` is the number of coordinates, from 2 to 4; only the first `d` members of `low` and `high` count. It is empty where
-/// some low is above its high.
+/// `d` is the number of coordinates, from 2 to 4; only the first `d` members of `low` and `high`
+/// count. It is empty where some low is above its high.
 #[derive(Clone, Copy, Debug, PartialEq, Eq)]
 pub struct Region {
     /// How many coordinates a point has, from 2 to 4.
@@ -21,17 +21,19 @@ pub struct Region {
     pub high: [u32; 4],
 }
 
-/// Whether a code is inside a region: whether each of its coordinates lies between the low and the high.
+/// Whether a code is inside a region: whether each of its coordinates lies between the low and the
+/// high.
 ///
-/// The region's `d` is from 2 to 4 and its intervals' ends are in the coordinates' range; `z` is a code of `d`
-/// coordinates. A code inside lies between the codes of the region's corners, but not each code between them is inside.
-/// Cannot fail and takes no memory.
+/// The region's `d` is from 2 to 4 and its intervals' ends are in the coordinates' range; `z` is a
+/// code of `d` coordinates. A code inside lies between the codes of the region's corners, but not
+/// each code between them is inside. Cannot fail and takes no memory.
 /// Source: Tropf and Herzog, Angewandte Informatik 2/1981.
 pub fn inside(region: &Region, z: u64) -> bool
     requires region { IsRegion region.now }
     requires code { IsCode region.now.d z }
     ensures exact { IsTrue result ↔ IsInside region.now z }
-    ensures corners { OnTrue result ((code region.now.d region.now.low ≤ z) × (z ≤ code region.now.d region.now.high)) }
+    ensures corners { OnTrue result
+        ((code region.now.d region.now.low ≤ z) × (z ≤ code region.now.d region.now.high)) }
 {
     let coords = decode(region.d, z);
     for c in 0..region.d as usize {
@@ -44,7 +46,8 @@ pub fn inside(region: &Region, z: u64) -> bool
 
 /// Whether a region is empty: whether some low is above its high.
 ///
-/// An empty region has no code inside; of another the code of its low corner is inside. Cannot fail and takes no memory.
+/// An empty region has no code inside; of another the code of its low corner is inside. Cannot fail
+/// and takes no memory.
 pub fn is_empty(region: &Region) -> bool
     requires { IsRegion region.now }
     ensures exact { IsTrue result ↔ IsEmpty region.now }

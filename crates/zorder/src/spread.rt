@@ -1,12 +1,15 @@
-//! Pulls the bits of a coordinate apart to every d-th place of a code, and back, by the known steps of shift and mask.
+//! Pulls the bits of a coordinate apart to every d-th place of a code, and back, by the known steps
+//! of shift and mask.
 //!
-//! A step halves the blocks in which the bits lie, or doubles them. For two coordinates, with four bits `abcd`:
+//! A step halves the blocks in which the bits lie, or doubles them. For two coordinates, with four
+//! bits `abcd`:
 //!
 //!     blocks of 4   ........abcd
 //!     blocks of 2   ....ab....cd      (x | x << 2), masked
 //!     blocks of 1   .a.b.c.d          (x | x << 1), masked
 //!
-//! A mask has the ones of all blocks of its size in 64 bits, so one mask serves a step up and a step down.
+//! A mask has the ones of all blocks of its size in 64 bits, so one mask serves a step up and a
+//! step down.
 
 ghost use Rattle.std.specs.Prelude.{◌≡◌, ℕ, ◌+◌, ◌*◌, ◌/◌, ◌%◌, ◌^◌, ◌<◌, ◌≤◌, bit_and, bit_or};
 ghost use Rattle.zorder.specs.Codes.{IsDimension, coordinate, coordinate_bits};

@@ -139,10 +139,12 @@ fn fill_run_line(line: &mut TextLine, segment: &Segment, end: u32)
     push_ending(line, &segment.cut);
 }
 
-// Adds the four numbers of a line: its word, two of 20 digits and one of 20 with its sign, each after a space.
+// Adds the four numbers of a line: its word, two of 20 digits and one of 20 with its sign, each
+// after a space.
 fn push_line(text: &mut TextLine, line: &Line)
     requires { length text.old + 89 ≤ LINE_ROOM }
-    ensures text { text.new ≡ text.old ++ codes " line" ++ 32 ∷ decimal line.now.x0 ++ 32 ∷ signed_decimal line.now.y0
+    ensures text { text.new
+        ≡ text.old ++ codes " line" ++ 32 ∷ decimal line.now.x0 ++ 32 ∷ signed_decimal line.now.y0
         ++ 32 ∷ decimal line.now.rise ++ 32 ∷ decimal line.now.run }
     ensures room { length text.new ≤ length text.old + 89 }
 {

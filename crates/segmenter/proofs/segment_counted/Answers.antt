@@ -3,8 +3,8 @@ use Rattle.std.proofs.Common.{arith, ◌≡◌, ℕ, ◌∙◌, sym, subst}
 use Rattle.exact_cross.specs.Points.{points_of}
 use Rattle.exact_cross.specs.Lines.{SomeLineFits}
 use Rattle.exact_cross.specs.Covers.{IsLongest}
-use Rattle.exact_cross.specs.Segments.{starts_of, EachRun, IsSteepSegment, IsServed}
-use Rattle.exact_cross.proofs.CallerLemmas.{IsAscending-points_of, IsServed-from_steep, IsInRange-from_steep, IsLeastCover-from_greedy, AreChecked-from_greedy, CutsInto-push, EachRun-push, starts_of-push}
+use Rattle.exact_cross.specs.Segments.{starts_of, EachRun, IsSteepSegment, IsFitted}
+use Rattle.exact_cross.proofs.CallerLemmas.{IsAscending-points_of, IsFitted-from_steep, IsInRange-from_steep, IsLeastCover-from_greedy, AreChecked-from_greedy, CutsInto-push, EachRun-push, starts_of-push}
 use Rattle.exact_cross.specs.Cuts.{HasItsCut}
 use Rattle.exact_cross.specs.Checked.{IsInRange}
 use Rattle.segmenter.proofs.segment_counted.Goals as goal
@@ -26,9 +26,9 @@ loop-start-preserved g c =
           (CutsInto-push (IsLongest p eps c.args.to) (starts_of items) c.args.from c.loop-start.start end so_far.greedy run.further run.longest);
       steep = rw c.in_ok-push.ensures.items
           (EachRun-push (IsSteepSegment p eps) items last end (subst (λ (start : ℕ). EachRun (IsSteepSegment p eps) start items) (sym run.start) so_far.steep) run.steep);
-      served = rw c.in_ok-push.ensures.items
-          (EachRun-push (IsServed p eps) items last end (subst (λ (start : ℕ). EachRun (IsServed p eps) start items) (sym run.start) so_far.served)
-          (IsServed-from_steep p eps end last ascends (omega arith) (omega arith) run.steep
+      fitted = rw c.in_ok-push.ensures.items
+          (EachRun-push (IsFitted p eps) items last end (subst (λ (start : ℕ). EachRun (IsFitted p eps) start items) (sym run.start) so_far.fitted)
+          (IsFitted-from_steep p eps end last ascends (omega arith) (omega arith) run.steep
           (subst (λ (start : ℕ). SomeLineFits p eps start end) (sym run.start) run.longest.fits)));
       cuts = rw c.in_ok-push.ensures.items
           (EachRun-push (HasItsCut p eps c.args.to) items last end (subst (λ (start : ℕ). EachRun (HasItsCut p eps c.args.to) start items) (sym run.start) so_far.cuts) run.cut);
@@ -50,4 +50,4 @@ returns-clause-checked g c =
     let at_end : c.loop-start.start ≡ c.args.to = omega arith in
     let so_far = c.loop-start.invariant in
     λ whole_from whole_to. AreChecked-from_greedy (points_of c.args.xs.now c.args.ys.now) c.args.eps c.args.from c.args.to c.loop-start.segments.items whole_from whole_to
-    (rw at_end at so_far.greedy) (rw at_end at so_far.in_range) (rw at_end at so_far.served) (rw at_end at so_far.cuts)
+    (rw at_end at so_far.greedy) (rw at_end at so_far.in_range) (rw at_end at so_far.fitted) (rw at_end at so_far.cuts)

@@ -2,7 +2,7 @@
 use Rattle.std.proofs.Common.{◌≡◌, ◌-◌, ◌+◌, ◌*◌, ◌≤◌}
 use Rattle.exact_cross.specs.Points.{points_of}
 use Rattle.exact_cross.specs.Covers.{CutsInto, IsLongest}
-use Rattle.exact_cross.specs.Segments.{starts_of, EachRun, IsSteepSegment, IsServed}
+use Rattle.exact_cross.specs.Segments.{starts_of, EachRun, IsSteepSegment, IsFitted}
 use Rattle.exact_cross.specs.Cuts.{HasItsCut}
 use Rattle.exact_cross.specs.Checked.{IsInRange}
 use Rattle.hulls.specs.Hulls.{room_of, bound_of}
@@ -14,7 +14,7 @@ invariant-loop-start g l = record {
   from_first : l.from ≤ l.start;
   greedy : CutsInto (IsLongest (points_of l.xs l.ys) l.eps l.to) l.from l.start (starts_of l.segments.items);
   steep : EachRun (IsSteepSegment (points_of l.xs l.ys) l.eps) l.start l.segments.items;
-  served : EachRun (IsServed (points_of l.xs l.ys) l.eps) l.start l.segments.items;
+  fitted : EachRun (IsFitted (points_of l.xs l.ys) l.eps) l.start l.segments.items;
   cuts : EachRun (HasItsCut (points_of l.xs l.ys) l.eps l.to) l.start l.segments.items;
   in_range : EachRun (λ segment e. IsInRange segment.line) l.start l.segments.items;
   cost : l.steps + 12 * l.from ≤ l.fn.steps + 12 * l.start;

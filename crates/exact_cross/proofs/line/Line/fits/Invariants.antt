@@ -3,6 +3,6 @@ use Rattle.exact_cross.specs.Points.{points_of}
 use Rattle.exact_cross.specs.Lines.{FitsRun, rational}
 use Rattle.exact_cross.proofs.line.Line.fits.Given as goal
 
--- the line serves the places so far
+-- the line fits the places so far
 abbrev pub invariant-loop-place : goal.invariant-loop-place
 invariant-loop-place l = (positive : 0 < l.self.run) × FitsRun (points_of l.xs l.ys) l.eps (rational l.self positive) l.s l.place

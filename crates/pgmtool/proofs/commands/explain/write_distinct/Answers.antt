@@ -7,7 +7,7 @@ use Rattle.pgmtool.specs.Commands.Explain.{ExplainsLevel}
 use Rattle.pgmtool.proofs.commands.explain.write_distinct.Goals as goal
 
 none_checked : (eps : ℕ) → AreChecked (points_of_keys []) eps []
-none_checked eps = record { first = λ some. absurd (omega arith); rise = tt; in_range = tt; served = tt; cut = tt }
+none_checked eps = record { first = λ some. absurd (omega arith); rise = tt; in_range = tt; fitted = tt; cut = tt }
 
 none_explained : (keys : List ℕ) (eps : ℕ) → keys ≡ [] → ExplainsLevel keys eps []
 none_explained keys eps none = subst (λ (xs : List ℕ). ExplainsLevel xs eps []) (sym none) (record {
