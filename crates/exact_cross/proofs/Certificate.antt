@@ -1,4 +1,7 @@
 -- Runs that each end with a witness are as few as a cover can have.
+--
+-- Main result: `IsLeastCover-from_checked`. No line is within eps at a witness's three places p < q < r, so any cover has a
+-- start in p+1..r. The witnesses of different runs leave disjoint such ranges, so any cover has a start for each run.
 use Rattle.std.proofs.Common.{◌≡◌, ℕ, ◌+◌, ◌<◌, ◌≤◌, List, [], ◌∷◌, length, inl, inr, refl, ap, ◌∙◌, sym, subst, arith}
 use Rattle.std.proofs.lemmas.Bool.{cases_lt}
 use Rattle.std.proofs.lemmas.List.{length-map}

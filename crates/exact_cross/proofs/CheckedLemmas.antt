@@ -1,4 +1,6 @@
 -- Greedy segments with their cuts show by themselves that they are as few as lines can do.
+--
+-- Main result: `AreChecked-from_greedy`: what the checker of covers asks is there for greedy segments, one clause after the other.
 use Rattle.std.proofs.Common.{◌≡◌, ℕ, ◌+◌, ◌^◌, ◌<◌, ◌≤◌, List, [], ◌∷◌, inl, inr, refl, sym, ◌∙◌, subst, arith}
 use Rattle.std.proofs.lemmas.Int.{ints}
 use Rattle.std.proofs.lemmas.Bool.{cases_lt}

@@ -1,4 +1,7 @@
 -- The greedy cover is one, and no cover has fewer runs.
+--
+-- Main results: `IsGreedy-unique`, `IsGreedy-least`. By induction the greedy run of each number ends no earlier than any cover's
+-- run of that number: it begins no earlier, and goes as far as a line can, while a line that fits a run fits each part of it.
 use Rattle.std.proofs.Common.{◌≡◌, ℕ, ◌+◌, ◌≤◌, List, [], ◌∷◌, length, inl, inr, refl, ap, sym, ◌∙◌, subst, arith}
 use Rattle.std.proofs.lemmas.Bool.{cases_lt}
 use Rattle.exact_cross.specs.Points.{Points}

@@ -1,4 +1,7 @@
 -- A line that fits a run rises at least as fast as each flat slope of the run, and at most as fast as each steep one.
+--
+-- Main result: `flat_at_most_steep`, so that no flat slope of such a run is above a steep one: subtract two of the line's
+-- inequalities.
 use Rattle.std.proofs.Common.{◌≡◌, ℕ, ◌+◌, ◌*◌, ◌-◌, ◌<◌, ◌≤◌, ap, arith}
 use Rattle.std.proofs.Math.Nat.{mul-le-mul_right, le_of_mul-le-mul_right}
 use borrow.Author.Differences.{up, down}

@@ -1,15 +1,13 @@
 -- Slopes over positive runs are in a linear order.
-use Rattle.std.proofs.Common.{◌≡◌, ◌⊎◌, ℕ, ◌+◌, ◌*◌, ◌<◌, ◌≤◌, ℤ, pos, ◌*ℤ◌, ◌<ℤ◌, ◌≤ℤ◌, true, false, inl, inr, arith}
-use Rattle.std.specs.Ordering.{int_cmp, is_lt, is_gt}
-use Rattle.std.specs.declared.cmp.Ordering.{Ordering}
-use Rattle.std.specs.declared.cmp.Ordering.TheVariants.{Less, Equal, Greater}
-use Rattle.std.proofs.lemmas.Cmp.{int_ranked}
-use Rattle.std.proofs.lemmas.Int.{ints}
+--
+-- Main results: `IsAtMost-refl`, `IsAtMost-trans`, `IsAtMost-total`. A slope is a fraction that need not be reduced, and the
+-- order is that of the cross products; in the middle of a chain the run is positive, so it can be divided out.
+use Rattle.std.proofs.Common.{◌⊎◌, ℕ, ◌+◌, ◌*◌, ◌<◌, ◌≤◌, inl, inr, arith}
 use Rattle.std.proofs.Math.Nat.{mul-le-mul_right, le_of_mul-le-mul_right}
 use Rattle.std.proofs.lemmas.Bool.{cases_lt}
 use borrow.Author.Differences.{up, down}
 use Rattle.exact_cross.specs.declared.slope.Slope.{Slope}
-use Rattle.exact_cross.specs.Slopes.{IsAtMost, slope_cmp}
+use Rattle.exact_cross.specs.Slopes.{IsAtMost}
 use Rattle.exact_cross.proofs.Cleared.{IsAtMost-out, IsAtMost-in}
 
 -- the same on naturals, where the middle run is positive
@@ -30,36 +28,3 @@ IsAtMost-total f g =
     let left = up f.rise * g.run + down g.rise * f.run in
     let right = up g.rise * f.run + down f.rise * g.run in
     elim (cases_lt left right) [ inl less ↦ inl (IsAtMost-in f g (omega arith)) | inr more ↦ inr (IsAtMost-in g f (omega arith)) ]
-
--- what the tests of an answer of `Slope::cmp` say
-int_lt-true : (x y : ℤ) (r : Ordering) → r ≡ int_cmp x y → is_lt r ≡ true → y ≤ℤ x → ⊥
-int_lt-true x y Less e t h = let less : x <ℤ y = int_ranked x y Less e in omega (arith, ints)
-int_lt-true x y Equal e t h = cc
-int_lt-true x y Greater e t h = cc
-
-int_lt-false : (x y : ℤ) (r : Ordering) → r ≡ int_cmp x y → is_lt r ≡ false → y ≤ℤ x
-int_lt-false x y Less e t = cc
-int_lt-false x y Equal e t = let same : x ≡ y = int_ranked x y Equal e in omega (arith, ints)
-int_lt-false x y Greater e t = let less : y <ℤ x = int_ranked x y Greater e in omega (arith, ints)
-
-int_gt-true : (x y : ℤ) (r : Ordering) → r ≡ int_cmp x y → is_gt r ≡ true → x ≤ℤ y → ⊥
-int_gt-true x y Less e t h = cc
-int_gt-true x y Equal e t h = cc
-int_gt-true x y Greater e t h = let less : y <ℤ x = int_ranked x y Greater e in omega (arith, ints)
-
-int_gt-false : (x y : ℤ) (r : Ordering) → r ≡ int_cmp x y → is_gt r ≡ false → x ≤ℤ y
-int_gt-false x y Less e t = let less : x <ℤ y = int_ranked x y Less e in omega (arith, ints)
-int_gt-false x y Equal e t = let same : x ≡ y = int_ranked x y Equal e in omega (arith, ints)
-int_gt-false x y Greater e t = cc
-
-pub IsAtMost-not_from_lt : (f g : Slope) (r : Ordering) → r ≡ slope_cmp f g → is_lt r ≡ true → IsAtMost g f → ⊥
-IsAtMost-not_from_lt f g r e t h = int_lt-true (f.rise *ℤ pos g.run) (g.rise *ℤ pos f.run) r e t h.at_most
-
-pub IsAtMost-from_not_lt : (f g : Slope) (r : Ordering) → r ≡ slope_cmp f g → is_lt r ≡ false → IsAtMost g f
-IsAtMost-from_not_lt f g r e t = record { at_most = int_lt-false (f.rise *ℤ pos g.run) (g.rise *ℤ pos f.run) r e t }
-
-pub IsAtMost-not_from_gt : (f g : Slope) (r : Ordering) → r ≡ slope_cmp f g → is_gt r ≡ true → IsAtMost f g → ⊥
-IsAtMost-not_from_gt f g r e t h = int_gt-true (f.rise *ℤ pos g.run) (g.rise *ℤ pos f.run) r e t h.at_most
-
-pub IsAtMost-from_not_gt : (f g : Slope) (r : Ordering) → r ≡ slope_cmp f g → is_gt r ≡ false → IsAtMost f g
-IsAtMost-from_not_gt f g r e t = record { at_most = int_gt-false (f.rise *ℤ pos g.run) (g.rise *ℤ pos f.run) r e t }

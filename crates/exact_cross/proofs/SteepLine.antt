@@ -1,4 +1,7 @@
 -- The line of the steep pair fits the whole run, where no flat slope is above the steep one.
+--
+-- Main result: `rising_line_fits`. The line goes from eps below a to eps above b. Above: a place j behind a is no higher, since
+-- the pair (a, j) is no less steep; one before a by the flat slope from j to a. Below: likewise by b.
 use Rattle.std.proofs.Common.{◌≡◌, ℕ, ◌+◌, ◌*◌, ◌-◌, ◌<◌, ◌≤◌, pos, ◌-ℤ◌, inl, inr, ap, arith}
 use Rattle.std.proofs.lemmas.Int.{ints}
 use Rattle.std.proofs.lemmas.Bool.{cases_order}

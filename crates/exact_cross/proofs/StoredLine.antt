@@ -1,4 +1,7 @@
 -- The line of a segment's pair fits its run, if any line does.
+--
+-- Main results: `some_line-from_pairs` (no flat slope above the steep pair's: its line fits) and `IsFitted-from_steep` (the line
+-- as it is stored). The stored line is the steep pair's, or the level one of a single place.
 use Rattle.std.proofs.Common.{◌≡◌, ◌==◌, ℕ, ◌+◌, ◌<◌, ◌≤◌, ◌∙◌, inl, inr, pos, ap, sym, subst, arith}
 use Rattle.std.proofs.lemmas.Int.{ints}
 use Rattle.std.proofs.lemmas.Bool.{cases_lt, ne_eqb, eq-eqb, cond-false, cond-true}

@@ -1,4 +1,7 @@
--- No line is within eps at the three places of a witness: a line is convex and concave.
+-- No line is within eps at the three places of a witness.
+--
+-- Main result: `no_line_at_witness`. A line at the middle place is the mean of what it is at the outer two, weighted by the
+-- distances; if it were within eps at all three, the chord that the witness is about couldn't pass the middle too far off.
 use Rattle.std.proofs.Common.{◌≡◌, ℕ, ◌+◌, ◌*◌, ◌-◌, ◌<◌, ◌≤◌, ap, arith}
 use Rattle.std.proofs.lemmas.Int.{ints}
 use Rattle.std.proofs.Math.Nat.{mul-le-mul_right, le_of_mul-le-mul_right}

@@ -87,8 +87,6 @@ impl Line {
 
 #[cfg(test)]
 mod tests {
-    ghost use Rattle.std.specs.Prelude.{ℕ, ◌+◌, slice_index};
-
     use super::*;
     use std::process::Abort;
 
@@ -104,15 +102,9 @@ mod tests {
     }
 
     fn never_falls(ys: &[u32]) -> bool
-        ensures { IsTrue result → (k : ℕ) → k + 1 < length ys.now → slice_index ys.now k
-            ≤ slice_index ys.now (k + 1) }
+        ensures { IsTrue result → IsNonDecreasing ys.now }
     {
-        for i in 1..ys.len() {
-            if ys[i - 1] > ys[i] {
-                return false;
-            }
-        }
-        true
+        ys.is_sorted()
     }
 
     fn line(x0: u64, y0: i64, rise: u64, run: u64) -> Line {
