@@ -1,6 +1,6 @@
 // Worked lists: which places are witnesses and which segments pass was found by hand from the
 // definitions.
-ghost use Rattle.std.specs.Prelude.{◌+◌, ◌<◌, ◌≤◌, ℕ, IsTrue, length, slice_index};
+ghost use Rattle.std.specs.Prelude.{IsTrue};
 ghost use Rattle.std.specs.List.Sorted.{IsStrictlyIncreasing};
 
 use super::*;
@@ -19,8 +19,7 @@ fn rises(xs: &[u64]) -> bool
 }
 
 fn never_falls(ys: &[u32]) -> bool
-    ensures { IsTrue result → (k : ℕ) → k + 1 < length ys.now → slice_index ys.now k
-        ≤ slice_index ys.now (k + 1) }
+    ensures { IsTrue result → IsNonDecreasing ys.now }
 {
     for i in 1..ys.len() {
         if ys[i - 1] > ys[i] {

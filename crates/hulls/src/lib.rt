@@ -7,3 +7,6 @@ mod slope;
 mod vertex;
 
 pub use fitting::{Hulls, Offer};
+
+#[cfg(test)]
+mod tests;

@@ -177,3 +177,6 @@ pub fn one_segmentation()
     ensures { (p : Points) (eps from to : ℕ) (one two : List Segment) → IsAscending p → to ≤ p.count
         → IsSegmentation p eps from to one → IsSegmentation p eps from to two → one ≡ two }
 {}
+
+#[cfg(test)]
+mod tests;
