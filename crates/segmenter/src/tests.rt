@@ -102,7 +102,7 @@ fn counted_from<L: Ledger>(
 
 #[test]
 fn worked_lists(rt: HostRuntime) -> Result<(), Fail> {
-    // The line through 0 and 1 serves 2 too, and passes far above the point of 10.
+    // The line through 0 and 1 fits 2 too, and passes far above the point of 10.
     let four: Points = (&[0, 1, 2, 10], &[0, 1, 2, 3]);
     let ones = line(0, 0, 1, 1);
     let last = row(3, 3, 3, line(10, 3, 0, 1), None);
