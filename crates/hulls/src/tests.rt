@@ -106,13 +106,19 @@ fn worked_points(rt: HostRuntime) -> Result<(), Fail> {
     expect_fit(&rt, (&[7], &[9]), 3, (1, None, (0, 0, line(7, 9, 0, 1))))?;
     let even: Points = (&[0, 1, 2, 3], &[0, 1, 2, 3]);
     expect_fit(&rt, even, 0, (4, None, (0, 1, ones)))?;
-    // The tangents move on: over, 0 * 3 + 4 * 10 is above 3 * 13, and under, 2 * 10 + 7 * 5 is below 4 * 15.
+    // The tangents move on: over, 0 * 3 + 4 * 10 is above 3 * 13, and under, 2 * 10 + 7 * 5 is
+    // below 4 * 15.
     let rising: Points = (&[3, 4, 14, 15, 16, 17, 20], &[0, 1, 2, 3, 4, 5, 6]);
     let third = line(4, 0, 3, 10);
     expect_fit(&rt, rising, 1, (5, cut(1, 2, 5, Side::Over), (1, 2, third)))?;
     let slowing: Points = (&[1, 4, 5, 6, 7, 9, 19], &[0, 1, 2, 3, 4, 5, 6]);
     let whole = line(1, -1, 7, 8);
-    expect_fit(&rt, slowing, 1, (6, cut(1, 5, 6, Side::Under), (0, 5, whole)))?;
+    expect_fit(
+        &rt,
+        slowing,
+        1,
+        (6, cut(1, 5, 6, Side::Under), (0, 5, whole)),
+    )?;
     // Equal heights, and one far above them.
     let stairs: Points = (&[0, 1, 2, 3], &[5, 5, 5, 90]);
     let level = line(0, 5, 0, 1);

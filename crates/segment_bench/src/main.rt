@@ -1,7 +1,9 @@
-//! `segment_bench KEYS EPS` times `segment` on a key file of 64-bit keys, each distinct key at the height of its place.
+//! `segment_bench KEYS EPS` times `segment` on a key file of 64-bit keys, each distinct key at the
+//! height of its place.
 //!
-//! It prints the number of distinct keys and of segments, and the least nanoseconds of three rounds. Reading the file and
-//! making the list of heights are left out. No contract says how long anything takes.
+//! It prints the number of distinct keys and of segments, and the least nanoseconds of three
+//! rounds. Reading the file and making the list of heights are left out. No contract says how long
+//! anything takes.
 #![tactic(auto)]
 
 ghost use Rattle.std.specs.Prelude.{◌≡◌, ◌^◌, ◌<◌, ◌≤◌, IsTrue, length};
@@ -12,9 +14,9 @@ use edge::{FileShelf, Shelf};
 use segmenter::segment;
 use sosd_reader::read_keys;
 use std::alloc::{AllocError, Global};
+use std::env;
 use std::rt::{Clock, Env, Files};
 use std::time::{Duration, Instant};
-use std::env;
 
 fn main(rt: HostRuntime) -> Result<()> {
     run(&rt)
@@ -26,17 +28,28 @@ fn run<R: AllocGlobal + Env + Files + Print + Clock>(rt: &R) -> Result<()> {
     let eps = words[2].parse::<u32>().context("the error bound")?;
     ensure!(eps <= 1_048_576, "the error bound is at most 1048576");
     let mut files = FileShelf::new(rt);
-    ensure!(files.take_file(words[1].as_str()).is_ok(), "the key file isn't there");
+    ensure!(
+        files.take_file(words[1].as_str()).is_ok(),
+        "the key file isn't there"
+    );
     let mut keys = read_keys(rt.alloc(), &mut files, true)?;
     keys.dedup();
     let ys = places(rt.alloc(), keys.len())?;
     ensure!(rises(&keys) && never_falls(&ys), "the keys are in no order");
-    ensure!(keys.len() == ys.len() && keys.len() < 1 << 32, "too many keys");
+    ensure!(
+        keys.len() == ys.len() && keys.len() < 1 << 32,
+        "too many keys"
+    );
     time_rounds(rt, &keys, &ys, eps)
 }
 
 /// Times three rounds over all points.
-fn time_rounds<R: AllocGlobal + Print + Clock>(rt: &R, xs: &[u64], ys: &[u32], eps: u32) -> Result<()>
+fn time_rounds<R: AllocGlobal + Print + Clock>(
+    rt: &R,
+    xs: &[u64],
+    ys: &[u32],
+    eps: u32,
+) -> Result<()>
     requires same_length { length ys.now ≡ length xs.now }
     requires rising { IsStrictlyIncreasing xs.now }
     requires never_falls { IsNonDecreasing ys.now }
