@@ -1,5 +1,5 @@
 -- One seat that has taken in others: what it drew is what they drew.
-use Rattle.std.proofs.Common.{◌≡◌, ◌==◌, if◌then◌else◌, Bool, All, Some, ℕ, ◌+◌, ◌≤◌, List, [], ◌∷◌, ◌++◌, length, slice_index, min, sum_by, ap, refl, ◌∙◌, subst, arith, length-append}
+use Rattle.std.proofs.Common.{◌≡◌, ◌==◌, if◌then◌else◌, Bool, All, Some, ℕ, ◌+◌, ◌<◌, ◌≤◌, List, [], ◌∷◌, ◌++◌, length, slice_index, min, sum_by, ap, refl, ◌∙◌, subst, arith, length-append}
 use mathlib.Core.Option.{some}
 use lib.ListN.{get_elem?}
 use Rattle.std.proofs.lemmas.List.{get_or_default}
@@ -101,3 +101,7 @@ IsClosed-from_final plan id v words slots word final read all =
       drawn = closes-drawn plan s id v final.1.0 final.1.1 all;
       marks = closes-word plan s id v final.1.0 final.1.1 all;
     })
+
+-- once some seat has ended, no number is left
+pub all_drawn-from_ended : (word pieces ended : ℕ) → word ≡ min word pieces + ended → 0 < ended → min word pieces ≡ pieces
+all_drawn-from_ended word pieces ended is some_ended = omega arith

@@ -13,10 +13,10 @@ use Rattle.claims.specs.Claims.{times, once_below}
 use Rattle.claims.specs.Views.{IsAllowed, AreClaimed, drew, view_of, without_one, one_of, joined, spent}
 use Rattle.claims.proofs.Totals.{total-set, total-least, total-le, total-zero, total-split, total-join, each-set, each-snoc}
 
-once-yes : (x n : ℕ) → x < n → once_below x n ≡ 1
+pub once-yes : (x n : ℕ) → x < n → once_below x n ≡ 1
 once-yes x n below = cond-true (nat_lt x n) 1 0 (lt-ltb x n below)
 
-once-no : (x n : ℕ) → n ≤ x → once_below x n ≡ 0
+pub once-no : (x n : ℕ) → n ≤ x → once_below x n ≡ 0
 once-no x n from = cond-false (nat_lt x n) 1 0 (le-ltb x n from)
 
 times-append : (x : ℕ) (a b : List ℕ) → times x (a ++ b) ≡ times x a + times x b
