@@ -1,0 +1,104 @@
+-- Each line of a script is one that its kind can have.
+use Rattle.std.proofs.Common.{◌≡◌, ℕ, zero, suc, ◌+◌, ◌-◌, ◌^◌, ◌<◌, ◌≤◌, Bool, true, false, cond, if◌then◌else◌, List, [], ◌∷◌, ◌++◌, length, take, drop, get_or, replicate, refl, sym, ap, ◌∙◌, subst, arith, All, Option, Some, None, Result, Ok, Err, lit<, eqb, length-drop, codes}
+use Rattle.std.specs.List.{find, cons_option}
+use Rattle.std.specs.Str.{is_utf8, bytes_eq}
+use Rattle.std.specs.Str.Lines.{strip_carriage_return}
+use Rattle.std.proofs.lemmas.List.{get_or_append_left, get_or-take, get_or-drop, length-take-le}
+use Rattle.std.proofs.lemmas.List.Elements.{All-cons}
+use Rattle.zorder.specs.Codes.{IsDimension, IsInRange, coordinate_bits}
+use Rattle.zorder.specs.Regions.{IsRegion}
+use Rattle.pgm_script.specs.declared.script.ScriptKind.{ScriptKind}
+use Rattle.pgm_script.specs.declared.script.ScriptKind.TheVariants as ScriptKind
+use Rattle.pgm_script.specs.declared.script.ScriptLine.{ScriptLine}
+use Rattle.pgm_script.specs.declared.fault.Why.{Why}
+use Rattle.pgm_script.specs.declared.fault.Why.TheVariants.{NotUtf8}
+use Rattle.pgm_script.specs.Words.{lines_of, words_of}
+use Rattle.pgm_script.specs.Commands.{Command, commands_of, corner, region_of, find_command, box_command, put_command, del_command, get_command, next_command, count_command, sweep_command}
+use Rattle.pgm_script.specs.Scripts.{IsKind, IsLineOf, numbers_of, made, command_reading, words_reading, line_reading, script_line, script_of}
+use Rattle.pgm_script.proofs.LineLemmas.{numbers-most, numbers-count}
+use Rattle.pgm_script.proofs.VerbLemmas.{of-dimension}
+
+-- whatever numbers a command reads make a line of the kind
+abbrev MakesLines : ScriptKind → Command → Type 0
+MakesLines kind command = (words : List (List ℕ)) (numbers : List ℕ) → numbers_of command.most command.count words ≡ Ok numbers → IsLineOf kind (command.line numbers)
+
+some-bits : (d : ℕ) → IsDimension d → 0 < 2 ^ coordinate_bits d
+some-bits = of-dimension (λ d. 0 < 2 ^ coordinate_bits d) (lit< tt) (lit< tt) (lit< tt)
+
+corner-range : (d : ℕ) (numbers : List ℕ) → IsDimension d → d ≤ length numbers → ((c : ℕ) → c < d → get_or numbers c 0 ≤ 2 ^ coordinate_bits d - 1) → IsInRange d (corner d numbers)
+corner-range d numbers dimension long few = λ c below.
+    let front = get_or_append_left (take d numbers) (replicate (4 - d) 0) 0 c (omega (arith, length-take-le d numbers long)) in
+    let same = get_or-take d numbers c 0 below in
+    omega (arith, few c below, some-bits d dimension)
+
+box-makes : (d : ℕ) (words : List (List ℕ)) (numbers : List ℕ) → IsDimension d → numbers_of (2 ^ coordinate_bits d - 1) (d + d) words ≡ Ok numbers → IsRegion (region_of d numbers)
+box-makes d words numbers dimension is =
+    let all = numbers-most (2 ^ coordinate_bits d - 1) (d + d) words numbers is in
+    let long = numbers-count (2 ^ coordinate_bits d - 1) (d + d) words numbers is in
+    record {
+      dimension = dimension;
+      low = corner-range d numbers dimension (omega arith) (λ c below. all c 0 (omega arith));
+      high = corner-range d (drop d numbers) dimension (omega (arith, length-drop d numbers)) (λ c below. let same = get_or-drop d numbers c 0 in omega (arith, all (d + c) 0 (omega arith)));
+    }
+
+-- the first command of a list, or one of the others
+found : (kind : ScriptKind) (command : Command) (b : Bool) (other : Option Command) → MakesLines kind command → ((c : Command) → other ≡ Some c → MakesLines kind c) →
+    (c : Command) → cond b (Some command) other ≡ Some c → MakesLines kind c
+found kind command true other here rest c is = let same : command ≡ c = cc in subst (MakesLines kind) same here
+found kind command false other here rest c is = rest c is
+
+nothing-found : (kind : ScriptKind) (c : Command) → None ≡ Some c → MakesLines kind c
+nothing-found kind c is = cc
+
+commands-make : (kind : ScriptKind) (word : List ℕ) → IsKind kind → (c : Command) → find (λ command. bytes_eq word command.word) (commands_of kind) ≡ Some c → MakesLines kind c
+commands-make ScriptKind.Find word is =
+    found ScriptKind.Find find_command (bytes_eq word (codes "find")) None (λ words numbers read. tt) (nothing-found ScriptKind.Find)
+commands-make (ScriptKind.Region d) word is =
+    found (ScriptKind.Region d) (box_command d) (bytes_eq word (codes "box")) None (λ words numbers read. (refl, box-makes d words numbers is read)) (nothing-found (ScriptKind.Region d))
+commands-make ScriptKind.Replay word is =
+    found ScriptKind.Replay put_command (bytes_eq word (codes "put")) _ (λ words numbers read. tt)
+    (found ScriptKind.Replay del_command (bytes_eq word (codes "del")) _ (λ words numbers read. tt)
+      (found ScriptKind.Replay get_command (bytes_eq word (codes "get")) _ (λ words numbers read. tt)
+        (found ScriptKind.Replay next_command (bytes_eq word (codes "next")) _ (λ words numbers read. tt)
+          (found ScriptKind.Replay count_command (bytes_eq word (codes "count")) _ (λ words numbers read. tt)
+            (found ScriptKind.Replay sweep_command (bytes_eq word (codes "sweep")) None (λ words numbers read. tt) (nothing-found ScriptKind.Replay))))))
+
+made-line : (kind : ScriptKind) (command : Command) (r : Result (List ℕ) Why) (line : ScriptLine) → ((numbers : List ℕ) → r ≡ Ok numbers → IsLineOf kind (command.line numbers)) →
+    made command r ≡ Ok (Some line) → IsLineOf kind line
+made-line kind command (Ok numbers) line makes is = let same : command.line numbers ≡ line = cc in subst (IsLineOf kind) same (makes numbers refl)
+made-line kind command (Err why) line makes is = cc
+
+command-line : (kind : ScriptKind) (o : Option Command) (words : List (List ℕ)) (line : ScriptLine) → ((c : Command) → o ≡ Some c → MakesLines kind c) →
+    command_reading o words ≡ Ok (Some line) → IsLineOf kind line
+command-line kind None words line makes is = cc
+command-line kind (Some c) words line makes is = made-line kind c (numbers_of c.most c.count words) line (makes c refl words) is
+
+unless-comment : (b : Bool) (r : Result (Option ScriptLine) Why) (line : ScriptLine) → (if b then Ok None else r) ≡ Ok (Some line) → r ≡ Ok (Some line)
+unless-comment true r line is = cc
+unless-comment false r line is = is
+
+where-text : (b : Bool) (r : Result (Option ScriptLine) Why) (why : Why) (line : ScriptLine) → (if b then r else Err why) ≡ Ok (Some line) → r ≡ Ok (Some line)
+where-text true r why line is = is
+where-text false r why line is = cc
+
+words-line : (kind : ScriptKind) (words : List (List ℕ)) (line : ScriptLine) → IsKind kind → words_reading kind words ≡ Ok (Some line) → IsLineOf kind line
+words-line kind [] line good is = cc
+words-line kind (word ∷ words) line good is =
+    let command = find (λ command. bytes_eq word command.word) (commands_of kind) in
+    command-line kind command words line (commands-make kind word good) (unless-comment (eqb (get_or word 0 0) 35) (command_reading command words) line is)
+
+line-of-kind : (kind : ScriptKind) (bytes : List ℕ) (line : ScriptLine) → IsKind kind → line_reading kind bytes ≡ Ok (Some line) → IsLineOf kind line
+line-of-kind kind bytes line good is =
+    let words = words_of (strip_carriage_return bytes) in
+    words-line kind words line good (where-text (is_utf8 bytes) (words_reading kind words) NotUtf8 line is)
+
+kind-cons : (kind : ScriptKind) (r : Result (Option ScriptLine) Why) (lines : List ScriptLine) → ((line : ScriptLine) → r ≡ Ok (Some line) → IsLineOf kind line) → All (IsLineOf kind) lines →
+    All (IsLineOf kind) (cons_option (script_line r) lines)
+kind-cons kind (Ok None) lines here rest = rest
+kind-cons kind (Ok (Some line)) lines here rest = All-cons (IsLineOf kind) line lines (here line refl) rest
+kind-cons kind (Err why) lines here rest = rest
+
+pub script-of-kind : (kind : ScriptKind) (lines : List (List ℕ)) → IsKind kind → All (IsLineOf kind) (script_of kind lines)
+script-of-kind kind [] good = λ k d below. absurd (omega arith)
+script-of-kind kind (line ∷ lines) good =
+    kind-cons kind (line_reading kind line) (script_of kind lines) (λ made read. line-of-kind kind line made good read) (script-of-kind kind lines good)

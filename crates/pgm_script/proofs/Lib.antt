@@ -1,0 +1,7 @@
+pub mod WordLemmas
+pub mod NumberLemmas
+pub mod LineLemmas
+pub mod VerbLemmas
+pub mod Texts
+pub mod ScriptLemmas
+pub mod KindLemmas

@@ -1,0 +1,56 @@
+-- The numbers of a region as its corners.
+use Rattle.std.proofs.Common.{◌≡◌, ℕ, zero, suc, ◌+◌, ◌-◌, ◌*◌, ◌/◌, ◌^◌, ◌<◌, ◌≤◌, List, [], ◌∷◌, ◌++◌, length, take, drop, set, get_or, replicate, refl, sym, ap, ◌∙◌, subst, append_assoc, arith, All, lit≤}
+use Rattle.std.proofs.lemmas.List.{take-take, drop-take, length-take-le, length-take, get_or-take, take_more}
+use Rattle.zorder.specs.Codes.{IsDimension, coordinate_bits}
+use Rattle.zorder.specs.declared.regions.Region.{Region}
+use Rattle.pgm_script.specs.Commands.{corner, region_of}
+
+-- a place behind a list takes the first of what follows
+set-behind : (xs : List ℕ) (n k v : ℕ) → k ≡ length xs → set (xs ++ replicate (suc n) 0) k v ≡ (xs ++ v ∷ []) ++ replicate n 0
+set-behind [] n zero v same = refl
+set-behind [] n (suc k) v same = absurd (omega arith)
+set-behind (x ∷ xs) n zero v same = absurd (omega arith)
+set-behind (x ∷ xs) n (suc k) v same = ap (λ (w : List ℕ). x ∷ w) (set-behind xs n k v (omega arith))
+
+pub corner-more : (numbers coords : List ℕ) (c v : ℕ) → coords ≡ take c numbers ++ replicate (4 - c) 0 → c < 4 → c < length numbers → v ≡ get_or numbers c 0 →
+    set coords c v ≡ take (c + 1) numbers ++ replicate (4 - (c + 1)) 0
+corner-more numbers coords c v so_far small within is =
+    let step : 4 - c ≡ suc (4 - (c + 1)) = omega arith in
+    ap (λ (w : List ℕ). set w c v) (so_far ∙ ap (λ (n : ℕ). take c numbers ++ replicate n 0) step)
+    ∙ set-behind (take c numbers) (4 - (c + 1)) c v (sym (length-take-le c numbers (omega arith)))
+    ∙ ap (λ (w : List ℕ). w ++ replicate (4 - (c + 1)) 0) (ap (λ (n : ℕ). take c numbers ++ n ∷ []) is ∙ sym (take_more numbers c 0 within))
+
+-- a corner is that of the numbers up to its end
+low-corner : (d : ℕ) (numbers : List ℕ) → corner d numbers ≡ corner d (take (d + d) numbers)
+low-corner d numbers = ap (λ (w : List ℕ). w ++ replicate (4 - d) 0) (sym (take-take d (d + d) numbers (omega arith)))
+
+high-corner : (d : ℕ) (numbers : List ℕ) → corner d (drop d numbers) ≡ corner d (drop d (take (d + d) numbers))
+high-corner d numbers =
+    ap (λ (w : List ℕ). w ++ replicate (4 - d) 0) (sym (ap (take d) (drop-take d d numbers) ∙ take-take d d (drop d numbers) (omega arith)))
+
+same-region : (d d' : ℕ) (low low' high high' : List ℕ) → d ≡ d' → low ≡ low' → high ≡ high' →
+    (let one : Region = record { d = d; low = low; high = high } in let other : Region = record { d = d'; low = low'; high = high' } in one ≡ other)
+same-region d d' low low' high high' p q r = cc
+
+pub region-is : (region : Region) (d : ℕ) (numbers : List ℕ) → region.d ≡ d → region.low ≡ corner d numbers → region.high ≡ corner d (drop d numbers) → region ≡ region_of d (take (d + d) numbers)
+region-is region d numbers same low high =
+    same-region region.d d region.low (corner d (take (d + d) numbers)) region.high (corner d (drop d (take (d + d) numbers))) same (low ∙ low-corner d numbers) (high ∙ high-corner d numbers)
+
+pub of-dimension : (P : ℕ → Type 0) → P 2 → P 3 → P 4 → (d : ℕ) → IsDimension d → P d
+of-dimension P two three four zero is = absurd (omega arith)
+of-dimension P two three four (suc zero) is = absurd (omega arith)
+of-dimension P two three four (suc (suc zero)) is = two
+of-dimension P two three four (suc (suc (suc zero))) is = three
+of-dimension P two three four (suc (suc (suc (suc zero)))) is = four
+of-dimension P two three four (suc (suc (suc (suc (suc d))))) is = absurd (omega arith)
+
+bits-few : (d : ℕ) → IsDimension d → 2 ^ coordinate_bits d ≤ 2 ^ 32
+bits-few = of-dimension (λ d. 2 ^ coordinate_bits d ≤ 2 ^ 32) (lit≤ tt) (lit≤ tt) (lit≤ tt)
+
+-- a number in range has at most 32 bits
+pub in-range : (d : ℕ) (numbers : List ℕ) (c : ℕ) → IsDimension d → All (λ number. number ≤ 2 ^ coordinate_bits d - 1) (take (d + d) numbers) → c < d + d → c < length numbers →
+    get_or numbers c 0 < 2 ^ 32
+in-range d numbers c dimension all below within =
+    let here = all c 0 (omega (arith, length-take (d + d) numbers)) in
+    let same = get_or-take (d + d) numbers c 0 below in
+    omega (arith, bits-few d dimension)

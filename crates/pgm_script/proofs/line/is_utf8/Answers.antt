@@ -1,0 +1,7 @@
+use Rattle.std.proofs.Common.{◌≡◌, List, ℕ, Bool, true, false, Result, Ok, Err, MatchResult, is_ok, refl, sym, ◌∙◌}
+use Rattle.std.specs.Str.{is_utf8, IsUtf8}
+use Rattle.pgm_script.proofs.Texts.{utf8-answer}
+use Rattle.pgm_script.proofs.line.is_utf8.Goals as goal
+
+pub returns : goal.returns
+returns c = c.is_ok.ensures.value ∙ utf8-answer c.args.line.now _ _ _ c.from_utf8.ensures.cases

@@ -1,0 +1,103 @@
+-- What a line is, and what a text is: a script, or one with a first line that is none.
+use Rattle.std.specs.Prelude.{◌≡◌, ℕ, zero, suc, ◌+◌, ◌==◌, if◌then◌else◌, List, [], ◌∷◌, ◌++◌, length, slice_index, bytes_eq, find, filter_map, All, Option, Some, None, Result, Ok, Err, IsOk, ⊤}
+use Rattle.std.specs.Str.{is_utf8}
+use Rattle.std.specs.Str.Lines.{strip_carriage_return}
+use Rattle.zorder.specs.Codes.{IsDimension}
+use Rattle.zorder.specs.Regions.{IsRegion}
+use Rattle.pgm_script.specs.declared.script.ScriptKind.{ScriptKind}
+use Rattle.pgm_script.specs.declared.script.ScriptKind.TheVariants as ScriptKind
+use Rattle.pgm_script.specs.declared.script.ScriptLine.{ScriptLine}
+use Rattle.pgm_script.specs.declared.script.ScriptLine.TheVariants as ScriptLine
+use Rattle.pgm_script.specs.declared.fault.ScriptFault.{ScriptFault}
+use Rattle.pgm_script.specs.declared.fault.ScriptFault.TheVariants.{At, ReadFault, TooLong, NoMemory}
+use Rattle.pgm_script.specs.declared.fault.Why.{Why}
+use Rattle.pgm_script.specs.declared.fault.Why.TheVariants.{NotUtf8, Word, Number, Missing, Extra}
+use Rattle.pgm_script.specs.Words.{lines_of, words_of, number_of}
+use Rattle.pgm_script.specs.Commands.{Command, commands_of}
+
+-- a number in front of others
+abbrev pub and_then : Option ℕ → Result (List ℕ) Why → Result (List ℕ) Why
+and_then None others = Err Number
+and_then (Some number) (Err why) = Err why
+and_then (Some number) (Ok numbers) = Ok (number ∷ numbers)
+
+-- the numbers of these words, which are to be so many, each at most `most`; or what is wrong first
+abbrev pub numbers_of : ℕ → ℕ → List (List ℕ) → Result (List ℕ) Why
+numbers_of most zero [] = Ok []
+numbers_of most zero (word ∷ words) = Err Extra
+numbers_of most (suc count) [] = Err Missing
+numbers_of most (suc count) (word ∷ words) = and_then (number_of most word) (numbers_of most count words)
+
+-- the line that a command makes of its numbers
+abbrev pub made : Command → Result (List ℕ) Why → Result (Option ScriptLine) Why
+made command (Ok numbers) = Ok (Some (command.line numbers))
+made command (Err why) = Err why
+
+abbrev pub command_reading : Option Command → List (List ℕ) → Result (Option ScriptLine) Why
+command_reading None words = Err Word
+command_reading (Some command) words = made command (numbers_of command.most command.count words)
+
+-- a line without a word is skipped, and so is one whose first word begins with a `#`
+abbrev pub words_reading : ScriptKind → List (List ℕ) → Result (Option ScriptLine) Why
+words_reading kind [] = Ok None
+words_reading kind (word ∷ words) =
+    if slice_index word 0 == 35 then Ok None else command_reading (find (λ command. bytes_eq word command.word) (commands_of kind)) words
+
+-- what a line is: nothing, one line of the script, or what is wrong with it first
+abbrev pub line_reading : ScriptKind → List ℕ → Result (Option ScriptLine) Why
+line_reading kind line = if is_utf8 line then words_reading kind (words_of (strip_carriage_return line)) else Err NotUtf8
+
+-- the line of the script, if it is one
+abbrev pub script_line : Result (Option ScriptLine) Why → Option ScriptLine
+script_line (Ok line) = line
+script_line (Err why) = None
+
+-- the lines of the script, in order
+abbrev pub script_of : ScriptKind → List (List ℕ) → List ScriptLine
+script_of kind lines = filter_map (λ line. script_line (line_reading kind line)) lines
+
+-- nothing is wrong with these lines
+abbrev pub AreGood : ScriptKind → List (List ℕ) → Type 0
+AreGood kind lines = All (λ line. IsOk (line_reading kind line)) lines
+
+-- line `at` is the first one with something wrong, counted from 1
+pub record IsFirstFault (kind : ScriptKind) (text : List ℕ) (at : ℕ) (why : Why) : Type 0 where
+  pub before : List (List ℕ)
+  pub line : List ℕ
+  pub after : List (List ℕ)
+  pub lines : lines_of text ≡ before ++ line ∷ after
+  pub good : AreGood kind before
+  pub place : at ≡ length before + 1
+  pub wrong : line_reading kind line ≡ Err why
+
+-- the reading of a text: the lines of the script that it is, or its first fault
+abbrev pub ReadsAs : ScriptKind → List ℕ → Result (List ScriptLine) ScriptFault → Type 0
+ReadsAs kind text (Ok lines) = AreGood kind (lines_of text) × (lines ≡ script_of kind (lines_of text))
+ReadsAs kind text (Err (At line why)) = IsFirstFault kind text line why
+ReadsAs kind text (Err ReadFault) = ⊥
+ReadsAs kind text (Err (TooLong got)) = ⊥
+ReadsAs kind text (Err NoMemory) = ⊥
+
+-- a text has exactly one reading
+pub record HasOneReading (kind : ScriptKind) (text : List ℕ) : Type 0 where
+  pub reading : Result (List ScriptLine) ScriptFault
+  pub is_one : ReadsAs kind text reading
+  pub only : (other : Result (List ScriptLine) ScriptFault) → ReadsAs kind text other → other ≡ reading
+
+-- a region has from 2 to 4 coordinates
+abbrev pub IsKind : ScriptKind → Type 0
+IsKind ScriptKind.Find = ⊤
+IsKind (ScriptKind.Region d) = IsDimension d
+IsKind ScriptKind.Replay = ⊤
+
+-- a line that a script of this kind can have; a region is one of its dimension
+abbrev pub IsLineOf : ScriptKind → ScriptLine → Type 0
+IsLineOf ScriptKind.Find (ScriptLine.Find q) = ⊤
+IsLineOf (ScriptKind.Region d) (ScriptLine.Region region) = (region.d ≡ d) × IsRegion region
+IsLineOf ScriptKind.Replay (ScriptLine.Put key value) = ⊤
+IsLineOf ScriptKind.Replay (ScriptLine.Del key) = ⊤
+IsLineOf ScriptKind.Replay (ScriptLine.Get key) = ⊤
+IsLineOf ScriptKind.Replay (ScriptLine.Next key) = ⊤
+IsLineOf ScriptKind.Replay (ScriptLine.Count low high) = ⊤
+IsLineOf ScriptKind.Replay (ScriptLine.Sweep low high) = ⊤
+IsLineOf kind line = ⊥

@@ -1,0 +1,124 @@
+// The commands, as the program knows them.
+ghost use Rattle.std.specs.Prelude.{◌≡◌, ◌≤◌, ◌<◌, ◌+◌, ◌^◌, ℕ, Option, All, IfSome, option_map, find, bytes_eq, take, drop, length, slice_index};
+ghost use Rattle.zorder.specs.Codes.{IsDimension};
+ghost use Rattle.pgm_script.specs.Commands.{Command, commands_of, corner};
+ghost use Rattle.pgm_script.specs.Scripts.{IsKind};
+ghost use Rattle.pgm_script.specs.Verbs.{command_of, IsVerb};
+
+use crate::{ScriptKind, ScriptLine};
+use zorder::Region;
+
+/// A command.
+#[derive(Clone, Copy)]
+pub(crate) enum Verb {
+    Find,
+    Box(u32),
+    Put,
+    Del,
+    Get,
+    Next,
+    Count,
+    Sweep,
+}
+
+// The command of this word, if the kind has it.
+pub(crate) fn verb_of(kind: ScriptKind, word: &[u8]) -> Option<Verb>
+    requires { IsKind kind }
+    ensures command { option_map command_of result ≡ find (λ command. bytes_eq word.now command.word) (commands_of kind) }
+    ensures verb { IfSome result IsVerb }
+{
+    match kind {
+        ScriptKind::Find => (word == b"find".as_slice()).then_some(Verb::Find),
+        ScriptKind::Region(d) => (word == b"box".as_slice()).then_some(Verb::Box(d)),
+        ScriptKind::Replay => {
+            if word == b"put".as_slice() {
+                Some(Verb::Put)
+            } else if word == b"del".as_slice() {
+                Some(Verb::Del)
+            } else if word == b"get".as_slice() {
+                Some(Verb::Get)
+            } else if word == b"next".as_slice() {
+                Some(Verb::Next)
+            } else if word == b"count".as_slice() {
+                Some(Verb::Count)
+            } else if word == b"sweep".as_slice() {
+                Some(Verb::Sweep)
+            } else {
+                None
+            }
+        }
+    }
+}
+
+// How many numbers follow.
+pub(crate) fn count(verb: Verb) -> usize
+    requires { IsVerb verb }
+    ensures count { result ≡ (command_of verb).count }
+    ensures few { result ≤ 8 }
+{
+    match verb {
+        Verb::Find | Verb::Del | Verb::Get | Verb::Next => 1,
+        Verb::Put | Verb::Count | Verb::Sweep => 2,
+        Verb::Box(d) => 2 * d as usize,
+    }
+}
+
+// The greatest value of each.
+pub(crate) fn most(verb: Verb) -> u64
+    requires { IsVerb verb }
+    ensures { result ≡ (command_of verb).most }
+{
+    match verb {
+        Verb::Box(d) => (1 << (64 / d)) - 1,
+        _ => u64::MAX,
+    }
+}
+
+// The line that the command makes of its numbers.
+pub(crate) fn script_line(verb: Verb, numbers: &[u64]) -> ScriptLine
+    requires verb { IsVerb verb }
+    requires enough { 8 ≤ length numbers.now }
+    requires range { All (λ number. number ≤ (command_of verb).most) (take (command_of verb).count numbers.now) }
+    ensures { result ≡ (command_of verb).line (take (command_of verb).count numbers.now) }
+{
+    match verb {
+        Verb::Find => ScriptLine::Find(numbers[0]),
+        Verb::Box(d) => ScriptLine::Region(region(d, numbers)),
+        Verb::Put => ScriptLine::Put(numbers[0], numbers[1]),
+        Verb::Del => ScriptLine::Del(numbers[0]),
+        Verb::Get => ScriptLine::Get(numbers[0]),
+        Verb::Next => ScriptLine::Next(numbers[0]),
+        Verb::Count => ScriptLine::Count(numbers[0], numbers[1]),
+        Verb::Sweep => ScriptLine::Sweep(numbers[0], numbers[1]),
+    }
+}
+
+// The region of these corners, the low one first.
+fn region(d: u32, numbers: &[u64]) -> Region
+    requires dimension { IsDimension d }
+    requires enough { 8 ≤ length numbers.now }
+    requires range { (c : ℕ) → c < d + d → slice_index numbers.now c < 2 ^ 32 }
+    ensures d { result.d ≡ d }
+    ensures low { result.low ≡ corner d numbers.now }
+    ensures high { result.high ≡ corner d (drop d numbers.now) }
+{
+    Region {
+        d,
+        low: corner(d as usize, numbers),
+        high: corner(d as usize, &numbers[d as usize..]),
+    }
+}
+
+// The first coordinates, with 0 for the others.
+fn corner(d: usize, numbers: &[u64]) -> [u32; 4]
+    requires dimension { IsDimension d }
+    requires enough { d ≤ length numbers.now }
+    requires range { (c : ℕ) → c < d → slice_index numbers.now c < 2 ^ 32 }
+    ensures { result ≡ corner d numbers.now }
+{
+    let mut coords = [0; 4];
+    for c in 0..d {
+        coords[c] = numbers[c] as u32;
+    }
+    coords
+}
