@@ -2,6 +2,7 @@ pub mod Risen
 pub mod Counts
 pub mod Telling
 pub mod Shelf
+pub mod Reading
 pub mod Sink
 pub mod Files
 pub mod Taken

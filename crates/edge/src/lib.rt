@@ -10,6 +10,7 @@
 
 mod failed;
 mod file_shelf;
+mod filling;
 mod gate;
 mod mem_shelf;
 mod mem_sink;
@@ -19,6 +20,7 @@ mod sink;
 
 pub use failed::Failed;
 pub use file_shelf::FileShelf;
+pub use filling::{fill, next_byte};
 pub use gate::{Gate, OpenGate, Place};
 pub use mem_shelf::MemShelf;
 pub use mem_sink::MemSink;

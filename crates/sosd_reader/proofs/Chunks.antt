@@ -6,8 +6,9 @@ use Rattle.std.proofs.lemmas.List.{append-nil, nil_from_length}
 use Rattle.std.proofs.lemmas.List.Concat.{flat_map-append}
 use Rattle.std.proofs.lemmas.List.Elements.{All-append}
 use Rattle.byteorder.specs.Endian.{little_bytes}
-use Rattle.sosd_reader.specs.Reading.{HasRead, GoesOn, ReadsNumbers}
-use Rattle.sosd_reader.proofs.Steps.{HasRead-append}
+use Rattle.edge.specs.Reading.{HasRead}
+use Rattle.sosd_reader.specs.Reading.{GoesOn, ReadsNumbers}
+use Rattle.edge.proofs.CallerLemmas.{HasRead-append}
 use Rattle.sosd_reader.proofs.Fronts.{length-numbers}
 
 -- what is over of whole numbers is less than one, so nothing

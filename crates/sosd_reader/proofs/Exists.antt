@@ -4,6 +4,7 @@ use Rattle.std.specs.List.{flat_map}
 use Rattle.std.specs.List.Sorted.{IsNonDecreasing}
 use Rattle.std.proofs.lemmas.Bool.{cases_lt}
 use Rattle.std.proofs.lemmas.List.{take-append-drop, length-drop, append-nil, nil_from_length, get_or_default}
+use Rattle.std.proofs.lemmas.List.Elements.{All-cons}
 use Rattle.std.proofs.lemmas.List.Sorted.{IsNonDecreasingBy-from_all_adjacent}
 use Rattle.byteorder.specs.Endian.{little_bytes, little_number}
 use Rattle.byteorder.specs.Numbers.{little_from-lt}
@@ -70,15 +71,11 @@ all-dropped bytes zero small j = small j
 all-dropped [] (suc k) small j = small j
 all-dropped (b ∷ bytes) (suc k) small j = all-dropped bytes k (λ i. small (suc i)) j
 
-all-cons : (P : ℕ → Type 0) (x : ℕ) (xs : List ℕ) → P x → All P xs → All P (x ∷ xs)
-all-cons P x xs here rest zero d below = here
-all-cons P x xs here rest (suc k) d below = rest k d (omega arith)
-
 fits-numbers_in : (width n : ℕ) (bytes : List ℕ) → ((j : ℕ) → get_or bytes j 0 < 256) → All (λ number. number < 256 ^ width) (numbers_in width n bytes)
 unfolding numbers_in
 fits-numbers_in width zero bytes small = λ k d below. absurd (omega arith)
 fits-numbers_in width (suc n) bytes small =
-    all-cons (λ number. number < 256 ^ width) (little_number width bytes) (numbers_in width n (drop width bytes)) (little_from-lt 0 width bytes small) (fits-numbers_in width n (drop width bytes) (all-dropped bytes width small))
+    All-cons (λ number. number < 256 ^ width) (little_number width bytes) (numbers_in width n (drop width bytes)) (little_from-lt 0 width bytes small) (fits-numbers_in width n (drop width bytes) (all-dropped bytes width small))
 
 -- whole numbers and nothing else are their own bytes
 written-numbers_in : (width n : ℕ) (bytes : List ℕ) → ((j : ℕ) → get_or bytes j 0 < 256) → length bytes ≡ width * n → flat_map (little_bytes width) (numbers_in width n bytes) ≡ bytes

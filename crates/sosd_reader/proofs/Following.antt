@@ -12,7 +12,8 @@ use Rattle.sosd_reader.specs.declared.fault.KeyFault.{KeyFault}
 use Rattle.sosd_reader.specs.declared.fault.KeyFault.TheVariants.{ReadFault, TooMany, Short, Unsorted, Trailing, Wide, NoMemory}
 use Rattle.sosd_reader.specs.KeyFiles.{IsKeyList, IsKeyFileOf}
 use Rattle.sosd_reader.specs.KeyFileFaults.{count_in, IsUnsorted, IsShort, IsTrailing, ReadsAs}
-use Rattle.sosd_reader.specs.Reading.{HasRead, EndsEarly, StopsAs, HasFault}
+use Rattle.edge.specs.Reading.{HasRead}
+use Rattle.sosd_reader.specs.Reading.{EndsEarly, StopsAs, HasFault}
 use Rattle.sosd_reader.proofs.Fronts.{length-numbers}
 use Rattle.sosd_reader.proofs.Beginning.{BeginsWith, count-is, length-is, has-count, key-at, none-falls, whole-among}
 

@@ -1,7 +1,6 @@
 pub mod Numbers
 pub mod Widths
 pub mod Steps
-pub mod Filling
 pub mod Fronts
 pub mod Beginning
 pub mod Unique

@@ -9,7 +9,7 @@ use Rattle.std.proofs.lemmas.List.Sorted.{IsNonDecreasingBy-push}
 use Rattle.byteorder.specs.Endian.{little_bytes}
 use Rattle.sosd_reader.specs.declared.fault.KeyFault.TheVariants.{Unsorted}
 use Rattle.sosd_reader.specs.Reading.{GoesOn, StopsAs}
-use Rattle.sosd_reader.proofs.Filling.{take-add}
+use Rattle.std.proofs.Math.Seq.{take-add}
 
 -- the first i numbers were added, and the last key is `before`, or 0 where there is none
 pub record IsUnderWay (width : ℕ) (front bytes : List ℕ) (i : ℕ) (keys : List ℕ) (before : ℕ) : Type 0 where

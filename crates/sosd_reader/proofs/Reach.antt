@@ -9,13 +9,11 @@ use Rattle.edge.specs.Shelf.{TakesAtMost, IsEmptied}
 use Rattle.sosd_reader.specs.declared.fault.KeyFault.{KeyFault}
 use Rattle.sosd_reader.specs.declared.fault.KeyFault.TheVariants.{ReadFault}
 use Rattle.sosd_reader.specs.KeyFileFaults.{count_in, reach}
-use Rattle.sosd_reader.specs.Reading.{HasRead, LeavesBy, Leaves}
+use Rattle.edge.specs.Reading.{HasRead}
+use Rattle.sosd_reader.specs.Reading.{LeavesBy, Leaves}
 use Rattle.sosd_reader.proofs.Fronts.{length-numbers}
-use Rattle.sosd_reader.proofs.Steps.{HasRead-append, emptied-after, takes-read, leaves-after}
-
-pub on-error : {T E : Type 0} (result : Result T E) (P : Type 0) → P → OnErr result P
-on-error (Ok x) P holds = tt
-on-error (Err e) P holds = holds
+use Rattle.edge.proofs.CallerLemmas.{HasRead-append, emptied-after, takes-read}
+use Rattle.sosd_reader.proofs.Steps.{leaves-after}
 
 pub leaves-passed : {T : Type 0} (result : Result T KeyFault) (most : ℕ) (a b : Option (List ℕ)) (passed fault : KeyFault) → result ≡ Err passed → passed ≡ fault →
     LeavesBy most a b fault → Leaves most a b result

@@ -1,47 +1,11 @@
--- One step of a reader after another: what was read, and what is left.
-use Rattle.std.proofs.Common.{ℕ, ◌+◌, ◌≤◌, List, ◌++◌, length, drop, refl, sym, ap, ◌∙◌, Option, Some, None, append_assoc, arith}
-use Rattle.std.proofs.lemmas.List.{drop_at}
-use Rattle.std.proofs.Math.Seq.{drop-append-add}
-use Rattle.edge.specs.Shelf.{HasNothingLeft, TakesAtMost, IsEmptied}
-use Rattle.edge.specs.Telling.{TellsAsBefore}
+-- What a fault leaves.
+use Rattle.std.proofs.Common.{ℕ, ◌+◌, ◌≤◌, List, length, Option}
+use Rattle.edge.specs.Shelf.{TakesAtMost}
+use Rattle.edge.specs.Reading.{HasRead}
+use Rattle.edge.proofs.CallerLemmas.{emptied-after, takes-after}
 use Rattle.sosd_reader.specs.declared.fault.KeyFault.{KeyFault}
 use Rattle.sosd_reader.specs.declared.fault.KeyFault.TheVariants.{ReadFault, TooMany, Short, Unsorted, Trailing, Wide, NoMemory}
-use Rattle.sosd_reader.specs.Reading.{HasRead, StopsAs, LeavesBy}
-
--- the two pieces came next
-pub HasRead-append : (a b c : Option (List ℕ)) (p q : List ℕ) → HasRead a p b → HasRead b q c → HasRead a (p ++ q) c
-HasRead-append None b c p q _ _ = tt
-HasRead-append (Some x) None c p q h _ = absurd h
-HasRead-append (Some x) (Some y) None p q _ k = absurd k
-HasRead-append (Some x) (Some y) (Some z) p q h k = h ∙ ap (λ (w : List ℕ). p ++ w) k ∙ sym (append_assoc p q z)
-
--- a failed call leaves nothing, and goes on telling it
-pub emptied : (a b : Option (List ℕ)) → HasNothingLeft b → TellsAsBefore a b → IsEmptied a b
-emptied None b _ _ = tt
-emptied (Some x) None _ tells = cc
-emptied (Some x) (Some y) none _ = ap Some none
-
-pub emptied-after : (a b c : Option (List ℕ)) (p : List ℕ) → HasRead a p b → IsEmptied b c → IsEmptied a c
-emptied-after None b c p _ _ = tt
-emptied-after (Some x) None c p h _ = absurd h
-emptied-after (Some x) (Some y) c p _ k = k
-
--- what was read is gone
-pub takes-read : (a b : Option (List ℕ)) (p : List ℕ) (most : ℕ) → length p ≤ most → HasRead a p b → TakesAtMost most a b
-takes-read None b p most _ _ = tt
-takes-read (Some x) None p most _ h = absurd h
-takes-read (Some x) (Some y) p most few h =
-    (length p, few, ap Some (sym (ap (drop (length p)) h ∙ drop_at p y (length p) refl)))
-
-pub takes-after : (a b c : Option (List ℕ)) (p : List ℕ) (some most : ℕ) → length p + some ≤ most → HasRead a p b → TakesAtMost some b c → TakesAtMost most a c
-takes-after None b c p some most _ _ _ = tt
-takes-after (Some x) None c p some most _ h _ = absurd h
-takes-after (Some x) (Some y) c p some most few h k =
-    (length p + k.0, omega (arith, k.1), k.2 ∙ ap Some (sym (ap (drop (length p + k.0)) h ∙ drop-append-add p y k.0)))
-
-pub takes-nothing : (a : Option (List ℕ)) (most : ℕ) → TakesAtMost most a a
-takes-nothing None most = tt
-takes-nothing (Some x) most = (0, omega arith, refl)
+use Rattle.sosd_reader.specs.Reading.{StopsAs, LeavesBy}
 
 pub leaves-after : (a b c : Option (List ℕ)) (p : List ℕ) (some most : ℕ) (fault : KeyFault) → length p + some ≤ most → HasRead a p b →
     LeavesBy some b c fault → LeavesBy most a c fault

@@ -4,19 +4,11 @@ use Rattle.std.specs.List.{flat_map}
 use Rattle.std.specs.List.Sorted.{IsNonDecreasing}
 use Rattle.std.specs.Option.{IsSomeAnd}
 use Rattle.byteorder.specs.Endian.{little_bytes}
+use Rattle.edge.specs.Reading.{HasRead}
 use Rattle.edge.specs.Risen.{HasRisen}
 use Rattle.edge.specs.Shelf.{TakesAtMost, IsEmptied}
 use Rattle.sosd_reader.specs.declared.fault.KeyFault.{KeyFault}
 use Rattle.sosd_reader.specs.declared.fault.KeyFault.TheVariants.{ReadFault, Short, Unsorted, Wide, NoMemory}
-
--- this piece was what came next, and the bytes after it are left
-abbrev pub HasRead : Option (List ℕ) → List ℕ → Option (List ℕ) → Type 0
-HasRead before piece after = IfSome before (λ bytes. IsSomeAnd after (λ left. bytes ≡ piece ++ left))
-
--- the front of the buffer holds the next n bytes, which are all that there were where n is less than its room
-pub record Fills (before : Option (List ℕ)) (n : ℕ) (buf : List ℕ) (after : Option (List ℕ)) : Type 0 where
-  pub read : HasRead before (take n buf) after
-  pub ended : n < length buf → IfSome before (λ bytes. bytes ≡ take n buf)
 
 -- the keys went on by numbers that stand at the front of these bytes, of which fewer than a number's are over
 pub record GoesOn (width : ℕ) (front bytes keys : List ℕ) : Type 0 where

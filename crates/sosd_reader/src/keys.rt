@@ -7,12 +7,12 @@ ghost use Rattle.edge.specs.Risen.{HasRisen};
 ghost use Rattle.edge.specs.Shelf.{TakesAtMost, IsEmptied};
 ghost use Rattle.sosd_reader.specs.KeyFiles.{IsKeyFileOf, IsWidth, key_width};
 ghost use Rattle.sosd_reader.specs.KeyFileFaults.{ReadsAs, ReadingsAreOne, reach};
-ghost use Rattle.sosd_reader.specs.Reading.{HasRead, GoesOn, ReadsNumbers, StopsAs, HasFault, HasReadCause, Leaves};
+ghost use Rattle.edge.specs.Reading.{HasRead};
+ghost use Rattle.sosd_reader.specs.Reading.{GoesOn, ReadsNumbers, StopsAs, HasFault, HasReadCause, Leaves};
 
 use crate::KeyFault;
-use crate::fill::{fill, next_byte};
 use byteorder::{ByteOrder, LittleEndian};
-use edge::Shelf;
+use edge::{Shelf, fill, next_byte};
 use std::alloc::Global;
 
 /// How many numbers a chunk has at most: so far memory is taken ahead of the bytes.

@@ -12,7 +12,6 @@
 #![tactic(auto)]
 
 mod fault;
-mod fill;
 mod keys;
 #[cfg(test)]
 mod tests;

@@ -4,7 +4,8 @@ use Rattle.std.proofs.lemmas.Result.{err_from_is_err_and}
 use Rattle.sosd_reader.specs.Reading.{GoesOn, StopsAs, HasFault}
 use Rattle.sosd_reader.proofs.Widths.{width-some, whole-in, numbers-fit}
 use Rattle.sosd_reader.proofs.Chunks.{whole-chunk}
-use Rattle.sosd_reader.proofs.Steps.{takes-read, leaves-stopped}
+use Rattle.edge.proofs.CallerLemmas.{takes-read}
+use Rattle.sosd_reader.proofs.Steps.{leaves-stopped}
 use Rattle.sosd_reader.proofs.Reach.{leaves-passed}
 use Rattle.sosd_reader.proofs.Following.{IfErr-from, chunk-stops}
 use Rattle.sosd_reader.proofs.keys.read_chunk.Goals as goal

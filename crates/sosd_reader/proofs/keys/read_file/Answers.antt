@@ -4,7 +4,8 @@ use Rattle.std.specs.Option.{option_to_list}
 use Rattle.std.proofs.lemmas.Result.{err_from_is_err_and}
 use Rattle.byteorder.specs.Endian.{little_bytes}
 use Rattle.sosd_reader.specs.KeyFileFaults.{ReadsAs}
-use Rattle.sosd_reader.specs.Reading.{HasRead, StopsAs, HasFault}
+use Rattle.edge.specs.Reading.{HasRead}
+use Rattle.sosd_reader.specs.Reading.{StopsAs, HasFault}
 use Rattle.sosd_reader.proofs.Following.{IfErr-from, HasFault-after, keys-stop, reads-trailing, file-read}
 use Rattle.sosd_reader.proofs.Reach.{reaches-passed, count-refused, keys-refused, byte-refused, file-taken, most-one}
 use Rattle.sosd_reader.proofs.keys.read_file.Goals as goal

@@ -2,7 +2,8 @@ use Rattle.std.proofs.Common.{◌≡◌, ◌+◌, ◌*◌, ◌≤◌, [], length
 use Rattle.std.proofs.lemmas.Result.{err_from_is_err_and}
 use Rattle.sosd_reader.specs.Reading.{StopsAs, HasFault}
 use Rattle.sosd_reader.proofs.Fronts.{length-numbers}
-use Rattle.sosd_reader.proofs.Steps.{leaves-after, takes-read}
+use Rattle.edge.proofs.CallerLemmas.{takes-read}
+use Rattle.sosd_reader.proofs.Steps.{leaves-after}
 use Rattle.sosd_reader.proofs.Chunks.{reads-more, fit-more}
 use Rattle.sosd_reader.proofs.Reach.{leaves-passed}
 use Rattle.sosd_reader.proofs.Following.{IfErr-from, HasFault-after, stops-after}

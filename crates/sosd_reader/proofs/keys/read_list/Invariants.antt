@@ -2,7 +2,7 @@ use Rattle.std.proofs.Common.{◌≡◌, ◌-◌, ◌*◌, ◌≤◌, vec_len, m
 use Rattle.std.specs.List.{flat_map}
 use Rattle.std.specs.List.Sorted.{IsNonDecreasing}
 use Rattle.byteorder.specs.Endian.{little_bytes}
-use Rattle.sosd_reader.specs.Reading.{HasRead}
+use Rattle.edge.specs.Reading.{HasRead}
 use Rattle.sosd_reader.proofs.keys.read_list.Given as goal
 
 abbrev pub invariant-loop-keys : goal.invariant-loop-keys

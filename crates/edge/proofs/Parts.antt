@@ -2,11 +2,12 @@
 use Rattle.std.proofs.Common.{◌≡◌, ℕ, zero, suc, ◌+◌, ◌<◌, ◌≤◌, List, [], ◌++◌, length, take, drop, refl, sym, ap, ◌∙◌, subst, Option, Some, None, arith}
 use Rattle.std.specs.Option.{IfSome, IsSomeAnd}
 use Rattle.std.proofs.lemmas.List.{take-append-drop, take-append-le, append-nil, nil_from_length, take_at, length-take-le, drop_at, take-take, drop-take}
+use Rattle.std.proofs.Math.Seq.{take-add}
 use Rattle.std.proofs.lemmas.Slice.{take-put_mid_below}
 use borrow.Rule.Slice.PartMut.{put_mid}
 use Rattle.edge.specs.Shelf.{ReadsNext}
-use Rattle.sosd_reader.specs.Reading.{HasRead, Fills}
-use Rattle.sosd_reader.proofs.Steps.{HasRead-append}
+use Rattle.edge.specs.Reading.{HasRead, Fills}
+use Rattle.edge.proofs.CallerLemmas.{HasRead-append}
 
 pub HasRead-next : (before after : Option (List ℕ)) (room n : ℕ) (buf : List ℕ) → ReadsNext before room n buf after → HasRead before (take n buf) after
 HasRead-next None after room n buf _ = tt
@@ -14,11 +15,6 @@ HasRead-next (Some bytes) after room n buf next =
     let P : Option (List ℕ) → Type 0 = λ rest. IsSomeAnd rest (λ left. bytes ≡ take n buf ++ left) in
     let split : bytes ≡ take n buf ++ drop n bytes = sym (take-append-drop n bytes) ∙ ap (λ (w : List ℕ). w ++ drop n bytes) (sym next.read) in
     subst P (sym next.left) split
-
-pub take-add : (i n : ℕ) (xs : List ℕ) → take (i + n) xs ≡ take i xs ++ take n (drop i xs)
-take-add i n xs =
-    let e = take-append-drop i (take (i + n) xs) in
-    sym e ∙ ap (λ (w : List ℕ). w ++ drop i (take (i + n) xs)) (take-take i (i + n) xs (omega arith)) ∙ ap (λ (w : List ℕ). take i xs ++ w) (drop-take i n xs)
 
 -- what the front holds after a write of the part behind it
 take-put_mid_part : (filled n k : ℕ) (buf part : List ℕ) → filled ≤ length buf → n ≤ length part →

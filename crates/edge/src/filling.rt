@@ -3,12 +3,16 @@ ghost use Rattle.std.specs.Prelude.{◌≡◌, ◌<◌, ◌≤◌, [], length, I
 ghost use Rattle.std.specs.Option.{option_to_list};
 ghost use Rattle.edge.specs.Counts.{HasCause};
 ghost use Rattle.edge.specs.Shelf.{IsEmptied};
-ghost use Rattle.sosd_reader.specs.Reading.{HasRead, Fills};
+ghost use Rattle.edge.specs.Reading.{HasRead, Fills};
 
-use edge::{Failed, Shelf};
+use crate::{Failed, Shelf};
 
-// Reads until the buffer is full or nothing is left, and answers how many bytes stand in its front.
-pub(crate) fn fill<F: Shelf>(shelf: &mut F, buf: &mut [u8]) -> Result<usize, Failed>
+/// Reads until the buffer is full or nothing is left, and answers how many bytes stand in its front.
+///
+/// # Errors
+///
+/// `Failed` at once where a read failed. Then nothing is left.
+pub fn fill<F: Shelf>(shelf: &mut F, buf: &mut [u8]) -> Result<usize, Failed>
     ensures within { IfOk result (λ n. n ≤ length buf.old) }
     ensures next { IfOk result (λ n. Fills (F.rest shelf.old) n buf.new (F.rest shelf.new)) }
     ensures emptied { OnErr result (IsEmptied (F.rest shelf.old) (F.rest shelf.new)) }
@@ -26,12 +30,14 @@ pub(crate) fn fill<F: Shelf>(shelf: &mut F, buf: &mut [u8]) -> Result<usize, Fai
     Ok(filled)
 }
 
-// The next byte, or nothing at the end of the file.
-pub(crate) fn next_byte<F: Shelf>(shelf: &mut F) -> Result<Option<u8>, Failed>
-    ensures next { IfOk result
-        (λ byte. HasRead (F.rest shelf.old) (option_to_list byte) (F.rest shelf.new)) }
-    ensures ended { IfOk result
-        (λ byte. byte ≡ None → IfSome (F.rest shelf.old) (λ bytes. bytes ≡ [])) }
+/// The next byte, or nothing at the end of the file.
+///
+/// # Errors
+///
+/// `Failed` where the read failed. Then nothing is left.
+pub fn next_byte<F: Shelf>(shelf: &mut F) -> Result<Option<u8>, Failed>
+    ensures next { IfOk result (λ byte. HasRead (F.rest shelf.old) (option_to_list byte) (F.rest shelf.new)) }
+    ensures ended { IfOk result (λ byte. byte ≡ None → IfSome (F.rest shelf.old) (λ bytes. bytes ≡ [])) }
     ensures emptied { OnErr result (IsEmptied (F.rest shelf.old) (F.rest shelf.new)) }
     ensures files { F.files shelf.new ≡ F.files shelf.old }
     ensures cause { HasCause (F.faults shelf.old) (F.faults shelf.new) result }

@@ -1,9 +1,9 @@
 use Rattle.std.proofs.Common.{◌∙◌, arith}
 use Rattle.std.proofs.lemmas.List.{length-take, length-drop, places}
-use Rattle.sosd_reader.proofs.Steps.{emptied, emptied-after}
-use Rattle.sosd_reader.proofs.Reach.{on-error}
-use Rattle.sosd_reader.proofs.Filling.{fill-more, fill-ends}
-use Rattle.sosd_reader.proofs.fill.fill.Goals as goal
+use Rattle.edge.proofs.CallerLemmas.{emptied, emptied-after}
+use Rattle.edge.proofs.CallerLemmas.{on-error}
+use Rattle.edge.proofs.Parts.{fill-more, fill-ends}
+use Rattle.edge.proofs.filling.fill.Goals as goal
 
 pub returns-then-n-eq0-clause-next : goal.returns-then-n-eq0-clause-next
 returns-then-n-eq0-clause-next g c =

@@ -1,6 +1,6 @@
 use Rattle.std.proofs.Common.{◌≡◌, ◌-◌, ◌≤◌, length, take}
-use Rattle.sosd_reader.specs.Reading.{HasRead}
-use Rattle.sosd_reader.proofs.fill.fill.Given as goal
+use Rattle.edge.specs.Reading.{HasRead}
+use Rattle.edge.proofs.filling.fill.Given as goal
 
 abbrev pub invariant-loop-filled : goal.invariant-loop-filled
 invariant-loop-filled g l = record {
