@@ -58,10 +58,10 @@ commands-make (ScriptKind.Region d) word is =
 commands-make ScriptKind.Replay word is =
     found ScriptKind.Replay put_command (bytes_eq word (codes "put")) _ (λ words numbers read. tt)
     (found ScriptKind.Replay del_command (bytes_eq word (codes "del")) _ (λ words numbers read. tt)
-      (found ScriptKind.Replay get_command (bytes_eq word (codes "get")) _ (λ words numbers read. tt)
-        (found ScriptKind.Replay next_command (bytes_eq word (codes "next")) _ (λ words numbers read. tt)
-          (found ScriptKind.Replay count_command (bytes_eq word (codes "count")) _ (λ words numbers read. tt)
-            (found ScriptKind.Replay sweep_command (bytes_eq word (codes "sweep")) None (λ words numbers read. tt) (nothing-found ScriptKind.Replay))))))
+    (found ScriptKind.Replay get_command (bytes_eq word (codes "get")) _ (λ words numbers read. tt)
+    (found ScriptKind.Replay next_command (bytes_eq word (codes "next")) _ (λ words numbers read. tt)
+    (found ScriptKind.Replay count_command (bytes_eq word (codes "count")) _ (λ words numbers read. tt)
+    (found ScriptKind.Replay sweep_command (bytes_eq word (codes "sweep")) None (λ words numbers read. tt) (nothing-found ScriptKind.Replay))))))
 
 made-line : (kind : ScriptKind) (command : Command) (r : Result (List ℕ) Why) (line : ScriptLine) → ((numbers : List ℕ) → r ≡ Ok numbers → IsLineOf kind (command.line numbers)) →
     made command r ≡ Ok (Some line) → IsLineOf kind line

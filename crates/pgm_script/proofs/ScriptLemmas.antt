@@ -37,8 +37,8 @@ more kind text rest after line lines lines' number made so_far cut reading is = 
   parts = so_far.parts ∙ ap (λ (w : List (List ℕ)). so_far.before ++ w) cut ∙ sym (append_assoc so_far.before (line ∷ []) (lines_of after));
   good = All-append (λ line. IsOk (line_reading kind line)) so_far.before (line ∷ []) so_far.good (good-one kind line (ok-is _ made reading));
   made = is ∙ ap (λ (w : List ScriptLine). w ++ cons_option made []) so_far.made
-    ∙ ap (λ (r : Result (Option ScriptLine) Why). script_of kind so_far.before ++ cons_option (script_line r) []) (sym reading)
-    ∙ sym (filter_map-append (λ line. script_line (line_reading kind line)) so_far.before (line ∷ []));
+      ∙ ap (λ (r : Result (Option ScriptLine) Why). script_of kind so_far.before ++ cons_option (script_line r) []) (sym reading)
+      ∙ sym (filter_map-append (λ line. script_line (line_reading kind line)) so_far.before (line ∷ []));
   place = omega (arith, so_far.place, length-append so_far.before (line ∷ []));
 }
 
@@ -91,14 +91,14 @@ first-fault-is kind text at at' why why' one two =
     ⊎_elim
     (λ less. absurd (good-clash kind (lines_of text) one.before one.line one.after two.before (two.line ∷ two.after) why one.lines two.lines two.good less one.wrong))
     (λ rest. ⊎_elim
-      (λ less. absurd (good-clash kind (lines_of text) two.before two.line two.after one.before (one.line ∷ one.after) why' two.lines one.lines one.good less two.wrong))
-      (λ more.
-        let same : length one.before ≡ length two.before = omega arith in
-        let line = same-line (lines_of text) one.before two.before one.line two.line one.after two.after one.lines two.lines same in
-        let wrong : Err why ≡ Err why' = sym one.wrong ∙ ap (line_reading kind) line ∙ two.wrong in
-        let place : at ≡ at' = omega (arith, one.place, two.place) in
-        (place, cc))
-      (cases_lt (length two.before) (length one.before)))
+    (λ less. absurd (good-clash kind (lines_of text) two.before two.line two.after one.before (one.line ∷ one.after) why' two.lines one.lines one.good less two.wrong))
+    (λ more.
+    let same : length one.before ≡ length two.before = omega arith in
+    let line = same-line (lines_of text) one.before two.before one.line two.line one.after two.after one.lines two.lines same in
+    let wrong : Err why ≡ Err why' = sym one.wrong ∙ ap (line_reading kind) line ∙ two.wrong in
+    let place : at ≡ at' = omega (arith, one.place, two.place) in
+    (place, cc))
+    (cases_lt (length two.before) (length one.before)))
     (cases_lt (length one.before) (length two.before))
 
 good-fault : (kind : ScriptKind) (text : List ℕ) (at : ℕ) (why : Why) → AreGood kind (lines_of text) → IsFirstFault kind text at why → ⊥
@@ -139,17 +139,17 @@ search-wrong kind [] = inl (λ k d below. absurd (omega arith))
 search-wrong kind (line ∷ lines) =
     ⊎_elim
     (λ here. ⊎_elim
-      (λ rest. inl (All-cons (λ line. IsOk (line_reading kind line)) line lines here rest))
-      (λ first. inr (record {
-        before = line ∷ first.before;
-        line = first.line;
-        after = first.after;
-        why = first.why;
-        parts = ap (λ (w : List (List ℕ)). line ∷ w) first.parts;
-        good = All-cons (λ line. IsOk (line_reading kind line)) line first.before here first.good;
-        wrong = first.wrong;
-      }))
-      (search-wrong kind lines))
+    (λ rest. inl (All-cons (λ line. IsOk (line_reading kind line)) line lines here rest))
+    (λ first. inr (record {
+      before = line ∷ first.before;
+      line = first.line;
+      after = first.after;
+      why = first.why;
+      parts = ap (λ (w : List (List ℕ)). line ∷ w) first.parts;
+      good = All-cons (λ line. IsOk (line_reading kind line)) line first.before here first.good;
+      wrong = first.wrong;
+    }))
+    (search-wrong kind lines))
     (λ wrong. inr (record { before = []; line = line; after = lines; why = wrong.0; parts = refl; good = λ k d below. absurd (omega arith); wrong = wrong.1 }))
     (ok-or-wrong (line_reading kind line))
 

@@ -65,8 +65,8 @@ pub no-word : (xs : List ℕ) (n len : ℕ) → n ≤ length xs → ((k : ℕ) �
 no-word xs n len within blank whole none ends =
     ⊎_elim
     (λ less.
-      let place : get_or (drop n xs) len 0 ≡ get_or xs n 0 = ap (λ (k : ℕ). get_or (drop n xs) k 0) none ∙ get_or-drop n xs 0 0 ∙ ap (λ (k : ℕ). get_or xs k 0) (let e : n + 0 ≡ n = omega arith in e) in
-      absurd (clash (is_blank (get_or xs n 0)) (whole less) (sym (ap is_blank place) ∙ ends (omega (arith, length-drop n xs)))))
+    let place : get_or (drop n xs) len 0 ≡ get_or xs n 0 = ap (λ (k : ℕ). get_or (drop n xs) k 0) none ∙ get_or-drop n xs 0 0 ∙ ap (λ (k : ℕ). get_or xs k 0) (let e : n + 0 ≡ n = omega arith in e) in
+    absurd (clash (is_blank (get_or xs n 0)) (whole less) (sym (ap is_blank place) ∙ ends (omega (arith, length-drop n xs)))))
     (λ more. blank-line xs n within more blank)
     (cases_lt n (length xs))
 
@@ -110,7 +110,7 @@ begins x xs false whole on = record {
   word = x ∷ [];
   others = words_of xs;
   words = ap (λ (b : Bool). if b then words_of xs else (if goes_on xs then put_first x (words_of xs) else (x ∷ []) ∷ words_of xs)) whole
-    ∙ ap (λ (b : Bool). if b then put_first x (words_of xs) else (x ∷ []) ∷ words_of xs) on;
+      ∙ ap (λ (b : Bool). if b then put_first x (words_of xs) else (x ∷ []) ∷ words_of xs) on;
 }
 
 begins-here : (xs : List ℕ) → 0 < length xs → is_blank (get_or xs 0 0) ≡ false → HasWord xs

@@ -13,8 +13,7 @@ use std::alloc::{AllocError, Global};
 /// Any text has exactly one reading as a script of a kind. It does nothing.
 pub fn readings_are_one()
     ensures { (kind : ScriptKind) (text : List ℕ) → HasOneReading kind text }
-{
-}
+{}
 
 /// The script of this kind that a text is: its lines in order, without blank ones and comments.
 ///

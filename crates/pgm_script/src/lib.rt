@@ -2,10 +2,12 @@
 #![tactic(auto)]
 
 mod fault;
-mod line;
 mod grammar;
+mod line;
 mod reading;
 mod script;
+#[cfg(test)]
+mod tests;
 mod verb;
 mod words;
 

@@ -24,11 +24,7 @@ const CHUNK: u64 = 65_536;
 /// - `NoMemory` where memory for the next chunk wasn't found.
 ///
 /// Never `At`.
-pub fn read_text<F: Shelf>(
-    alloc: Global,
-    shelf: &mut F,
-    limit: u64,
-) -> Result<Vec<u8>, ScriptFault>
+pub fn read_text<F: Shelf>(alloc: Global, shelf: &mut F, limit: u64) -> Result<Vec<u8>, ScriptFault>
     requires { limit < 2 ^ 63 }
 
     // Where the shelf tells the bytes: what they are, unless the shelf failed or memory ran out.
@@ -56,11 +52,7 @@ pub fn read_text<F: Shelf>(
 }
 
 // The same in fewer words.
-fn read_up_to<F: Shelf>(
-    alloc: Global,
-    shelf: &mut F,
-    limit: u64,
-) -> Result<Vec<u8>, ScriptFault>
+fn read_up_to<F: Shelf>(alloc: Global, shelf: &mut F, limit: u64) -> Result<Vec<u8>, ScriptFault>
     requires { limit < 2 ^ 63 }
     ensures text { IfOk result (λ text. IfSome (F.rest shelf.old) (λ bytes. text.items ≡ bytes)) }
     ensures within { IfOk result (λ text. vec_len text ≤ limit) }

@@ -9,7 +9,7 @@ use Rattle.pgm_script.proofs.grammar.parse.Goals as goal
 pub returns-in-Err-clause-wherever : goal.returns-in-Err-clause-wherever
 returns-in-Err-clause-wherever c = λ reading reads.
     inr (one-reading c.args.kind c.args.text.now reading _ reads
-      (under-way-fault c.args.kind c.args.text.now _ c.cut_line.result.1.now _ _ c.loop-rest.number _ c.in-Err.why c.loop-rest.invariant.under_way c.cut_line.ensures.lines (sym c.in-Err.ensures) refl))
+    (under-way-fault c.args.kind c.args.text.now _ c.cut_line.result.1.now _ _ c.loop-rest.number _ c.in-Err.why c.loop-rest.invariant.under_way c.cut_line.ensures.lines (sym c.in-Err.ensures) refl))
 
 pub loop-rest-preserved-in_ok-push-in-Ok-Some : goal.loop-rest-preserved-in_ok-push-in-Ok-Some
 loop-rest-preserved-in_ok-push-in-Ok-Some c =

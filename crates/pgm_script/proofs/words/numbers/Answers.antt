@@ -18,7 +18,7 @@ loop-i-preserved c =
     ap (λ (n : ℕ). take n (set c.loop-i.numbers i x)) (let e : i + 1 ≡ suc i = omega arith in e) ∙ take-suc-set c.loop-i.numbers i x (omega (arith, c.loop-i.invariant.len)) in
     record {
       read = read-more c.args.most c.args.count _ i _ _ _ others x c.loop-i.invariant.read (omega arith) (c.cut_word.ensures.some some) (sym c.in-Some.ensures)
-        ∙ ap (λ (w : List ℕ). behind w (numbers_of c.args.most (c.args.count - (i + 1)) others)) (sym taken);
+          ∙ ap (λ (w : List ℕ). behind w (numbers_of c.args.most (c.args.count - (i + 1)) others)) (sym taken);
       len = length-set c.loop-i.numbers i x ∙ c.loop-i.invariant.len;
     }
 

@@ -1,0 +1,207 @@
+// Worked scripts.
+ghost use Rattle.std.specs.Prelude.{◌≤◌};
+
+use crate::{ScriptFault, ScriptKind, ScriptLine, Why, parse, read_text};
+use edge::{MemShelf, Shelf};
+use std::test::Fail;
+use zorder::Region;
+
+// Texts of questions, and their keys.
+const FINDS: [(&[u8], &[u64]); 9] = [
+    (b"", &[]),
+    (b"\n\n \t\n", &[]),
+    (b"find 7", &[7]),
+    (b"find 7\n", &[7]),
+    (b"find 007\r", &[7]),
+    (
+        b"# find 1\r\n\tfind \t 2 \t\r\n  #\n#find 3\nfind 4\n",
+        &[2, 4],
+    ),
+    (b"find 18446744073709551615\n", &[u64::MAX]),
+    (b"find 000000000000000000000000000000\n", &[0]),
+    (b"# \xc3\xa9\nfind 5", &[5]),
+];
+
+// Texts that are none, each with its first fault.
+const FAULTY: [(ScriptKind, &[u8], u64, Why); 22] = [
+    (ScriptKind::Find, b"find 1 2", 1, Why::Extra),
+    (ScriptKind::Find, b"\nfind", 2, Why::Missing),
+    (ScriptKind::Find, b"look 1", 1, Why::Word),
+    (ScriptKind::Find, b"find -1", 1, Why::Number),
+    (ScriptKind::Find, b"find +1", 1, Why::Number),
+    (ScriptKind::Find, b"find 1x", 1, Why::Number),
+    (
+        ScriptKind::Find,
+        b"find 18446744073709551616",
+        1,
+        Why::Number,
+    ),
+    (
+        ScriptKind::Find,
+        b"find 100000000000000000000",
+        1,
+        Why::Number,
+    ),
+    (ScriptKind::Find, b"find x y", 1, Why::Number),
+    (ScriptKind::Find, b"find 1 # why", 1, Why::Extra),
+    (ScriptKind::Find, b"Find 1", 1, Why::Word),
+    (ScriptKind::Find, b"finds 1", 1, Why::Word),
+    (ScriptKind::Find, b"put 1 1", 1, Why::Word),
+    (ScriptKind::Find, b"find 1\r\r", 1, Why::Number),
+    (ScriptKind::Find, b"find 1\r\n\r\r\n", 2, Why::Word),
+    (ScriptKind::Find, b"find 1\x0b", 1, Why::Number),
+    (ScriptKind::Find, b"\xff", 1, Why::NotUtf8),
+    (ScriptKind::Find, b"find 1\n# \xff", 2, Why::NotUtf8),
+    (ScriptKind::Find, b"# \xed\xa0\x80\nlook", 1, Why::NotUtf8),
+    (ScriptKind::Find, b"\xef\xbb\xbffind 1", 1, Why::Word),
+    (
+        ScriptKind::Region(2),
+        b"box 0 0 1 4294967296",
+        1,
+        Why::Number,
+    ),
+    (ScriptKind::Region(2), b"box 0 0 1", 1, Why::Missing),
+];
+
+#[test]
+fn finds(rt: HostRuntime) -> Result<(), Fail> {
+    for (text, keys) in FINDS {
+        let lines = parse(rt.alloc(), ScriptKind::Find, text)?;
+        assert_eq!(rt; lines.len(), keys.len());
+        for (line, key) in lines.iter().zip(keys) {
+            assert_eq!(rt; *line, ScriptLine::Find(*key));
+        }
+    }
+    Ok(())
+}
+
+#[test]
+fn faulty_texts(rt: HostRuntime) -> Result<(), Fail> {
+    for (kind, text, line, why) in FAULTY {
+        if let ScriptKind::Region(_) = kind {
+            let parsed = parse(rt.alloc(), ScriptKind::Region(2), text);
+            assert_eq!(rt; parsed.err(), Some(ScriptFault::At { line, why }));
+        } else {
+            let parsed = parse(rt.alloc(), ScriptKind::Find, text);
+            assert_eq!(rt;
+                parsed.err(),
+                Some(ScriptFault::At { line, why }),
+                "line {line}"
+            );
+        }
+    }
+    Ok(())
+}
+
+#[test]
+fn regions(rt: HostRuntime) -> Result<(), Fail> {
+    let lines = parse(
+        rt.alloc(),
+        ScriptKind::Region(3),
+        b"box 1 2 3 0 5 2097151\n",
+    )?;
+    let region = Region {
+        d: 3,
+        low: [1, 2, 3, 0],
+        high: [0, 5, 2_097_151, 0],
+    };
+    assert_eq!(rt; lines.as_slice(), [ScriptLine::Region(region)].as_slice());
+    let wide = parse(
+        rt.alloc(),
+        ScriptKind::Region(4),
+        b"box 0 0 0 65536 0 0 0 0",
+    );
+    let why = Why::Number;
+    assert_eq!(rt; wide.err(), Some(ScriptFault::At { line: 1, why }));
+    Ok(())
+}
+
+#[test]
+fn replays(rt: HostRuntime) -> Result<(), Fail> {
+    let text = b"put 1 10\ndel 2\nget 3\nnext 4\ncount 5 6\nsweep 7 8";
+    let lines = parse(rt.alloc(), ScriptKind::Replay, text)?;
+    let wanted = [
+        ScriptLine::Put(1, 10),
+        ScriptLine::Del(2),
+        ScriptLine::Get(3),
+        ScriptLine::Next(4),
+        ScriptLine::Count(5, 6),
+        ScriptLine::Sweep(7, 8),
+    ];
+    assert_eq!(rt; lines.as_slice(), wanted.as_slice());
+    let find = parse(rt.alloc(), ScriptKind::Replay, b"find 1");
+    let why = Why::Word;
+    assert_eq!(rt; find.err(), Some(ScriptFault::At { line: 1, why }));
+    Ok(())
+}
+
+// A shelf whose one file is taken, of which a read gives at most `most` bytes. The taking is call 1.
+fn shelf_of(rt: &HostRuntime, bytes: &[u8], failing: &[u64], most: usize) -> Result<MemShelf, Fail>
+    requires { 1 ≤ most }
+{
+    let alloc = rt.alloc();
+    let file = (String::from_str(alloc, "script")?, bytes.to_vec(alloc)?);
+    let mut shelf = MemShelf::new(vec![in alloc; file]?, failing.to_vec(alloc)?, most);
+    shelf.take_file("script")?;
+    Ok(shelf)
+}
+
+#[test]
+fn texts(rt: HostRuntime) -> Result<(), Fail> {
+    for most in [1, 2, 1000] {
+        let mut shelf = shelf_of(&rt, b"abc", &[], most)?;
+        let text = read_text(rt.alloc(), &mut shelf, 3)?;
+        assert_eq!(rt; text.as_slice(), b"abc".as_slice());
+
+        let mut shelf = shelf_of(&rt, b"abcdef", &[], most)?;
+        let text = read_text(rt.alloc(), &mut shelf, 3);
+        assert_eq!(rt; text.err(), Some(ScriptFault::TooLong { got: 4 }));
+        let mut left = [0; 4];
+        assert_eq!(rt;
+            shelf.read(&mut left)?,
+            2.min(most),
+            "one byte past the limit is gone"
+        );
+    }
+    let mut shelf = shelf_of(&rt, b"", &[], 1)?;
+    let text = read_text(rt.alloc(), &mut shelf, 0)?;
+    assert_eq!(rt; text.len(), 0);
+
+    let mut shelf = shelf_of(&rt, b"abc", &[2], 1)?;
+    let text = read_text(rt.alloc(), &mut shelf, 3);
+    assert_eq!(rt; text.err(), Some(ScriptFault::ReadFault));
+    let mut shelf = shelf_of(&rt, b"abc", &[4], 1)?;
+    let text = read_text(rt.alloc(), &mut shelf, 3);
+    assert_eq!(rt; text.err(), Some(ScriptFault::ReadFault));
+    Ok(())
+}
+
+// One byte more than two chunks hold.
+#[test]
+fn three_chunks(rt: HostRuntime) -> Result<(), Fail> {
+    let bytes = vec![in rt.alloc(); 7; 131_073]?;
+    let mut shelf = shelf_of(&rt, &bytes, &[], usize::MAX)?;
+    let text = read_text(rt.alloc(), &mut shelf, 200_000)?;
+    assert_eq!(rt; text.len(), 131_073);
+    let mut shelf = shelf_of(&rt, &bytes, &[], usize::MAX)?;
+    let text = read_text(rt.alloc(), &mut shelf, 131_073)?;
+    assert_eq!(rt; text.len(), 131_073);
+    let mut shelf = shelf_of(&rt, &bytes, &[], usize::MAX)?;
+    let text = read_text(rt.alloc(), &mut shelf, 131_072);
+    assert_eq!(rt; text.err(), Some(ScriptFault::TooLong { got: 131_073 }));
+    Ok(())
+}
+
+#[test]
+fn messages(rt: HostRuntime) -> Result<(), Fail> {
+    let fault = ScriptFault::At {
+        line: 2,
+        why: Why::Word,
+    };
+    let text = format!(in rt.alloc(); "{fault}")?;
+    assert_eq!(rt;
+        text.as_str(),
+        "line 2 of the script: the first word is no command"
+    );
+    Ok(())
+}
