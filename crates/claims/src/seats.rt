@@ -27,7 +27,8 @@ impl Model for Claims {
     ghost invariant = { λ claims. (claims.table.shared.table_id.words ≡ 1) × (claims.table.shared.table_id.slots ≡ 0) × (claims.table.shared.key.pieces ≡ claims.pieces) };
 }
 
-/// A worker's seat, seen as the numbers that it drew. They rise strictly and are below the number of pieces.
+/// A worker's seat, seen as the numbers that it drew. They rise strictly and are below the number
+/// of pieces.
 ///
 /// A seat is a token of its claims: it takes no bytes but a flag, and there is one for each worker.
 #[derive(Drop)]
@@ -68,8 +69,10 @@ impl Claims {
         requires few { pieces ≤ 65536 }
         requires staffed { 1 ≤ workers }
         requires small { workers ≤ 64 }
-        ensures claims { IfOk result (λ made. (made.0.origin.pieces ≡ pieces) × (made.0.workers ≡ workers)) }
-        ensures seats { IfOk result (λ made. (length made.1.items ≡ workers) × All (IsFresh made.0.origin) made.1.items) }
+        ensures claims { IfOk result
+            (λ made. (made.0.origin.pieces ≡ pieces) × (made.0.workers ≡ workers)) }
+        ensures seats { IfOk result
+            (λ made. (length made.1.items ≡ workers) × All (IsFresh made.0.origin) made.1.items) }
     {
         // Event: make. The first seat stands for all workers.
         let (table, mut rest) = Table::of_words(alloc, &[0], &Plan { pieces, workers })?;
@@ -88,14 +91,17 @@ impl Claims {
 
     /// The word: how many draws there were.
     ///
-    /// `seats` are all seats of these claims, in any order. Once they are back, nobody can draw any more: the numbers that they
-    /// drew are those below the lesser of the word and the number of pieces, each once. Takes no memory.
+    /// `seats` are all seats of these claims, in any order. Once they are back, nobody can draw any
+    /// more: the numbers that they drew are those below the lesser of the word and the number of
+    /// pieces, each once. Takes no memory.
     pub fn close(self, mut seats: Vec<Seat>) -> u64
         requires all { length seats.items ≡ self.workers }
         requires staffed { 1 ≤ self.workers }
         requires own { All (λ seat. seat.origin ≡ self.origin) seats.items }
-        ensures once { (x : ℕ) → sum_by (λ seat. times x seat.drawn) seats.items ≡ once_below x (min result self.origin.pieces) }
-        ensures drawn { sum_by (λ seat. length seat.drawn) seats.items ≡ min result self.origin.pieces }
+        ensures once { (x : ℕ) → sum_by (λ seat. times x seat.drawn) seats.items ≡ once_below x
+            (min result self.origin.pieces) }
+        ensures drawn { sum_by (λ seat. length seat.drawn) seats.items ≡ min
+            result self.origin.pieces }
         ensures word { result ≡ min result self.origin.pieces + ended_count seats.items }
     {
         let Claims { table, pieces: _ } = self;
@@ -125,8 +131,9 @@ impl Seat {
 
     /// The next number, or `None` where there is none left.
     ///
-    /// One step on the word, which never waits: no other number is drawn twice or left out, whatever others draw meanwhile. Once
-    /// a draw was `None`, later ones are too and take no step. The seat is one of these claims.
+    /// One step on the word, which never waits: no other number is drawn twice or left out,
+    /// whatever others draw meanwhile. Once a draw was `None`, later ones are too and take no step.
+    /// The seat is one of these claims.
     pub fn draw(&mut self, claims: &Claims) -> Option<u32>
         requires own { self.old.origin ≡ claims.now.origin }
         ensures draw { IsDraw self.old result self.new }

@@ -7,7 +7,8 @@ ghost use Rattle.edge.specs.Reading.{HasRead, Fills};
 
 use crate::{Failed, Shelf};
 
-/// Reads until the buffer is full or nothing is left, and answers how many bytes stand in its front.
+/// Reads until the buffer is full or nothing is left, and answers how many bytes stand in its
+/// front.
 ///
 /// # Errors
 ///
@@ -36,8 +37,10 @@ pub fn fill<F: Shelf>(shelf: &mut F, buf: &mut [u8]) -> Result<usize, Failed>
 ///
 /// `Failed` where the read failed. Then nothing is left.
 pub fn next_byte<F: Shelf>(shelf: &mut F) -> Result<Option<u8>, Failed>
-    ensures next { IfOk result (λ byte. HasRead (F.rest shelf.old) (option_to_list byte) (F.rest shelf.new)) }
-    ensures ended { IfOk result (λ byte. byte ≡ None → IfSome (F.rest shelf.old) (λ bytes. bytes ≡ [])) }
+    ensures next { IfOk result
+        (λ byte. HasRead (F.rest shelf.old) (option_to_list byte) (F.rest shelf.new)) }
+    ensures ended { IfOk result
+        (λ byte. byte ≡ None → IfSome (F.rest shelf.old) (λ bytes. bytes ≡ [])) }
     ensures emptied { OnErr result (IsEmptied (F.rest shelf.old) (F.rest shelf.new)) }
     ensures files { F.files shelf.new ≡ F.files shelf.old }
     ensures cause { HasCause (F.faults shelf.old) (F.faults shelf.new) result }

@@ -17,25 +17,29 @@ pub fn readings_are_one()
 
 /// The script of this kind that a text is: its lines in order, without blank ones and comments.
 ///
-/// A line ends at a byte 10, and one byte 13 at its end is dropped. Spaces and tabs divide words. The first word is a
-/// command of the kind, and so many numbers follow: ASCII digits that write a number below 2^64, in a region one in the
-/// range of its coordinates. A line without a word is skipped, and so is one whose first word begins with `#`. It is one
-/// pass, and memory is taken for the lines alone.
+/// A line ends at a byte 10, and one byte 13 at its end is dropped. Spaces and tabs divide words.
+/// The first word is a command of the kind, and so many numbers follow: ASCII digits that write a
+/// number below 2^64, in a region one in the range of its coordinates. A line without a word is
+/// skipped, and so is one whose first word begins with `#`. It is one pass, and memory is taken for
+/// the lines alone.
 ///
 /// # Errors
 ///
-/// - `At` with the first line that is none of the kind's, counted from 1 over all lines, and what is wrong with it first:
-///   that it isn't UTF-8, in a comment too; its first word; from left to right a number that is missing or none; a word
-///   after the last number.
+/// - `At` with the first line that is none of the kind's, counted from 1 over all lines, and what
+///   is wrong with it first: that it isn't UTF-8, in a comment too; its first word; from left to
+///   right a number that is missing or none; a word after the last number.
 /// - `NoMemory` where memory for the lines wasn't found.
 ///
 /// Never `ReadFault` or `TooLong`.
 pub fn parse(alloc: Global, kind: ScriptKind, text: &[u8]) -> Result<Vec<ScriptLine>, ScriptFault>
     requires { IsKind kind }
     ensures script { IfOk result (λ lines. ReadsAs kind text.now (Ok lines.items)) }
-    ensures fault { IfErr result (λ fault. (fault ≡ ScriptFault.NoMemory) ⊎ ReadsAs kind text.now (Err fault)) }
-    ensures wherever { (reading : Result (List ScriptLine) ScriptFault) → ReadsAs kind text.now reading →
-        MatchResult result (λ lines. reading ≡ Ok lines.items) (λ fault. (fault ≡ ScriptFault.NoMemory) ⊎ (reading ≡ Err fault)) }
+    ensures fault { IfErr result
+        (λ fault. (fault ≡ ScriptFault.NoMemory) ⊎ ReadsAs kind text.now (Err fault)) }
+    ensures wherever { (reading : Result (List ScriptLine) ScriptFault) →
+        ReadsAs kind text.now reading →
+        MatchResult result (λ lines. reading ≡ Ok lines.items)
+        (λ fault. (fault ≡ ScriptFault.NoMemory) ⊎ (reading ≡ Err fault)) }
     ensures kind { IfOk result (λ lines. All (IsLineOf kind) lines.items) }
 {
     let mut lines = Vec::new(alloc);

@@ -15,7 +15,8 @@ const CHUNK: u64 = 65_536;
 
 /// All bytes that are left of the taken file, which may be `limit` at most.
 ///
-/// Memory is taken by chunks of at most 65,536 bytes, each before it is read. At most one byte more than `limit` is read.
+/// Memory is taken by chunks of at most 65,536 bytes, each before it is read. At most one byte more
+/// than `limit` is read.
 ///
 /// # Errors
 ///
@@ -28,25 +29,33 @@ pub fn read_text<F: Shelf>(alloc: Global, shelf: &mut F, limit: u64) -> Result<V
     requires { limit < 2 ^ 63 }
 
     // Where the shelf tells the bytes: what they are, unless the shelf failed or memory ran out.
-    ensures text { IfOk result (λ text. IfSome (F.rest shelf.old) (λ bytes. IsTextOf limit bytes (Ok text.items))) }
+    ensures text { IfOk result
+        (λ text. IfSome (F.rest shelf.old) (λ bytes. IsTextOf limit bytes (Ok text.items))) }
     ensures fault { IfErr result (λ fault. IfSome (F.rest shelf.old) (λ bytes.
         (fault ≡ ScriptFault.ReadFault) ⊎ (fault ≡ ScriptFault.NoMemory) ⊎ IsTextOf limit bytes (Err fault))) }
-    ensures wherever { IfSome (F.rest shelf.old) (λ bytes. (reading : Result (List ℕ) ScriptFault) → IsTextOf limit bytes reading →
+    ensures wherever { IfSome (F.rest shelf.old)
+        (λ bytes. (reading : Result (List ℕ) ScriptFault) → IsTextOf limit bytes reading →
         (HasRisen (F.faults shelf.old) (F.faults shelf.new) → ⊥) →
-        MatchResult result (λ text. reading ≡ Ok text.items) (λ fault. (fault ≡ ScriptFault.NoMemory) ⊎ (reading ≡ Err fault))) }
+        MatchResult result (λ text. reading ≡ Ok text.items)
+        (λ fault. (fault ≡ ScriptFault.NoMemory) ⊎ (reading ≡ Err fault))) }
 
     // Told or not.
     ensures within { IfOk result (λ text. vec_len text ≤ limit) }
     ensures not_at { (line : ℕ) (why : Why) → result ≢ Err (ScriptFault.At line why) }
 
-    ensures read_fault { IsErrOf result ScriptFault.ReadFault → HasRisen (F.faults shelf.old) (F.faults shelf.new) }
-    ensures faulted { F.faults shelf.old < F.faults shelf.new → IsErrOf result ScriptFault.ReadFault }
+    ensures read_fault { IsErrOf result ScriptFault.ReadFault → HasRisen (F.faults shelf.old)
+        (F.faults shelf.new) }
+    ensures faulted { F.faults shelf.old < F.faults shelf.new →
+        IsErrOf result ScriptFault.ReadFault }
     ensures faults { F.faults shelf.old ≤ F.faults shelf.new }
     ensures files { F.files shelf.new ≡ F.files shelf.old }
 
     // What is left is what was left, but for a front part.
-    ensures taken { IfSome (F.rest shelf.old) (λ bytes. result ≢ Err ScriptFault.ReadFault → TakesAtMost (limit + 1) (F.rest shelf.old) (F.rest shelf.new)) }
-    ensures nothing_left { IsErrOf result ScriptFault.ReadFault → IsEmptied (F.rest shelf.old) (F.rest shelf.new) }
+    ensures taken { IfSome (F.rest shelf.old)
+        (λ bytes. result ≢ Err ScriptFault.ReadFault → TakesAtMost (limit + 1) (F.rest shelf.old)
+        (F.rest shelf.new)) }
+    ensures nothing_left { IsErrOf result ScriptFault.ReadFault → IsEmptied (F.rest shelf.old)
+        (F.rest shelf.new) }
 {
     read_up_to(alloc, shelf, limit)
 }

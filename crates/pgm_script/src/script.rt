@@ -7,9 +7,11 @@ use zorder::Region;
 pub enum ScriptKind {
     /// `find Q`, questions for a lower bound.
     Find,
-    /// `box LOW .. HIGH ..`, questions for the points of a region of so many coordinates, from 2 to 4.
+    /// `box LOW .. HIGH ..`, questions for the points of a region of so many coordinates, from 2 to
+    /// 4.
     Region(u32),
-    /// `put K V`, `del K` and `sweep A B`, updates of a map, and `get K`, `next Q` and `count A B`, questions to it.
+    /// `put K V`, `del K` and `sweep A B`, updates of a map, and `get K`, `next Q` and `count A B`,
+    /// questions to it.
     Replay,
 }
 

@@ -135,7 +135,8 @@ fn replays(rt: HostRuntime) -> Result<(), Fail> {
     Ok(())
 }
 
-// A shelf whose one file is taken, of which a read gives at most `most` bytes. The taking is call 1.
+// A shelf whose one file is taken, of which a read gives at most `most` bytes. The taking is call
+// 1.
 fn shelf_of(rt: &HostRuntime, bytes: &[u8], failing: &[u64], most: usize) -> Result<MemShelf, Fail>
     requires { 1 ≤ most }
 {

@@ -24,7 +24,8 @@ pub(crate) enum Verb {
 // The command of this word, if the kind has it.
 pub(crate) fn verb_of(kind: ScriptKind, word: &[u8]) -> Option<Verb>
     requires { IsKind kind }
-    ensures command { option_map command_of result ≡ find (λ command. bytes_eq word.now command.word) (commands_of kind) }
+    ensures command { option_map command_of result ≡ find
+        (λ command. bytes_eq word.now command.word) (commands_of kind) }
     ensures verb { IfSome result IsVerb }
 {
     match kind {
@@ -78,7 +79,8 @@ pub(crate) fn most(verb: Verb) -> u64
 pub(crate) fn script_line(verb: Verb, numbers: &[u64]) -> ScriptLine
     requires verb { IsVerb verb }
     requires enough { 8 ≤ length numbers.now }
-    requires range { All (λ number. number ≤ (command_of verb).most) (take (command_of verb).count numbers.now) }
+    requires range { All (λ number. number ≤ (command_of verb).most)
+        (take (command_of verb).count numbers.now) }
     ensures { result ≡ (command_of verb).line (take (command_of verb).count numbers.now) }
 {
     match verb {

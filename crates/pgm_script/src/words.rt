@@ -38,7 +38,8 @@ fn line_len(text: &[u8]) -> usize
 #[inline]
 pub(crate) fn cut_word(line: &[u8]) -> (&[u8], &[u8])
     ensures none { length result.0.now ≡ 0 → words_of line.now ≡ [] }
-    ensures some { 0 < length result.0.now → words_of line.now ≡ result.0.now ∷ words_of result.1.now }
+    ensures some { 0 < length result.0.now → words_of line.now
+        ≡ result.0.now ∷ words_of result.1.now }
 {
     let rest = &line[blank_len(line)..];
     let len = word_len(rest);
