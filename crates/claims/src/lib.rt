@@ -6,9 +6,10 @@
 //! draw 0 and 1 and another 2; then both are told that there are no more, and the word is 5.
 //!
 //! However the workers' steps interleave: the word is the number of draws that were made, and the
-//! numbers drawn are those below the lesser of the word and the bound, each once. Main clauses:
-//! `draw` of [`Seat::draw`], `once` and `word` of [`Claims::close`]. The words of the clauses are
-//! in `specs/Claims.antt`.
+//! numbers drawn are those below the lesser of the word and the bound, each once.
+//!
+//! Main clauses: `draw` of [`Seat::draw`], `once` and `word` of [`Claims::close`]. The words of the
+//! clauses are in `specs/Claims.antt`.
 #![tactic(auto)]
 
 mod seats;

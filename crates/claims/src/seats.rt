@@ -24,7 +24,9 @@ impl Model for Claims {
       workers = claims.table.shared.key.workers;
     } };
 
-    ghost invariant = { λ claims. (claims.table.shared.table_id.words ≡ 1) × (claims.table.shared.table_id.slots ≡ 0) × (claims.table.shared.key.pieces ≡ claims.pieces) };
+    ghost invariant = { λ claims. (claims.table.shared.table_id.words ≡ 1)
+        × (claims.table.shared.table_id.slots ≡ 0)
+        × (claims.table.shared.key.pieces ≡ claims.pieces) };
 }
 
 /// A worker's seat, seen as the numbers that it drew. They rise strictly and are below the number
@@ -54,7 +56,7 @@ impl Model for Seat {
 }
 
 impl Claims {
-    ghost use Rattle.std.specs.Prelude.{◌≡◌, ℕ, ◌+◌, ◌<◌, ◌≤◌, ◌==◌, All, IfOk, length, sum_by, count_by, min};
+    ghost use Rattle.std.specs.Prelude.{◌≡◌, ℕ, ◌+◌, ◌≤◌, All, IfOk, length, sum_by, min};
     ghost use Rattle.claims.specs.Claims.{IsFresh, times, once_below, ended_count};
 
     /// Claims on the numbers below `pieces`, and a seat for each of `workers` workers.
@@ -69,10 +71,10 @@ impl Claims {
         requires few { pieces ≤ 65536 }
         requires staffed { 1 ≤ workers }
         requires small { workers ≤ 64 }
-        ensures claims { IfOk result
-            (λ made. (made.0.origin.pieces ≡ pieces) × (made.0.workers ≡ workers)) }
-        ensures seats { IfOk result
-            (λ made. (length made.1.items ≡ workers) × All (IsFresh made.0.origin) made.1.items) }
+        ensures pieces { IfOk result (λ made. made.0.origin.pieces ≡ pieces) }
+        ensures workers { IfOk result (λ made. made.0.workers ≡ workers) }
+        ensures seats { IfOk result (λ made. length made.1.items ≡ workers) }
+        ensures fresh { IfOk result (λ made. All (IsFresh made.0.origin) made.1.items) }
     {
         // Event: make. The first seat stands for all workers.
         let (table, mut rest) = Table::of_words(alloc, &[0], &Plan { pieces, workers })?;
@@ -98,10 +100,10 @@ impl Claims {
         requires all { length seats.items ≡ self.workers }
         requires staffed { 1 ≤ self.workers }
         requires own { All (λ seat. seat.origin ≡ self.origin) seats.items }
-        ensures once { (x : ℕ) → sum_by (λ seat. times x seat.drawn) seats.items ≡ once_below x
-            (min result self.origin.pieces) }
-        ensures drawn { sum_by (λ seat. length seat.drawn) seats.items ≡ min
-            result self.origin.pieces }
+        ensures once { (x : ℕ) → sum_by (λ seat. times x seat.drawn) seats.items
+            ≡ once_below x (min result self.origin.pieces) }
+        ensures drawn { sum_by (λ seat. length seat.drawn) seats.items
+            ≡ min result self.origin.pieces }
         ensures word { result ≡ min result self.origin.pieces + ended_count seats.items }
     {
         let Claims { table, pieces: _ } = self;
@@ -131,9 +133,9 @@ impl Seat {
 
     /// The next number, or `None` where there is none left.
     ///
-    /// One step on the word, which never waits: no other number is drawn twice or left out,
-    /// whatever others draw meanwhile. Once a draw was `None`, later ones are too and take no step.
-    /// The seat is one of these claims.
+    /// One step on the word, which never waits. Whatever others draw meanwhile, no number is drawn
+    /// twice or left out. Once a draw was `None`, later ones are too and take no step. The seat is
+    /// one of these claims.
     pub fn draw(&mut self, claims: &Claims) -> Option<u32>
         requires own { self.old.origin ≡ claims.now.origin }
         ensures draw { IsDraw self.old result self.new }
