@@ -1,5 +1,5 @@
 -- One read after another: what was read, and what is left.
-use Rattle.std.proofs.Common.{◌≡◌, ℕ, ◌+◌, ◌≤◌, List, ◌++◌, length, drop, refl, sym, ap, ◌∙◌, Option, Some, None, append_assoc, arith, OnErr, Result, Ok, Err}
+use Rattle.std.proofs.Common.{ℕ, ◌+◌, ◌≤◌, List, ◌++◌, length, drop, refl, sym, ap, ◌∙◌, Option, Some, None, append_assoc, arith, OnErr, Result, Ok, Err}
 use Rattle.std.proofs.lemmas.List.{drop_at}
 use Rattle.std.proofs.Math.Seq.{drop-append-add}
 use Rattle.edge.specs.Shelf.{HasNothingLeft, TakesAtMost, IsEmptied}

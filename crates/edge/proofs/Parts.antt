@@ -1,7 +1,7 @@
 -- One more read into the part of a buffer that isn't filled.
 use Rattle.std.proofs.Common.{◌≡◌, ℕ, zero, suc, ◌+◌, ◌<◌, ◌≤◌, List, [], ◌++◌, length, take, drop, refl, sym, ap, ◌∙◌, subst, Option, Some, None, arith}
 use Rattle.std.specs.Option.{IfSome, IsSomeAnd}
-use Rattle.std.proofs.lemmas.List.{take-append-drop, take-append-le, append-nil, nil_from_length, take_at, length-take-le, drop_at, take-take, drop-take}
+use Rattle.std.proofs.lemmas.List.{take-append-drop, take-append-le, append-nil, nil_from_length, take_at, length-take-le, drop_at}
 use Rattle.std.proofs.Math.Seq.{take-add}
 use Rattle.std.proofs.lemmas.Slice.{take-put_mid_below}
 use borrow.Rule.Slice.PartMut.{put_mid}

@@ -1,5 +1,5 @@
 -- Each line of a script is one that its kind can have.
-use Rattle.std.proofs.Common.{◌≡◌, ℕ, zero, suc, ◌+◌, ◌-◌, ◌^◌, ◌<◌, ◌≤◌, Bool, true, false, cond, if◌then◌else◌, List, [], ◌∷◌, ◌++◌, length, take, drop, get_or, replicate, refl, sym, ap, ◌∙◌, subst, arith, All, Option, Some, None, Result, Ok, Err, lit<, eqb, length-drop, codes}
+use Rattle.std.proofs.Common.{◌≡◌, ℕ, ◌+◌, ◌-◌, ◌^◌, ◌<◌, ◌≤◌, Bool, true, false, cond, if◌then◌else◌, List, [], ◌∷◌, length, take, drop, get_or, replicate, refl, subst, arith, All, Option, Some, None, Result, Ok, Err, lit<, eqb, length-drop, codes}
 use Rattle.std.specs.List.{find, cons_option}
 use Rattle.std.specs.Str.{is_utf8, bytes_eq}
 use Rattle.std.specs.Str.Lines.{strip_carriage_return}
@@ -8,11 +8,10 @@ use Rattle.std.proofs.lemmas.List.Elements.{All-cons}
 use Rattle.zorder.specs.Codes.{IsDimension, IsInRange, coordinate_bits}
 use Rattle.zorder.specs.Regions.{IsRegion}
 use Rattle.pgm_script.specs.declared.script.ScriptKind.{ScriptKind}
-use Rattle.pgm_script.specs.declared.script.ScriptKind.TheVariants as ScriptKind
 use Rattle.pgm_script.specs.declared.script.ScriptLine.{ScriptLine}
 use Rattle.pgm_script.specs.declared.fault.Why.{Why}
 use Rattle.pgm_script.specs.declared.fault.Why.TheVariants.{NotUtf8}
-use Rattle.pgm_script.specs.Words.{lines_of, words_of}
+use Rattle.pgm_script.specs.Words.{words_of}
 use Rattle.pgm_script.specs.Commands.{Command, commands_of, corner, region_of, find_command, box_command, put_command, del_command, get_command, next_command, count_command, sweep_command}
 use Rattle.pgm_script.specs.Scripts.{IsKind, IsLineOf, numbers_of, made, command_reading, words_reading, line_reading, script_line, script_of}
 use Rattle.pgm_script.proofs.LineLemmas.{numbers-most, numbers-count}

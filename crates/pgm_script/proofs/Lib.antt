@@ -6,3 +6,4 @@ pub mod Texts
 pub mod TextLemmas
 pub mod ScriptLemmas
 pub mod KindLemmas
+pub mod CutLemmas

@@ -1,5 +1,5 @@
 -- The number that digits write, as far as they are read.
-use Rattle.std.proofs.Common.{◌≡◌, ℕ, ◌+◌, ◌-◌, ◌*◌, ◌<◌, ◌≤◌, Bool, true, false, ◌&&◌, if◌then◌else◌, leb, List, length, take, get_or, refl, sym, ap, ◌∙◌, subst, Option, Some, None, arith}
+use Rattle.std.proofs.Common.{◌≡◌, ℕ, ◌+◌, ◌-◌, ◌*◌, ◌<◌, Bool, true, false, ◌&&◌, if◌then◌else◌, leb, List, length, take, get_or, refl, sym, ap, ◌∙◌, subst, Some, None, arith}
 use Rattle.std.specs.Char.{is_ascii_digit, digit_value}
 use Rattle.std.specs.List.{list_all}
 use Rattle.std.specs.Str.Parse.{digits_value}
@@ -8,12 +8,8 @@ use Rattle.std.proofs.lemmas.Int.Digits.{digits_value_more}
 use Rattle.std.proofs.lemmas.Str.Parse.{digits_value-take-le}
 use Rattle.std.proofs.lemmas.List.{take_all}
 use Rattle.std.proofs.lemmas.List.Folds.{list_all_more, list_all_at}
+use Rattle.pgm_script.specs.Cuts.{HasDigits}
 use Rattle.pgm_script.specs.Words.{number_of}
-
--- so many digits of the word were read, and they write this value
-pub record HasDigits (word : List ℕ) (i value : ℕ) : Type 0 where
-  pub digits : list_all is_ascii_digit (take i word) ≡ true
-  pub value_is : value ≡ digits_value 10 (take i word)
 
 digit-is : (byte : ℕ) → is_ascii_digit byte ≡ true → digit_value byte ≡ byte - 48
 digit-is byte is = grind (arith, nat_tests)

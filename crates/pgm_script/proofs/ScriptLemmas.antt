@@ -1,5 +1,5 @@
 -- A text is read line by line: what is said of the lines so far, and what the lines so far and the rest are.
-use Rattle.std.proofs.Common.{◌≡◌, ◌⊎◌, ℕ, zero, suc, ◌+◌, ◌-◌, ◌<◌, ◌≤◌, List, [], ◌∷◌, ◌++◌, length, get_or, refl, sym, ap, ◌∙◌, subst, append_assoc, length-append, arith, All, Option, Some, None, Result, Ok, Err, IfOk, IfErr, MatchResult, IsOk, Vec, Global, inl, inr, ⊎_elim}
+use Rattle.std.proofs.Common.{◌≡◌, ◌⊎◌, ℕ, zero, suc, ◌+◌, ◌<◌, List, [], ◌∷◌, ◌++◌, length, get_or, refl, sym, ap, ◌∙◌, subst, append_assoc, length-append, arith, Option, Some, None, Result, Ok, Err, IfOk, IfErr, MatchResult, IsOk, Vec, Global, inl, inr, ⊎_elim}
 use Rattle.std.specs.List.{cons_option}
 use Rattle.std.proofs.lemmas.Bool.{cases_lt, false≢true}
 use Rattle.std.proofs.lemmas.List.{append-nil, get_or_append_left, get_or-append-add, nil_from_length}

@@ -1,13 +1,9 @@
 -- A text is read piece by piece.
-use Rattle.std.proofs.Common.{◌≡◌, ◌⊎◌, ℕ, ◌+◌, ◌-◌, ◌<◌, ◌≤◌, min, List, ◌++◌, length, take, sym, refl, ap, ◌∙◌, subst, length-append, arith, Option, Some, None, Result, Ok, Err, IfOk, IfErr, MatchResult, Vec, Global, inl, inr, ⊎_elim}
+use Rattle.std.proofs.Common.{◌≡◌, ℕ, ◌+◌, ◌-◌, ◌<◌, ◌≤◌, min, List, ◌++◌, length, take, sym, ap, ◌∙◌, subst, arith, Option, Some, None}
 use Rattle.std.specs.Option.{IfSome}
 use Rattle.std.proofs.lemmas.List.{length-take}
 use Rattle.edge.specs.Reading.{HasRead, Fills}
-use Rattle.edge.specs.Risen.{HasRisen}
 use Rattle.edge.proofs.CallerLemmas.{HasRead-append}
-use Rattle.pgm_script.specs.declared.fault.ScriptFault.{ScriptFault}
-use Rattle.pgm_script.specs.declared.fault.ScriptFault.TheVariants.{At, ReadFault, TooLong, NoMemory}
-use Rattle.pgm_script.specs.Texts.{IsTextOf, HasTextCause}
 
 pub text-more : (a b c : Option (List ℕ)) (text text' buf : List ℕ) (n : ℕ) → text' ≡ text ++ take n buf → HasRead a text b → Fills b n buf c → HasRead a text' c
 text-more a b c text text' buf n is so_far fills =

@@ -1,5 +1,5 @@
 -- The numbers of a region as its corners.
-use Rattle.std.proofs.Common.{◌≡◌, ℕ, zero, suc, ◌+◌, ◌-◌, ◌*◌, ◌/◌, ◌^◌, ◌<◌, ◌≤◌, List, [], ◌∷◌, ◌++◌, length, take, drop, set, get_or, replicate, refl, sym, ap, ◌∙◌, subst, append_assoc, arith, All, lit≤}
+use Rattle.std.proofs.Common.{◌≡◌, ℕ, zero, suc, ◌+◌, ◌-◌, ◌^◌, ◌<◌, ◌≤◌, List, [], ◌∷◌, ◌++◌, length, take, drop, set, get_or, replicate, refl, sym, ap, ◌∙◌, arith, All, lit≤}
 use Rattle.std.proofs.lemmas.List.{take-take, drop-take, length-take-le, length-take, get_or-take, take_more}
 use Rattle.zorder.specs.Codes.{IsDimension, coordinate_bits}
 use Rattle.zorder.specs.declared.regions.Region.{Region}

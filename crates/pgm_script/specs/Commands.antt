@@ -1,11 +1,9 @@
 -- The commands of scripts: one table for all kinds.
-use Rattle.std.specs.Prelude.{ℕ, ◌+◌, ◌-◌, ◌*◌, ◌^◌, List, [], ◌∷◌, ◌++◌, take, drop, replicate, slice_index, codes}
+use Rattle.std.specs.Prelude.{ℕ, ◌+◌, ◌-◌, ◌^◌, List, [], ◌∷◌, ◌++◌, take, drop, replicate, slice_index, codes}
 use Rattle.zorder.specs.declared.regions.Region.{Region}
 use Rattle.zorder.specs.Codes.{coordinate_bits}
 use Rattle.pgm_script.specs.declared.script.ScriptKind.{ScriptKind}
-use Rattle.pgm_script.specs.declared.script.ScriptKind.TheVariants as ScriptKind
 use Rattle.pgm_script.specs.declared.script.ScriptLine.{ScriptLine}
-use Rattle.pgm_script.specs.declared.script.ScriptLine.TheVariants as ScriptLine
 
 -- a command: its word, how many numbers follow, the greatest value of each, and the line of the script that they make
 pub record Command : Type 0 where

@@ -3,3 +3,4 @@ pub mod Commands
 pub mod Scripts
 pub mod Verbs
 pub mod Texts
+pub mod Cuts

@@ -5,9 +5,7 @@ use Rattle.std.specs.Str.Lines.{strip_carriage_return}
 use Rattle.zorder.specs.Codes.{IsDimension}
 use Rattle.zorder.specs.Regions.{IsRegion}
 use Rattle.pgm_script.specs.declared.script.ScriptKind.{ScriptKind}
-use Rattle.pgm_script.specs.declared.script.ScriptKind.TheVariants as ScriptKind
 use Rattle.pgm_script.specs.declared.script.ScriptLine.{ScriptLine}
-use Rattle.pgm_script.specs.declared.script.ScriptLine.TheVariants as ScriptLine
 use Rattle.pgm_script.specs.declared.fault.ScriptFault.{ScriptFault}
 use Rattle.pgm_script.specs.declared.fault.ScriptFault.TheVariants.{At, ReadFault, TooLong, NoMemory}
 use Rattle.pgm_script.specs.declared.fault.Why.{Why}

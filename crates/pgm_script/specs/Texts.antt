@@ -1,5 +1,5 @@
 -- What is read of a file as a text of limited length.
-use Rattle.std.specs.Prelude.{◌≡◌, ℕ, ◌+◌, ◌<◌, ◌≤◌, List, length, Option, Result, Ok, Err, MatchResult}
+use Rattle.std.specs.Prelude.{◌≡◌, ℕ, ◌+◌, ◌<◌, ◌≤◌, List, length, Option, Result, Ok, Err}
 use Rattle.edge.specs.Risen.{HasRisen}
 use Rattle.edge.specs.Shelf.{TakesAtMost, IsEmptied}
 use Rattle.pgm_script.specs.declared.fault.ScriptFault.{ScriptFault}

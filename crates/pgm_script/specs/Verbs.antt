@@ -1,8 +1,7 @@
 -- The rows of the table that the program's verbs stand for. No public clause cites it.
-use Rattle.std.specs.Prelude.{ℕ, ⊤}
+use Rattle.std.specs.Prelude.{⊤}
 use Rattle.zorder.specs.Codes.{IsDimension}
 use Rattle.pgm_script.specs.declared.verb.Verb.{Verb}
-use Rattle.pgm_script.specs.declared.verb.Verb.TheVariants as Verb
 use Rattle.pgm_script.specs.Commands.{Command, find_command, box_command, put_command, del_command, get_command, next_command, count_command, sweep_command}
 
 abbrev pub command_of : Verb → Command

@@ -1,4 +1,12 @@
 //! Scripts: lines of commands as text.
+//!
+//! The text `# two keys`, byte 10, `find 7`, byte 10, `find  007` is the script of two lines
+//! `Find(7)`. In `find 7`, byte 10, `find` line 2 is the first with something wrong: its number is
+//! missing.
+//!
+//! Main clauses: `script`, `fault` and `wherever` of [`parse`] and `text` of [`read_text`]. The
+//! words of the clauses are in `specs/`: lines and words in `Words.antt`, the table of commands in
+//! `Commands.antt`, readings in `Scripts.antt`.
 #![tactic(auto)]
 
 mod fault;

@@ -22,45 +22,30 @@ const FINDS: [(&[u8], &[u64]); 9] = [
     (b"# \xc3\xa9\nfind 5", &[5]),
 ];
 
-// Texts that are none, each with its first fault.
-const FAULTY: [(ScriptKind, &[u8], u64, Why); 22] = [
-    (ScriptKind::Find, b"find 1 2", 1, Why::Extra),
-    (ScriptKind::Find, b"\nfind", 2, Why::Missing),
-    (ScriptKind::Find, b"look 1", 1, Why::Word),
-    (ScriptKind::Find, b"find -1", 1, Why::Number),
-    (ScriptKind::Find, b"find +1", 1, Why::Number),
-    (ScriptKind::Find, b"find 1x", 1, Why::Number),
-    (
-        ScriptKind::Find,
-        b"find 18446744073709551616",
-        1,
-        Why::Number,
-    ),
-    (
-        ScriptKind::Find,
-        b"find 100000000000000000000",
-        1,
-        Why::Number,
-    ),
-    (ScriptKind::Find, b"find x y", 1, Why::Number),
-    (ScriptKind::Find, b"find 1 # why", 1, Why::Extra),
-    (ScriptKind::Find, b"Find 1", 1, Why::Word),
-    (ScriptKind::Find, b"finds 1", 1, Why::Word),
-    (ScriptKind::Find, b"put 1 1", 1, Why::Word),
-    (ScriptKind::Find, b"find 1\r\r", 1, Why::Number),
-    (ScriptKind::Find, b"find 1\r\n\r\r\n", 2, Why::Word),
-    (ScriptKind::Find, b"find 1\x0b", 1, Why::Number),
-    (ScriptKind::Find, b"\xff", 1, Why::NotUtf8),
-    (ScriptKind::Find, b"find 1\n# \xff", 2, Why::NotUtf8),
-    (ScriptKind::Find, b"# \xed\xa0\x80\nlook", 1, Why::NotUtf8),
-    (ScriptKind::Find, b"\xef\xbb\xbffind 1", 1, Why::Word),
-    (
-        ScriptKind::Region(2),
-        b"box 0 0 1 4294967296",
-        1,
-        Why::Number,
-    ),
-    (ScriptKind::Region(2), b"box 0 0 1", 1, Why::Missing),
+// Texts that are none, each with its first fault: by the first word and the text, ..
+const NO_COMMANDS: [(&[u8], u64, Why); 8] = [
+    (b"look 1", 1, Why::Word),
+    (b"finds 1", 1, Why::Word),
+    (b"put 1 1", 1, Why::Word),
+    (b"find 1\r\n\r\r\n", 2, Why::Word),
+    (b"\xef\xbb\xbffind 1", 1, Why::Word),
+    (b"\xff", 1, Why::NotUtf8),
+    (b"find 1\n# \xff", 2, Why::NotUtf8),
+    (b"# \xed\xa0\x80\nlook", 1, Why::NotUtf8),
+];
+
+// .. and by its numbers.
+const NO_NUMBERS: [(&[u8], u64, Why); 10] = [
+    (b"find 1 2", 1, Why::Extra),
+    (b"\nfind", 2, Why::Missing),
+    (b"find -1", 1, Why::Number),
+    (b"find +1", 1, Why::Number),
+    (b"find 1x", 1, Why::Number),
+    (b"find 18446744073709551616", 1, Why::Number),
+    (b"find 100000000000000000000", 1, Why::Number),
+    (b"find x y", 1, Why::Number),
+    (b"find 1\r\r", 1, Why::Number),
+    (b"find 1\x0b", 1, Why::Number),
 ];
 
 #[test]
@@ -76,19 +61,19 @@ fn finds(rt: HostRuntime) -> Result<(), Fail> {
 }
 
 #[test]
-fn faulty_texts(rt: HostRuntime) -> Result<(), Fail> {
-    for (kind, text, line, why) in FAULTY {
-        if let ScriptKind::Region(_) = kind {
-            let parsed = parse(rt.alloc(), ScriptKind::Region(2), text);
-            assert_eq!(rt; parsed.err(), Some(ScriptFault::At { line, why }));
-        } else {
-            let parsed = parse(rt.alloc(), ScriptKind::Find, text);
-            assert_eq!(rt;
-                parsed.err(),
-                Some(ScriptFault::At { line, why }),
-                "line {line}"
-            );
-        }
+fn no_commands(rt: HostRuntime) -> Result<(), Fail> {
+    for (text, line, why) in NO_COMMANDS {
+        let parsed = parse(rt.alloc(), ScriptKind::Find, text);
+        assert_eq!(rt; parsed.err(), Some(ScriptFault::At { line, why }));
+    }
+    Ok(())
+}
+
+#[test]
+fn no_numbers(rt: HostRuntime) -> Result<(), Fail> {
+    for (text, line, why) in NO_NUMBERS {
+        let parsed = parse(rt.alloc(), ScriptKind::Find, text);
+        assert_eq!(rt; parsed.err(), Some(ScriptFault::At { line, why }));
     }
     Ok(())
 }
@@ -117,6 +102,23 @@ fn regions(rt: HostRuntime) -> Result<(), Fail> {
 }
 
 #[test]
+fn wide_coordinates(rt: HostRuntime) -> Result<(), Fail> {
+    let why = Why::Number;
+    let wide = parse(rt.alloc(), ScriptKind::Region(2), b"box 0 0 1 4294967296");
+    assert_eq!(rt; wide.err(), Some(ScriptFault::At { line: 1, why }));
+    let wide = parse(
+        rt.alloc(),
+        ScriptKind::Region(4),
+        b"box 0 0 0 65536 0 0 0 0",
+    );
+    assert_eq!(rt; wide.err(), Some(ScriptFault::At { line: 1, why }));
+    let why = Why::Missing;
+    let short = parse(rt.alloc(), ScriptKind::Region(2), b"box 0 0 1");
+    assert_eq!(rt; short.err(), Some(ScriptFault::At { line: 1, why }));
+    Ok(())
+}
+
+#[test]
 fn replays(rt: HostRuntime) -> Result<(), Fail> {
     let text = b"put 1 10\ndel 2\nget 3\nnext 4\ncount 5 6\nsweep 7 8";
     let lines = parse(rt.alloc(), ScriptKind::Replay, text)?;
@@ -129,9 +131,6 @@ fn replays(rt: HostRuntime) -> Result<(), Fail> {
         ScriptLine::Sweep(7, 8),
     ];
     assert_eq!(rt; lines.as_slice(), wanted.as_slice());
-    let find = parse(rt.alloc(), ScriptKind::Replay, b"find 1");
-    let why = Why::Word;
-    assert_eq!(rt; find.err(), Some(ScriptFault::At { line: 1, why }));
     Ok(())
 }
 
@@ -167,13 +166,17 @@ fn texts(rt: HostRuntime) -> Result<(), Fail> {
     let mut shelf = shelf_of(&rt, b"", &[], 1)?;
     let text = read_text(rt.alloc(), &mut shelf, 0)?;
     assert_eq!(rt; text.len(), 0);
+    Ok(())
+}
 
-    let mut shelf = shelf_of(&rt, b"abc", &[2], 1)?;
-    let text = read_text(rt.alloc(), &mut shelf, 3);
-    assert_eq!(rt; text.err(), Some(ScriptFault::ReadFault));
-    let mut shelf = shelf_of(&rt, b"abc", &[4], 1)?;
-    let text = read_text(rt.alloc(), &mut shelf, 3);
-    assert_eq!(rt; text.err(), Some(ScriptFault::ReadFault));
+// Calls 2 to 5 read the text a byte at a time, and its end.
+#[test]
+fn read_faults(rt: HostRuntime) -> Result<(), Fail> {
+    for failing in [2, 4, 5] {
+        let mut shelf = shelf_of(&rt, b"abc", &[failing], 1)?;
+        let text = read_text(rt.alloc(), &mut shelf, 3);
+        assert_eq!(rt; text.err(), Some(ScriptFault::ReadFault), "call {failing}");
+    }
     Ok(())
 }
 

@@ -1,6 +1,7 @@
 // Lines cut off a text, words cut off a line, and the numbers that words write.
-ghost use Rattle.std.specs.Prelude.{◌≡◌, ◌≢◌, ◌≤◌, ◌<◌, ◌+◌, ◌*◌, ◌^◌, ℕ, [], ◌∷◌, true, false, length, take, slice_index, MatchResult, SomeIff};
-ghost use Rattle.pgm_script.specs.Words.{is_blank, lines_of, words_of, number_of};
+ghost use Rattle.std.specs.Prelude.{◌≡◌, ◌≢◌, ◌≤◌, ◌<◌, ◌+◌, ◌*◌, ◌^◌, ℕ, [], ◌∷◌, Ok, Err, true, false, not, IfSome, IfNone, length, take, slice_index, MatchResult, SomeIff};
+ghost use Rattle.pgm_script.specs.Cuts.{ReadsDigits, HasTooGreat, BeginsWithNumber, BeginsWithout};
+ghost use Rattle.pgm_script.specs.Words.{is_blank, goes_on, lines_of, words_of};
 ghost use Rattle.pgm_script.specs.Scripts.{numbers_of};
 
 use crate::Why;
@@ -93,13 +94,7 @@ pub(crate) fn numbers(line: &[u8], count: usize, most: u64) -> Result<[u64; 8], 
     let mut numbers = [0; 8];
     let mut rest = line;
     for i in 0..count {
-        let (word, after) = cut_word(rest);
-        if word.is_empty() {
-            return Err(Why::Missing);
-        }
-        let Some(number) = number(word, most) else {
-            return Err(Why::Number);
-        };
+        let (number, after) = cut_number(rest, most)?;
         numbers[i] = number;
         rest = after;
     }
@@ -109,19 +104,53 @@ pub(crate) fn numbers(line: &[u8], count: usize, most: u64) -> Result<[u64; 8], 
     Ok(numbers)
 }
 
-// The number that the digits of a word write, where it is not above `most`.
+// The number of the first word, and the line after it; or that there is no word, or that it is no
+// such number.
 #[inline]
-fn number(word: &[u8], most: u64) -> Option<u64>
-    ensures { result ≡ number_of most word.now }
+fn cut_number(line: &[u8], most: u64) -> Result<(u64, &[u8]), Why>
+    ensures { MatchResult result
+        (λ cut. BeginsWithNumber most line.now cut.0 cut.1.now)
+        (λ why. BeginsWithout most line.now why) }
+{
+    let rest = &line[blank_len(line)..];
+    if rest.is_empty() {
+        return Err(Why::Missing);
+    }
+    let Some((value, len)) = digits(rest) else {
+        return Err(Why::Number);
+    };
+    let after = &rest[len..];
+    if value > most {
+        return Err(Why::Number);
+    }
+    if !is_divided(after) {
+        return Err(Why::Number);
+    }
+    Ok((value, after))
+}
+
+// Whether a word ends here.
+#[inline]
+fn is_divided(line: &[u8]) -> bool
+    ensures { result ≡ not (goes_on line.now) }
+{
+    line.is_empty() || is_blank(line[0])
+}
+
+// The number that the first digits write and how many they are, where it is below 2^64.
+#[inline]
+fn digits(line: &[u8]) -> Option<(u64, usize)>
+    ensures some { IfSome result (λ read. ReadsDigits line.now read.1 read.0) }
+    ensures none { IfNone result (HasTooGreat line.now) }
 {
     let mut value: u64 = 0;
-    for byte in word {
+    for (i, byte) in line.iter().enumerate() {
         if !byte.is_ascii_digit() {
-            return None;
+            return Some((value, i));
         }
         value = pushed(value, *byte - b'0')?;
     }
-    (value <= most).then_some(value)
+    Some((value, line.len()))
 }
 
 // The number with one more digit, where it fits.

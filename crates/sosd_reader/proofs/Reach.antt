@@ -1,5 +1,5 @@
 -- How far a file is read: what each of the three steps takes adds up to the reach of its bytes.
-use Rattle.std.proofs.Common.{◌≡◌, ℕ, ◌+◌, ◌*◌, ◌^◌, ◌<◌, ◌≤◌, Bool, true, false, if◌then◌else◌, List, [], ◌++◌, length, ltb, sym, refl, ap, ◌∙◌, subst, Option, Some, None, Result, Ok, Err, OnErr, arith, length-append}
+use Rattle.std.proofs.Common.{◌≡◌, ℕ, ◌+◌, ◌*◌, ◌^◌, ◌<◌, ◌≤◌, Bool, true, false, if◌then◌else◌, List, [], ◌++◌, length, ltb, sym, refl, ap, ◌∙◌, subst, Option, Some, None, Result, Err, arith, length-append}
 use Rattle.std.specs.List.{flat_map}
 use Rattle.std.specs.Option.{IfSome, option_to_list}
 use Rattle.std.proofs.lemmas.Bool.Decides.{nat_tests}

@@ -1,8 +1,7 @@
 -- What a step of a reader does, where the shelf tells its bytes.
-use Rattle.std.specs.Prelude.{◌≡◌, ◌⊎◌, ℕ, ◌<◌, ◌≤◌, ◌+◌, ◌-◌, ◌*◌, ◌^◌, List, [], ◌∷◌, ◌++◌, length, All, take, slice_index, Option, IfSome, Result, MatchResult}
+use Rattle.std.specs.Prelude.{◌≡◌, ◌⊎◌, ℕ, ◌<◌, ◌≤◌, ◌+◌, ◌-◌, ◌*◌, ◌^◌, List, [], ◌∷◌, ◌++◌, length, All, slice_index, Option, IfSome, Result, MatchResult}
 use Rattle.std.specs.List.{flat_map}
 use Rattle.std.specs.List.Sorted.{IsNonDecreasing}
-use Rattle.std.specs.Option.{IsSomeAnd}
 use Rattle.byteorder.specs.Endian.{little_bytes}
 use Rattle.edge.specs.Reading.{HasRead}
 use Rattle.edge.specs.Risen.{HasRisen}

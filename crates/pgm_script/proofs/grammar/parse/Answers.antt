@@ -1,4 +1,4 @@
-use Rattle.std.proofs.Common.{◌≡◌, List, All, sym, subst, refl, inr, Ok, arith}
+use Rattle.std.proofs.Common.{List, All, sym, subst, refl, inr, Ok, arith}
 use Rattle.std.proofs.lemmas.Bool.Decides.{nat_tests}
 use Rattle.pgm_script.specs.declared.script.ScriptLine.{ScriptLine}
 use Rattle.pgm_script.specs.Scripts.{IsLineOf}

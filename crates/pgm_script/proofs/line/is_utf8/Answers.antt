@@ -1,5 +1,4 @@
-use Rattle.std.proofs.Common.{◌≡◌, List, ℕ, Bool, true, false, Result, Ok, Err, MatchResult, is_ok, refl, sym, ◌∙◌}
-use Rattle.std.specs.Str.{is_utf8, IsUtf8}
+use Rattle.std.proofs.Common.{◌∙◌}
 use Rattle.pgm_script.proofs.Texts.{utf8-answer}
 use Rattle.pgm_script.proofs.line.is_utf8.Goals as goal
 

@@ -1,4 +1,4 @@
-use Rattle.std.proofs.Common.{◌≡◌, ◌+◌, ◌-◌, ◌<◌, ◌≤◌, ◌++◌, List, ℕ, length, min, take, sym, ap, ◌∙◌, subst, arith, vec_len}
+use Rattle.std.proofs.Common.{◌≡◌, ◌+◌, ◌<◌, ◌≤◌, ◌++◌, List, ℕ, length, take, sym, ap, ◌∙◌, subst, arith, vec_len}
 use Rattle.edge.proofs.CallerLemmas.{takes-read}
 use Rattle.pgm_script.proofs.TextLemmas.{text-more, text-all, part-room, grown-within}
 use Rattle.pgm_script.proofs.reading.read_up_to.Goals as goal

@@ -1,7 +1,6 @@
-use Rattle.std.proofs.Common.{◌≡◌, ◌≤◌, ℕ, List, All, take, sym, ap, ◌∙◌, subst, arith}
+use Rattle.std.proofs.Common.{◌≤◌, All, take, sym, ap, ◌∙◌, subst, arith}
 use Rattle.zorder.specs.Codes.{IsDimension}
 use Rattle.pgm_script.specs.declared.script.ScriptLine.{ScriptLine}
-use Rattle.pgm_script.specs.declared.script.ScriptLine.TheVariants as ScriptLine
 use Rattle.pgm_script.specs.declared.verb.Verb.{Verb}
 use Rattle.pgm_script.specs.Verbs.{command_of, IsVerb}
 use Rattle.pgm_script.proofs.VerbLemmas.{region-is, in-range}

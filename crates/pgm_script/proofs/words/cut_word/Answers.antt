@@ -1,4 +1,4 @@
-use Rattle.std.proofs.Common.{◌≡◌, ◌-◌, take, drop, length, ◌∷◌, List, ℕ, ap, sym, ◌∙◌, arith}
+use Rattle.std.proofs.Common.{◌-◌, take, drop, length, ◌∷◌, List, ℕ, ap, sym, ◌∙◌, arith}
 use Rattle.std.proofs.lemmas.List.{take_rest, length-take}
 use Rattle.pgm_script.specs.Words.{words_of}
 use Rattle.pgm_script.proofs.WordLemmas.{no-word-in, some-word-in}

@@ -1,7 +1,7 @@
-use Rattle.std.proofs.Common.{◌≡◌, ◌+◌, ◌-◌, ◌<◌, ◌++◌, ◌∷◌, [], Ok, ℕ, List, length, take, set, suc, refl, sym, ap, ◌∙◌, subst, arith}
+use Rattle.std.proofs.Common.{◌≡◌, ◌+◌, ◌-◌, ◌++◌, ◌∷◌, [], Ok, ℕ, List, take, set, suc, sym, ap, ◌∙◌, arith}
 use Rattle.std.proofs.Math.Seq.{take-suc-set}
 use Rattle.std.proofs.Math.ListN.{length-set}
-use Rattle.std.proofs.lemmas.Bool.Decides.{nat_tests}
+use Rattle.pgm_script.specs.Cuts.{BeginsWithNumber}
 use Rattle.pgm_script.specs.Words.{words_of}
 use Rattle.pgm_script.specs.Scripts.{numbers_of}
 use Rattle.pgm_script.proofs.WordLemmas.{has-word, blank-line}
@@ -11,13 +11,13 @@ use Rattle.pgm_script.proofs.words.numbers.Goals as goal
 pub loop-i-preserved : goal.loop-i-preserved
 loop-i-preserved c =
     let i = c.loop-i.i in
-    let x = c.in-Some.number in
-    let some : 0 < length c.cut_word.result.0.now = grind (arith, nat_tests) in
-    let others = words_of c.cut_word.result.1.now in
+    let x = c.in_ok-number.number in
+    let cut : BeginsWithNumber c.args.most c.loop-i.rest.now x c.in_ok-number.after.now = c.in_ok-number.ensures in
+    let others = words_of c.in_ok-number.after.now in
     let taken : take (i + 1) (set c.loop-i.numbers i x) ≡ take i c.loop-i.numbers ++ x ∷ [] =
     ap (λ (n : ℕ). take n (set c.loop-i.numbers i x)) (let e : i + 1 ≡ suc i = omega arith in e) ∙ take-suc-set c.loop-i.numbers i x (omega (arith, c.loop-i.invariant.len)) in
     record {
-      read = read-more c.args.most c.args.count _ i _ _ _ others x c.loop-i.invariant.read (omega arith) (c.cut_word.ensures.some some) (sym c.in-Some.ensures)
+      read = read-more c.args.most c.args.count _ i _ _ _ others x c.loop-i.invariant.read (omega arith) cut.words cut.is
           ∙ ap (λ (w : List ℕ). behind w (numbers_of c.args.most (c.args.count - (i + 1)) others)) (sym taken);
       len = length-set c.loop-i.numbers i x ∙ c.loop-i.invariant.len;
     }
