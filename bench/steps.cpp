@@ -32,16 +32,19 @@ struct Hull {
         slope = {1LL << 40, 1};
     }
     bool is_over(const Vertex &next) { return is_below(slope, between(vertices[tangent], next, 0)); }
-    void extend(const Vertex &next, uint32_t lift) {
-        if (is_below(between(vertices[tangent], next, lift), slope)) {
-            slope = between(vertices[tangent], next, lift);
-            while (tangent + 1 < vertices.size()) {
-                Slope further = between(vertices[tangent + 1], next, lift);
-                if (!is_below(further, slope)) break;
-                ++tangent;
-                slope = further;
-            }
+    bool turn_to(const Vertex &next, uint32_t lift) {
+        if (!is_below(between(vertices[tangent], next, lift), slope)) return false;
+        slope = between(vertices[tangent], next, lift);
+        while (tangent + 1 < vertices.size()) {
+            Slope further = between(vertices[tangent + 1], next, lift);
+            if (!is_below(further, slope)) break;
+            ++tangent;
+            slope = further;
         }
+        return true;
+    }
+    void take_in(const Vertex &next, bool stands_out) {
+        if (!stands_out) return;
         while (vertices.size() > tangent + 1) {
             const Vertex &last = vertices.back();
             if (is_below(between(last, next, 0), between(vertices[vertices.size() - 2], last, 0))) break;
@@ -77,8 +80,10 @@ int main(int argc, char **argv) {
             } else if (steep.is_over(point) || flat.is_over(turned)) {
                 break;
             } else {
-                steep.extend(point, lift);
-                flat.extend(turned, lift);
+                bool falls = steep.turn_to(point, lift);
+                bool rises = flat.turn_to(turned, lift);
+                steep.take_in(point, rises);
+                flat.take_in(turned, falls);
             }
         }
         u64 per_point = (steps - before + (i - start) - 1) / (i - start);

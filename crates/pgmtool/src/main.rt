@@ -1,13 +1,13 @@
 //! `pgmtool` writes what a PGM-index over a key file is, as text.
 //!
 //! `pgmtool explain FILE --eps E` reads a file of 64-bit keys and writes level 0: how many segments
-//! the keys need where each key's predicted rank is at most E off, and each segment. Of the keys 0,
-//! 1, 2, 10 with E = 0:
+//! the keys need where each key's predicted place is at most E off, and each segment, with three
+//! places that show why it ends. Of the keys 0, 1, 2, 10 with E = 0:
 //!
 //! ```text
 //! level 0 list 4 eps 0 runs 2
-//! run 0 3 pair 0 1 line 0 0 1 1
-//! run 3 4 pair 3 3 line 10 3 0 1
+//! run 0 3 pair 0 1 line 0 0 1 1 cut under 0 1 3
+//! run 3 4 pair 3 3 line 10 3 0 1 end
 //! ```
 //!
 //! Everything that is claimed of the program stands on [`run`]. The words of its clauses are in
