@@ -7,6 +7,7 @@ pub mod LineSlopes
 pub mod KeyPoints
 pub mod StoredLine
 pub mod RunLemmas
+pub mod BestPair
 pub mod PairOrder
 pub mod SideLemmas
 pub mod PairLemmas

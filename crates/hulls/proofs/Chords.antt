@@ -89,3 +89,9 @@ less_steep_left up down run up' down' run' xa ya xc yc g left wide positive unde
         ap (λ (t : ℕ). down' * t * run) left,
       ))
     ]
+
+-- c, d, j, e in this order, `g`, `u` and `w` apart, the heights of c and e raised: where the slope from c falls from d to j, and that from d to e is no less than that from c to d, the slope to e is no less from j than from d
+pub slope_behind : (low d j high g u w : ℕ) → 0 < g → j * g + low * u ≤ d * g + d * u → d * (u + w) + d * g ≤ high * g + low * (u + w) →
+    j * (u + w) ≤ high * u + d * w
+slope_behind low d j high g u w wide first second =
+    le_of_mul-le-mul_right {k = g} (omega (arith, mul-le-mul_right (u + w) first, mul-le-mul_right u second)) wide

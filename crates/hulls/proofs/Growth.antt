@@ -1,10 +1,10 @@
 -- The hull with one more point: the vertices that stay, and the new one.
-use Rattle.std.proofs.Common.{◌≡◌, ◌⊎◌, ℕ, zero, suc, ◌+◌, ◌*◌, ◌-◌, ◌<◌, ◌≤◌, inl, inr, refl, ap, subst, sym, arith}
+use Rattle.std.proofs.Common.{◌≡◌, ◌⊎◌, ℕ, zero, suc, ◌+◌, ◌-◌, ◌<◌, ◌≤◌, inl, inr, ap, subst, sym, arith}
 use Rattle.std.proofs.lemmas.Bool.{cases_lt}
 use Rattle.exact_cross.specs.Points.{Points}
-use Rattle.hulls.specs.Hull.{IsUnderChord, IsUnderHull, IsUpperHull, RiseRight}
+use Rattle.hulls.specs.Hull.{IsUnderChord, IsShadowed, IsUpperHull, RiseRight}
 use Rattle.hulls.proofs.Chords.{chord_right, chord_left}
-use Rattle.hulls.proofs.Tangents.{place_rises, place_before, not_right, chord_gaps, chord_from_gaps}
+use Rattle.hulls.proofs.Tangents.{place_rises, place_before, not_right}
 
 -- h <= i <= j < r: j under the chord from i to r, and i under that from h to r
 under_right : (q : Points) (h i j r : ℕ) → RiseRight q → h ≤ i → i ≤ j → j < r → r < q.count → IsUnderChord q i j r → IsUnderChord q h i r → IsUnderChord q h j r
@@ -42,64 +42,84 @@ pub record IsKept (q : Points) (v : ℕ → ℕ) (t last e kept : ℕ) : Type 0 
   pub turns : (k : ℕ) → t ≤ k → k + 1 ≡ kept → IsUnderChord q (v k) (v (k + 1)) e → ⊥
 
 -- each point from a dropped vertex on lies under the chord from it to the new point
-under_new_edge : (q : Points) (v : ℕ → ℕ) (t last e kept : ℕ) → RiseRight q → e < q.count → IsUpperHull q v t last e → IsKept q v t last e kept →
-    (gap k : ℕ) → k + gap ≡ last → kept ≤ k → (j : ℕ) → v k ≤ j → j < e → IsUnderChord q (v k) j e
-under_new_edge q v t last e kept right inside hull kept_to zero k here from j low high =
+under_new_edge : (q : Points) (eps s : ℕ) (v : ℕ → ℕ) (t last e kept : ℕ) → RiseRight q → e < q.count → IsUpperHull q eps s v t last e → IsKept q v t last e kept →
+    (gap k : ℕ) → k + gap ≡ last → kept ≤ k → (j : ℕ) → v k ≤ j → j < e → IsUnderChord q (v k) j e ⊎ IsShadowed q eps s j
+under_new_edge q eps s v t last e kept right inside hull kept_to zero k here from j low high =
     let same : k ≡ last = omega arith in
-    let only : j ≡ v k = omega (arith, hull.end, ap v same) in
-    rw only (record { under = omega arith })
-under_new_edge q v t last e kept right inside hull kept_to (suc gap) k here from j low high =
+    elim (hull.under j (omega (arith, low, place_rises q eps s v t last e t k hull (omega arith) (omega (arith, kept_to.from_tangent)) (omega arith))) high) [
+      | inr shadow ↦ inr shadow
+      | inl (inl end) ↦ let only : j ≡ v k = omega (arith, end, ap v same) in inl (rw only (record { under = omega arith }))
+      | inl (inr edge) ↦ absurd (omega (arith, edge.4, low, ap v same, place_rises q eps s v t last e (edge.0 + 1) last hull (omega (arith, edge.1)) (omega (arith, edge.2)) (omega arith)))
+    ]
+under_new_edge q eps s v t last e kept right inside hull kept_to (suc gap) k here from j low high =
     let from_t : t ≤ k = omega (arith, kept_to.from_tangent) in
     let rises = hull.rise k from_t (omega arith) in
-    let next_before = place_before q v t last e (k + 1) hull (omega arith) (omega arith) in
+    let next_before = place_before q eps s v t last e (k + 1) hull (omega arith) (omega arith) in
     let chord = kept_to.dropped k from (omega arith) in
     elim (cases_lt j (v (k + 1))) [
-      | inr on ↦ under_right q (v k) (v (k + 1)) j e right (omega arith) on high inside
-          (under_new_edge q v t last e kept right inside hull kept_to gap (k + 1) (omega arith) (omega arith) j on high) chord
-      | inl early ↦ elim (hull.under j (omega (arith, low, place_rises q v t last e t k hull (omega arith) from_t (omega arith))) high) [
-        | inl end ↦ absurd (omega (arith, end, early, place_rises q v t last e (k + 1) last hull (omega arith) (omega arith) (omega arith)))
-        | inr edge ↦
+      | inr on ↦ elim (under_new_edge q eps s v t last e kept right inside hull kept_to gap (k + 1) (omega arith) (omega arith) j on high) [
+        | inl under ↦ inl (under_right q (v k) (v (k + 1)) j e right (omega arith) on high inside under chord)
+        | inr shadow ↦ inr shadow
+      ]
+      | inl early ↦ elim (hull.under j (omega (arith, low, place_rises q eps s v t last e t k hull (omega arith) from_t (omega arith))) high) [
+        | inr shadow ↦ inr shadow
+        | inl (inl end) ↦ absurd (omega (arith, end, early, place_rises q eps s v t last e (k + 1) last hull (omega arith) (omega arith) (omega arith)))
+        | inl (inr edge) ↦
             let here_edge : edge.0 ≡ k = elim (cases_lt edge.0 k) [
-              | inl less ↦ absurd (omega (arith, edge.4, low, place_rises q v t last e (edge.0 + 1) k hull (omega (arith, edge.1)) (omega arith) (omega arith)))
+              | inl less ↦ absurd (omega (arith, edge.4, low, place_rises q eps s v t last e (edge.0 + 1) k hull (omega (arith, edge.1)) (omega arith) (omega arith)))
               | inr not_less ↦ elim (cases_lt k edge.0) [
-                | inl more ↦ absurd (omega (arith, edge.3, early, place_rises q v t last e (k + 1) edge.0 hull (omega arith) (omega arith) (omega (arith, edge.2))))
+                | inl more ↦ absurd (omega (arith, edge.3, early, place_rises q eps s v t last e (k + 1) edge.0 hull (omega arith) (omega arith) (omega (arith, edge.2))))
                 | inr not_more ↦ omega arith
               ]
             ] in
-            under_left q (v k) j (v (k + 1)) e right low early next_before inside
-            (subst (λ (n : ℕ). IsUnderChord q (v n) j (v (n + 1))) here_edge edge.5) chord
+            inl (under_left q (v k) j (v (k + 1)) e right low early next_before inside
+            (subst (λ (n : ℕ). IsUnderChord q (v n) j (v (n + 1))) here_edge edge.5) chord)
       ]
     ]
 
 -- a hull from one of its vertices on
-pub IsUpperHull-later : (q : Points) (v : ℕ → ℕ) (t last e at : ℕ) → IsUpperHull q v t last e → t ≤ at → at ≤ last → IsUpperHull q v at last e
-IsUpperHull-later q v t last e at hull onward within = record {
+pub IsUpperHull-later : (q : Points) (eps s : ℕ) (v : ℕ → ℕ) (t last e at : ℕ) → IsUpperHull q eps s v t last e → t ≤ at → at ≤ last → IsUpperHull q eps s v at last e
+IsUpperHull-later q eps s v t last e at hull onward within = record {
   some = within;
   rise = λ k low high. hull.rise k (omega arith) high;
   end = hull.end;
   turns = λ k low high. hull.turns k (omega arith) high;
-  under = λ j low high. elim (hull.under j (omega (arith, low, place_rises q v t last e t at hull (omega arith) onward within)) high) [
-    | inl end ↦ inl end
-    | inr edge ↦
+  under = λ j low high. elim (hull.under j (omega (arith, low, place_rises q eps s v t last e t at hull (omega arith) onward within)) high) [
+    | inr shadow ↦ inr shadow
+    | inl (inl end) ↦ inl (inl end)
+    | inl (inr edge) ↦
         let low_k : at ≤ edge.0 = elim (cases_lt edge.0 at) [
-          | inl less ↦ absurd (omega (arith, edge.4, low, place_rises q v t last e (edge.0 + 1) at hull (omega (arith, edge.1)) (omega arith) within))
+          | inl less ↦ absurd (omega (arith, edge.4, low, place_rises q eps s v t last e (edge.0 + 1) at hull (omega (arith, edge.1)) (omega arith) within))
           | inr not_less ↦ not_less
         ] in
-        inr (edge.0, low_k, edge.2, edge.3, edge.4, edge.5)
+        inl (inr (edge.0, low_k, edge.2, edge.3, edge.4, edge.5))
+  ];
+}
+
+-- a hull with one more point that is shadowed
+pub IsUpperHull-skips : (q : Points) (eps s : ℕ) (v : ℕ → ℕ) (t last e : ℕ) → IsUpperHull q eps s v t last e → IsShadowed q eps s e → IsUpperHull q eps s v t last (e + 1)
+IsUpperHull-skips q eps s v t last e hull shadow = record {
+  some = hull.some;
+  rise = hull.rise;
+  end = omega (arith, hull.end);
+  turns = hull.turns;
+  under = λ j low high. elim (cases_lt j e) [
+    | inl before ↦ hull.under j low before
+    | inr here ↦ let same : j ≡ e = omega arith in inr (subst (λ (n : ℕ). IsShadowed q eps s n) (sym same) shadow)
   ];
 }
 
 -- the hull of the places v' at, .., v' kept, e
-pub IsUpperHull-grows : (q : Points) (v v' : ℕ → ℕ) (t last e at kept : ℕ) → RiseRight q → e < q.count → IsUpperHull q v t last e → t ≤ at → at ≤ last →
-    IsKept q v at last e kept → ((k : ℕ) → k ≤ kept → v' k ≡ v k) → v' (kept + 1) ≡ e → IsUpperHull q v' at (kept + 1) (e + 1)
-IsUpperHull-grows q v v' t last e at kept right inside whole onward within kept_to same new =
-    let hull : IsUpperHull q v at last e = IsUpperHull-later q v t last e at whole onward within in
+pub IsUpperHull-grows : (q : Points) (eps s : ℕ) (v v' : ℕ → ℕ) (t last e at kept : ℕ) → RiseRight q → e < q.count → IsUpperHull q eps s v t last e → t ≤ at → at ≤ last →
+    IsKept q v at last e kept → ((k : ℕ) → k ≤ kept → v' k ≡ v k) → v' (kept + 1) ≡ e → IsUpperHull q eps s v' at (kept + 1) (e + 1)
+IsUpperHull-grows q eps s v v' t last e at kept right inside whole onward within kept_to same new =
+    let hull : IsUpperHull q eps s v at last e = IsUpperHull-later q eps s v t last e at whole onward within in
     record {
       some = omega (arith, kept_to.from_tangent);
       rise = λ k low high. elim (cases_lt k kept) [
         | inl old ↦ omega (arith, same k (omega arith), same (k + 1) (omega arith), hull.rise k low (omega (arith, kept_to.inside)))
         | inr edge ↦ let here : k ≡ kept = omega arith in
-            omega (arith, same k (omega arith), ap (λ (n : ℕ). v' (n + 1)) here, new, place_before q v at last e k hull low (omega (arith, kept_to.inside)))
+            omega (arith, same k (omega arith), ap (λ (n : ℕ). v' (n + 1)) here, new, place_before q eps s v at last e k hull low (omega (arith, kept_to.inside)))
       ];
       end = omega (arith, new);
       turns = λ k low high. elim (cases_lt (k + 1) kept) [
@@ -110,34 +130,31 @@ IsUpperHull-grows q v v' t last e at kept right inside whole onward within kept_
             rw (same k (omega arith), same (k + 1) (omega arith), third) (kept_to.turns k low here)
       ];
       under = λ j low high. elim (cases_lt j e) [
-        | inr here ↦ inl (omega (arith, new))
+        | inr here ↦ inl (inl (omega (arith, new)))
         | inl before ↦
             let low_old : v at ≤ j = omega (arith, low, same at (omega (arith, kept_to.from_tangent))) in
             elim (cases_lt j (v kept)) [
-              | inr late ↦ inr (
-                kept,
-                kept_to.from_tangent,
-                omega arith,
-                omega (arith, same kept (omega arith)),
-                omega (arith, new),
-                rw (same kept (omega arith), new) (under_new_edge q v at last e kept right inside hull kept_to (last - kept) kept (omega (arith, kept_to.inside)) (omega arith) j late before),
-              )
+              | inr late ↦ elim (under_new_edge q eps s v at last e kept right inside hull kept_to (last - kept) kept (omega (arith, kept_to.inside)) (omega arith) j late before) [
+                | inl under ↦ inl (inr (kept, kept_to.from_tangent, omega arith, omega (arith, same kept (omega arith)), omega (arith, new), rw (same kept (omega arith), new) under))
+                | inr shadow ↦ inr shadow
+              ]
               | inl early ↦ elim (hull.under j low_old before) [
-                | inl end ↦ absurd (omega (arith, end, early, place_rises q v at last e kept last hull kept_to.from_tangent kept_to.inside (omega arith)))
-                | inr edge ↦
+                | inr shadow ↦ inr shadow
+                | inl (inl end) ↦ absurd (omega (arith, end, early, place_rises q eps s v at last e kept last hull kept_to.from_tangent kept_to.inside (omega arith)))
+                | inl (inr edge) ↦
                     let k = edge.0 in
                     let high_k : k < kept = elim (cases_lt k kept) [
                       | inl less ↦ less
-                      | inr not_less ↦ absurd (omega (arith, edge.3, early, place_rises q v at last e kept k hull kept_to.from_tangent not_less (omega (arith, edge.2))))
+                      | inr not_less ↦ absurd (omega (arith, edge.3, early, place_rises q eps s v at last e kept k hull kept_to.from_tangent not_less (omega (arith, edge.2))))
                     ] in
-                    inr (
+                    inl (inr (
                       k,
                       edge.1,
                       omega arith,
                       omega (arith, same k (omega arith), edge.3),
                       omega (arith, same (k + 1) (omega arith), edge.4),
                       rw (same k (omega arith), same (k + 1) (omega arith)) edge.5,
-                    )
+                    ))
               ]
             ]
       ];

@@ -1,9 +1,8 @@
 -- What the searches on a hull's vertices say of the points that the vertices stand for.
 use Rattle.std.specs.Bool.{OnTrue, OnFalse}
-use Rattle.std.proofs.Common.{◌≡◌, Bool, true, false, ℕ, ◌+◌, ◌*◌, ◌-◌, ◌^◌, ◌<◌, ◌≤◌, ◌∙◌, List, [], ◌∷◌, ◌++◌, length, take, get_or, pos, ◌-ℤ◌, inl, inr, refl, ap, subst, sym, arith}
+use Rattle.std.proofs.Common.{◌≡◌, Bool, true, false, ℕ, ◌+◌, ◌*◌, ◌-◌, ◌<◌, ◌≤◌, ◌∙◌, List, [], ◌∷◌, ◌++◌, length, take, get_or, inl, inr, refl, ap, subst, sym, arith}
 use Rattle.std.proofs.lemmas.Bool.{cases_lt}
 use Rattle.std.proofs.lemmas.List.{get_or_read, get_or-take, get_or_append_left, get_or_push, length-take-le, length-append}
-use borrow.Author.Differences.{up, down}
 use Rattle.exact_cross.specs.declared.slope.Slope.{Slope}
 use Rattle.exact_cross.specs.Points.{Points}
 use Rattle.exact_cross.specs.Slopes.{IsAtMost, steep_slope}
@@ -11,11 +10,11 @@ use Rattle.exact_cross.proofs.CallerLemmas.{products_le-out, products_le-in}
 use Rattle.hulls.specs.declared.vertex.Vertex.{Vertex}
 use Rattle.hulls.specs.declared.hull.Hull.{Hull}
 use Rattle.hulls.specs.Vertices.{vertex_at, lifted_slope, AreLeftOf, IsNoTurn}
-use Rattle.hulls.specs.Hull.{IsUnderChord, IsUpperHull, IsUnderLine, IsVertexOf, IsPairOf, IsHullOn, IsHullUpTo, IsHullOf, IsNextVertex, RiseRight, lower_of}
+use Rattle.hulls.specs.Hull.{IsUnderChord, IsUpperHull, IsUnderLine, IsVertexOf, IsPairOf, IsHullOn, IsHullUpTo, IsHullOf, IsFittable, IsShadowed, IsNextVertex, lower_of}
 use Rattle.hulls.proofs.Lines.{at_least-out, at_least-in, under-out, under-in}
-use Rattle.hulls.proofs.Tangents.{IsTangent, place_rises, place_before, not_right, chord_gaps, chord_from_gaps}
-use Rattle.hulls.proofs.PairSteps.{lower_place, slope_positive, IsPairOf-keeps, IsPairOf-takes}
-use Rattle.hulls.proofs.Growth.{IsKept, IsUpperHull-later, IsUpperHull-grows}
+use Rattle.hulls.proofs.Tangents.{IsTangent, place_before, not_right, chord_gaps, chord_from_gaps}
+use Rattle.hulls.proofs.PairSteps.{slope_positive, IsPairOf-keeps, IsPairOf-takes}
+use Rattle.hulls.proofs.Growth.{IsKept, IsUpperHull-later, IsUpperHull-skips, IsUpperHull-grows}
 
 -- the vertex that was read, and the slope from it
 pub read_vertex : (vertices : List Vertex) (t : ℕ) (low : Vertex) → t < length vertices → low ≡ get_or vertices t low → low ≡ vertex_at vertices t
@@ -41,7 +40,7 @@ lifted_is_steep q eps lift low high is_low is_high same = rw (is_low.x, is_low.h
 place_of_next : (q : Points) (eps s e paired k : ℕ) (hull : Hull) → IsHullUpTo q eps s e paired hull → hull.tangent ≤ k → k < length hull.vertices.items →
     (vertex_at hull.vertices.items k).place < e
 place_of_next q eps s e paired k hull is low inside =
-    place_before q (λ n. (vertex_at hull.vertices.items n).place) hull.tangent (length hull.vertices.items - 1) e k is.upper_hull low (omega arith)
+    place_before q eps s (λ n. (vertex_at hull.vertices.items n).place) hull.tangent (length hull.vertices.items - 1) e k is.upper_hull low (omega arith)
 
 pub left_of_next : (q : Points) (eps s e paired : ℕ) (hull : Hull) (next : Vertex) → IsHullUpTo q eps s e paired hull → IsNextVertex q e next →
     AreLeftOf hull.vertices.items hull.tangent next
@@ -122,13 +121,13 @@ IsTangent-from_walk q eps s e lift at hull next is new twice onward inside falls
     }
 
 -- the vertex that the walk found and the new point are the pair
-pub IsHullUpTo-takes : (q : Points) (eps s e lift at : ℕ) (hull : Hull) (next : Vertex) (slope : Slope) → IsHullOf q eps s e hull → IsNextVertex q e next → lift ≡ 2 * eps →
+pub IsHullUpTo-takes : (q : Points) (eps s e lift at : ℕ) (hull : Hull) (next : Vertex) (slope : Slope) → IsHullOf q eps s e hull → IsNextVertex q e next → lift ≡ 2 * eps → IsFittable q eps s e →
     (IsAtMost hull.slope.slope (lifted_slope (vertex_at hull.vertices.items hull.tangent) next lift) → ⊥) →
     hull.tangent ≤ at → at < length hull.vertices.items →
     ((k : ℕ) → hull.tangent ≤ k → k < at → IsAtMost (lifted_slope (vertex_at hull.vertices.items k) next lift) (lifted_slope (vertex_at hull.vertices.items (k + 1)) next lift) → ⊥) →
     (at + 1 < length hull.vertices.items → IsAtMost (lifted_slope (vertex_at hull.vertices.items at) next lift) (lifted_slope (vertex_at hull.vertices.items (at + 1)) next lift)) →
     slope ≡ lifted_slope (vertex_at hull.vertices.items at) next lift → IsHullOn q eps s e (e + 1) hull.vertices.items at next.place slope
-IsHullUpTo-takes q eps s e lift at hull next slope is new twice below onward inside falls stops own =
+IsHullUpTo-takes q eps s e lift at hull next slope is new twice servable below onward inside falls stops own =
     let vertices = hull.vertices.items in
     let low = vertex_at vertices hull.tangent in
     let low_slope : lifted_slope low next lift ≡ steep_slope q eps low.place e =
@@ -136,13 +135,13 @@ IsHullUpTo-takes q eps s e lift at hull next slope is new twice below onward ins
     let new_slope : lifted_slope (vertex_at vertices at) next lift ≡ steep_slope q eps (vertex_at vertices at).place e =
     lifted_is_steep q eps lift (vertex_at vertices at) next (is.are_points at onward inside) new.point twice ∙ ap (steep_slope q eps (vertex_at vertices at).place) new.place in
     let in_points : e < q.count = omega (arith, new.place, new.point.inside) in
-    let pair = IsPairOf-takes q eps s e hull.upper hull.slope.slope (λ k. (vertex_at vertices k).place) hull.tangent (length vertices - 1) at new.right in_points is.pair is.upper_hull
+    let pair = IsPairOf-takes q eps s e hull.upper hull.slope.slope (λ k. (vertex_at vertices k).place) hull.tangent (length vertices - 1) at new.right in_points servable is.pair is.upper_hull
     (IsTangent-from_walk q eps s e lift at hull next is new twice onward inside falls stops) (rw low_slope at below) in
     record {
       inside = inside;
       few = is.few;
       are_points = λ k from to. is.are_points k (omega arith) to;
-      upper_hull = IsUpperHull-later q (λ k. (vertex_at vertices k).place) hull.tangent (length vertices - 1) e at is.upper_hull onward (omega arith);
+      upper_hull = IsUpperHull-later q eps s (λ k. (vertex_at vertices k).place) hull.tangent (length vertices - 1) e at is.upper_hull onward (omega arith);
       pair = rw (own, new_slope, new.place) pair;
     }
 
@@ -204,8 +203,8 @@ IsHullOf-covers q eps s e kept hull next grown is new some within dropped turns 
           (subst (λ (n : ℕ). IsUnderChord q (vertex_at old k).place (vertex_at old (k + 1)).place n) (sym new.place) under));
     } in
     let last : kept - 1 + 1 ≡ length items - 1 = omega (arith, long) in
-    let upper_hull = subst (λ (n : ℕ). IsUpperHull q (λ k. (vertex_at items k).place) hull.tangent n (e + 1)) last
-    (IsUpperHull-grows q (λ k. (vertex_at old k).place) (λ k. (vertex_at items k).place) hull.tangent (length old - 1) e hull.tangent (kept - 1) new.right in_points is.upper_hull
+    let upper_hull = subst (λ (n : ℕ). IsUpperHull q eps s (λ k. (vertex_at items k).place) hull.tangent n (e + 1)) last
+    (IsUpperHull-grows q eps s (λ k. (vertex_at old k).place) (λ k. (vertex_at items k).place) hull.tangent (length old - 1) e hull.tangent (kept - 1) new.right in_points is.upper_hull
     (omega arith) (omega arith) kept_to place newest) in
     subst (λ (vertices : List Vertex). IsHullOn q eps s (e + 1) (e + 1) vertices hull.tangent hull.upper hull.slope.slope) (sym same) (record {
       inside = omega (arith, long);
@@ -232,3 +231,21 @@ pub not_over-from_test : (b : Bool) (hull : Hull) (next low : Vertex) (slope : S
 not_over-from_test true hull next low slope inside is own most = tt
 not_over-from_test false hull next low slope inside is own most = λ q eps s e hull_of new.
     under_line-from_slope q eps s e hull next hull_of new (rw (read_slope hull.vertices.items hull.tangent 0 low next slope inside is own) at most)
+
+-- a shadowed point stays off the hull
+pub IsHullOf-skips : (q : Points) (eps s e : ℕ) (hull : Hull) → IsHullUpTo q eps s e (e + 1) hull → IsShadowed q eps s e → IsHullOf q eps s (e + 1) hull
+IsHullOf-skips q eps s e hull is shadow = record {
+  inside = is.inside;
+  few = omega (arith, is.few);
+  are_points = is.are_points;
+  upper_hull = IsUpperHull-skips q eps s (λ k. (vertex_at hull.vertices.items k).place) hull.tangent (length hull.vertices.items - 1) e is.upper_hull shadow;
+  pair = is.pair;
+}
+
+-- where the pair stays, its slope is at most that from its lower place to the lifted new point
+pub stays-from_test : (b : Bool) (hull : Hull) (next low : Vertex) (lift : ℕ) (slope : Slope) → hull.tangent < length hull.vertices.items → low ≡ get_or hull.vertices.items hull.tangent low → slope ≡ lifted_slope low next lift →
+    OnFalse b (IsAtMost hull.slope.slope slope) →
+    OnFalse b ((q : Points) (eps s e : ℕ) → IsHullOf q eps s e hull → IsNextVertex q e next → lift ≡ 2 * eps → IsAtMost hull.slope.slope (steep_slope q eps (lower_of hull) e))
+stays-from_test true hull next low lift slope inside is own most = tt
+stays-from_test false hull next low lift slope inside is own most = λ q eps s e hull_of new twice.
+    rw (read_slope hull.vertices.items hull.tangent lift low next slope inside is own, lifted_is_steep q eps lift (vertex_at hull.vertices.items hull.tangent) next (hull_of.are_points hull.tangent (omega arith) inside) new.point twice, new.place) at most

@@ -2,7 +2,7 @@
 use Rattle.std.proofs.Common.{◌≡◌, ℕ, ◌+◌, ◌*◌, ◌-◌, ◌^◌, ◌<◌, ◌≤◌, ap, arith}
 use Rattle.exact_cross.specs.Points.{Points, IsAscending}
 use Rattle.exact_cross.specs.Slopes.{IsAtMost, steep_slope, flat_slope}
-use Rattle.exact_cross.specs.Steep.{IsPair, IsSteepPair, IsFlatPair}
+use Rattle.exact_cross.specs.Steep.{IsSteepPair, IsFlatPair}
 use Rattle.exact_cross.proofs.CallerLemmas.{products_le-out, products_le-in}
 use Rattle.hulls.specs.Hull.{RiseRight}
 use Rattle.hulls.specs.Hulls.{mirrored}
@@ -37,6 +37,17 @@ mirrored-from_flat p eps a b c d low_a low_b low_c low_d most =
     let sums = products_le-out (p.y d) (p.y c + 2 * eps) ab (p.y b) (p.y a + 2 * eps) cd most.at_most in
     record {
       at_most = products_le-in (4294967295 - p.y b + 2 * eps) (4294967295 - p.y a) cd (4294967295 - p.y d + 2 * eps) (4294967295 - p.y c) ab
+          (omega (arith, sums, turned p a cd low_a, turned p b cd low_b, turned p c ab low_c, turned p d ab low_d));
+    }
+
+pub mirrored_flat-from_steep : (p : Points) (eps a b c d : ℕ) → p.y a < 2 ^ 32 → p.y b < 2 ^ 32 → p.y c < 2 ^ 32 → p.y d < 2 ^ 32 →
+    IsAtMost (steep_slope p eps a b) (steep_slope p eps c d) → IsAtMost (flat_slope (mirrored p) eps c d) (flat_slope (mirrored p) eps a b)
+mirrored_flat-from_steep p eps a b c d low_a low_b low_c low_d most =
+    let ab = p.x b - p.x a in
+    let cd = p.x d - p.x c in
+    let sums = products_le-out (p.y b + 2 * eps) (p.y a) cd (p.y d + 2 * eps) (p.y c) ab most.at_most in
+    record {
+      at_most = products_le-in (4294967295 - p.y d) (4294967295 - p.y c + 2 * eps) ab (4294967295 - p.y b) (4294967295 - p.y a + 2 * eps) cd
           (omega (arith, sums, turned p a cd low_a, turned p b cd low_b, turned p c ab low_c, turned p d ab low_d));
     }
 

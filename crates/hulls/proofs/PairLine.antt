@@ -1,6 +1,6 @@
 -- The line of the steep pair, from the pair's lower point and its slope.
-use Rattle.std.proofs.Common.{◌≡◌, ℕ, ◌+◌, ◌*◌, ◌-◌, ◌^◌, ◌<◌, ◌≤◌, ◌∙◌, ℤ, pos, ◌-ℤ◌, of_z, to_z, w64, inl, inr, refl, ap, sym, rules, arith}
-use Rattle.std.specs.Int.RustNames.{FitsSigned, unsigned_abs}
+use Rattle.std.proofs.Common.{◌≡◌, ℕ, ◌+◌, ◌*◌, ◌-◌, ◌^◌, ◌<◌, ◌≤◌, ◌∙◌, ℤ, pos, ◌-ℤ◌, of_z, to_z, w64, inl, inr, refl, ap, sym, arith}
+use Rattle.std.specs.Int.RustNames.{unsigned_abs}
 use Rattle.std.proofs.lemmas.Int.{ints}
 use Rattle.std.proofs.lemmas.Bool.{cases_lt}
 use Rattle.exact_cross.specs.declared.line.Line.{Line}
@@ -12,7 +12,6 @@ use Rattle.exact_cross.proofs.CallerLemmas.{line_of_pair-rising}
 use Rattle.hulls.specs.declared.vertex.Vertex.{Vertex}
 use Rattle.hulls.specs.declared.fitting.Hulls.{Hulls}
 use Rattle.hulls.specs.Hull.{IsVertexOf, lower_of}
-use Rattle.hulls.specs.Vertices.{vertex_at}
 use Rattle.hulls.specs.Hulls.{StandsFor}
 
 -- the pair of two places, and its slope

@@ -1,9 +1,9 @@
 -- The upper hull of points: what lies under it, and the pair whose lower place it begins at.
-use Rattle.std.specs.Prelude.{◌≡◌, ◌⊎◌, ℕ, ◌+◌, ◌*◌, ◌-◌, ◌^◌, ◌<◌, ◌≤◌, ℤ, pos, ◌+ℤ◌, ◌*ℤ◌, ◌≤ℤ◌, List, length}
+use Rattle.std.specs.Prelude.{◌≡◌, ◌⊎◌, ℕ, ◌+◌, ◌*◌, ◌-◌, ◌^◌, ◌<◌, ◌≤◌, pos, ◌+ℤ◌, ◌*ℤ◌, ◌≤ℤ◌, List, length}
 use Rattle.exact_cross.specs.declared.slope.Slope.{Slope}
 use Rattle.exact_cross.specs.Points.{Points}
-use Rattle.exact_cross.specs.Slopes.{steep_slope}
-use Rattle.exact_cross.specs.Steep.{IsSteepOf}
+use Rattle.exact_cross.specs.Slopes.{IsAtMost, steep_slope, flat_slope}
+use Rattle.exact_cross.specs.Steep.{IsPair, IsSteepOf}
 use Rattle.hulls.specs.declared.vertex.Vertex.{Vertex}
 use Rattle.hulls.specs.declared.hull.Hull.{Hull}
 use Rattle.hulls.specs.Slopes.{steepest}
@@ -13,18 +13,22 @@ use Rattle.hulls.specs.Vertices.{vertex_at}
 pub record IsUnderChord (q : Points) (i j k : ℕ) : Type 0 where
   pub under : q.y j * (q.x k - q.x i) ≤ q.y i * (q.x k - q.x j) + q.y k * (q.x j - q.x i)
 
--- a point is the last one, or lies under the edge of the hull that spans it, from a vertex of t..last to the next
+-- a point is the last vertex, or lies under the edge of the hull that spans it, from a vertex of t..last to the next
 abbrev pub IsUnderHull : Points → (ℕ → ℕ) → ℕ → ℕ → ℕ → Type 0
 IsUnderHull q v t last j =
     (j ≡ v last) ⊎ ((k : ℕ) × (t ≤ k) × (k < last) × (v k ≤ j) × (j < v (k + 1)) × IsUnderChord q (v k) j (v (k + 1)))
 
--- the places v t, .., v last are the upper hull of the points from the first of them on, before e
-pub record IsUpperHull (q : Points) (v : ℕ → ℕ) (t last e : ℕ) : Type 0 where
+-- a point that can't be the lower place of a pair with a later one: a pair of places before it has a flat slope that is no less than that to it, and so the upper place of these has the lesser slope
+abbrev pub IsShadowed : Points → ℕ → ℕ → ℕ → Type 0
+IsShadowed q eps s j = (c : ℕ) × (d : ℕ) × IsPair s j c d × IsAtMost (flat_slope q eps c j) (flat_slope q eps c d)
+
+-- the places v t, .., v last are the upper hull of the points from the first of them on, before e, but for those that are shadowed
+pub record IsUpperHull (q : Points) (eps s : ℕ) (v : ℕ → ℕ) (t last e : ℕ) : Type 0 where
   pub some : t ≤ last
   pub rise : (k : ℕ) → t ≤ k → k < last → v k < v (k + 1)
-  pub end : v last + 1 ≡ e
+  pub end : v last < e
   pub turns : (k : ℕ) → t ≤ k → k + 2 ≤ last → IsUnderChord q (v k) (v (k + 1)) (v (k + 2)) → ⊥
-  pub under : (j : ℕ) → v t ≤ j → j < e → IsUnderHull q v t last j
+  pub under : (j : ℕ) → v t ≤ j → j < e → IsUnderHull q v t last j ⊎ IsShadowed q eps s j
 
 -- the point c lies on the line through the point a with this slope, or under it
 pub record IsUnderLine (q : Points) (a : ℕ) (slope : Slope) (c : ℕ) : Type 0 where
@@ -53,7 +57,7 @@ pub record IsHullOn (q : Points) (eps s hulled paired : ℕ) (vertices : List Ve
   pub inside : tangent < length vertices
   pub few : s + length vertices ≤ hulled
   pub are_points : (k : ℕ) → tangent ≤ k → k < length vertices → IsVertexOf q (vertex_at vertices k)
-  pub upper_hull : IsUpperHull q (λ k. (vertex_at vertices k).place) tangent (length vertices - 1) hulled
+  pub upper_hull : IsUpperHull q eps s (λ k. (vertex_at vertices k).place) tangent (length vertices - 1) hulled
   pub pair : IsPairOf q eps s paired (vertex_at vertices tangent).place upper slope
 
 -- the place at which the pair's line begins
@@ -77,3 +81,7 @@ pub record IsNextVertex (q : Points) (e : ℕ) (vertex : Vertex) : Type 0 where
   pub place : vertex.place ≡ e
   pub point : IsVertexOf q vertex
   pub low : vertex.height < 2 ^ 32
+
+-- the place e lies under no pair of the run s..e
+pub record IsFittable (q : Points) (eps s e : ℕ) : Type 0 where
+  pub not_under : (c d : ℕ) → IsPair s e c d → IsAtMost (flat_slope q eps c d) (steep_slope q eps d e)

@@ -35,6 +35,7 @@ pub record StandsFor (hulls : Hulls) (p : Points) (eps s e : ℕ) : Type 0 where
   pub ascends : IsAscending p
   pub inside : e ≤ p.count
   pub low : (j : ℕ) → s ≤ j → j < e → p.y j < 2 ^ 32
+  pub last : hulls.last + 1 ≡ e
   pub bound : hulls.eps ≡ eps
   pub bounded : eps ≤ MAX_EPSILON
   pub fits : SomeLineFits p eps s e

@@ -34,6 +34,8 @@ pub struct Hulls {
     flat: Hull,
     /// The error bound.
     eps: u32,
+    /// The last place of the run.
+    last: u32,
 }
 
 impl Hulls {
@@ -53,7 +55,12 @@ impl Hulls {
     {
         let steep = Hull::new(alloc, room)?;
         let flat = Hull::new(alloc, room)?;
-        Ok(Hulls { steep, flat, eps })
+        Ok(Hulls {
+            steep,
+            flat,
+            eps,
+            last: 0,
+        })
     }
 
     /// Forgets all, and begins a run with the point `(x, y)` at `place`. Takes no step.
@@ -76,6 +83,7 @@ impl Hulls {
             height: u32::MAX - y,
             place,
         });
+        self.last = place;
     }
 
     /// Whether some line fits the run with its next point `(x, y)`, exactly, and if so takes the
@@ -109,7 +117,7 @@ impl Hulls {
         ensures room { room_of self.old ≤ room_of self.new }
         ensures bound { bound_of self.new ≡ bound_of self.old }
     {
-        let place = self.steep.next_place();
+        let place = self.last + 1;
         let point = Vertex {
             x,
             height: y,
@@ -127,8 +135,13 @@ impl Hulls {
             return Offer::Cut(self.flat.cut_before(place, Side::Under));
         }
         let lift = 2 * self.eps;
-        self.steep.extend(point, lift, steps);
-        self.flat.extend(mirrored, lift, steps);
+        let falls = self.steep.turn_to(point, lift, steps);
+        let rises = self.flat.turn_to(mirrored, lift, steps);
+        // A point that leaves the flat line as it is can be no lower place of a later steep pair,
+        // and the other way round.
+        self.steep.take_in(point, rises, steps);
+        self.flat.take_in(mirrored, falls, steps);
+        self.last = place;
         Offer::Extended
     }
 

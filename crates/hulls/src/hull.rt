@@ -2,10 +2,10 @@
 ghost use Rattle.std.specs.Prelude.{◌≡◌, ℕ, ◌+◌, ◌*◌, ◌-◌, ◌^◌, ◌<◌, ◌≤◌, IfOk, length, [], vec_len, vec_capacity};
 ghost use Rattle.std.specs.Bool.{OnTrue, OnFalse};
 ghost use Rattle.exact_cross.specs.Points.{Points};
-ghost use Rattle.exact_cross.specs.Slopes.{IsAtMost};
+ghost use Rattle.exact_cross.specs.Slopes.{IsAtMost, steep_slope};
 ghost use Rattle.hulls.specs.Slopes.{steepest};
 ghost use Rattle.hulls.specs.Vertices.{vertex_at, lifted_slope, AreLeftOf};
-ghost use Rattle.hulls.specs.Hull.{IsHullOf, IsHullUpTo, IsUnderLine, IsNextVertex, IsVertexOf, lower_of, spare_of};
+ghost use Rattle.hulls.specs.Hull.{IsHullOf, IsHullUpTo, IsFittable, IsShadowed, IsUnderLine, IsNextVertex, IsVertexOf, lower_of, spare_of};
 
 use crate::search::{kept_before, tangent_to};
 use crate::slope::CountedSlope;
@@ -62,15 +62,6 @@ impl Hull {
         self.slope = CountedSlope::steepest();
     }
 
-    /// The place after the last point's.
-    pub fn next_place(&self) -> u32
-        requires { (q : Points) × (eps : ℕ) × (s : ℕ) × (e : ℕ) × IsHullOf q eps s e self.now ×
-            (e < 2 ^ 32) }
-        ensures { (q : Points) (eps s e : ℕ) → IsHullOf q eps s e self.now → result ≡ e }
-    {
-        self.vertices[self.vertices.len() - 1].place + 1
-    }
-
     /// The point at the pair's lower place.
     pub fn lower(&self) -> Vertex
         requires { self.now.tangent < length self.now.vertices.items }
@@ -125,45 +116,48 @@ impl Hull {
             .is_below(&CountedSlope::between(low, next, 0), steps)
     }
 
-    /// Takes in the next point, which isn't over the pair's line.
+    /// Finds the pair of the run with the next point, which no pair of the run lies above or below
+    /// of, and says whether it is another one.
     ///
     /// `lift` is twice the error bound.
-    pub fn extend<L: Ledger>(&mut self, next: Vertex, lift: u32, steps: &mut Steps<L>)
-        requires next { (q : Points) × (eps : ℕ) × (s : ℕ) × (e : ℕ) × IsHullOf q eps s e self.old
-            × IsNextVertex q e next
-            × (lift ≡ 2 * eps) × (eps ≤ MAX_EPSILON) × IsUnderLine q
-            (lower_of self.old) self.old.slope.slope e }
-        requires room { length self.old.vertices.items < vec_capacity self.old.vertices }
-        ensures hull { (q : Points) (eps s e : ℕ) → IsHullOf q eps s e self.old →
-            IsNextVertex q e next → lift ≡ 2 * eps → eps ≤ MAX_EPSILON
-            → IsUnderLine q (lower_of self.old) self.old.slope.slope e → IsHullOf q eps s
-            (e + 1) self.new }
-        ensures cost { steps.new + spare_of self.new ≤ steps.old + spare_of self.old + 4 }
-        ensures capacity { vec_capacity self.old.vertices ≤ vec_capacity self.new.vertices }
-    {
-        self.turn_to(next, lift, steps);
-        self.cover(next, steps);
-    }
-
-    /// Finds the pair of the run with the next point.
-    fn turn_to<L: Ledger>(&mut self, next: Vertex, lift: u32, steps: &mut Steps<L>)
+    pub fn turn_to<L: Ledger>(&mut self, next: Vertex, lift: u32, steps: &mut Steps<L>) -> bool
         requires { (q : Points) × (eps : ℕ) × (s : ℕ) × (e : ℕ) × IsHullOf q eps s e self.old ×
             IsNextVertex q e next × (lift ≡ 2 * eps) × (eps ≤ MAX_EPSILON) }
         ensures pair { (q : Points) (eps s e : ℕ) → IsHullOf q eps s e self.old →
             IsNextVertex q e next → lift ≡ 2 * eps → eps ≤ MAX_EPSILON
-            → IsUnderLine q (lower_of self.old) self.old.slope.slope e → IsHullUpTo q eps s e
-            (e + 1) self.new }
+            → IsFittable q eps s e → IsUnderLine q (lower_of self.old) self.old.slope.slope e →
+            IsHullUpTo q eps s e (e + 1) self.new }
+        ensures stays { OnFalse result
+            ((q : Points) (eps s e : ℕ) → IsHullOf q eps s e self.old → IsNextVertex q e next →
+            lift ≡ 2 * eps
+            → IsAtMost self.old.slope.slope (steep_slope q eps (lower_of self.old) e)) }
+        ensures cost { steps.new + spare_of self.new ≤ steps.old + spare_of self.old + 2 }
         ensures vertices { self.new.vertices ≡ self.old.vertices }
-        ensures onward { self.old.tangent ≤ self.new.tangent }
-        ensures inside { self.new.tangent < length self.new.vertices.items }
-        ensures cost { steps.new + self.old.tangent ≤ steps.old + self.new.tangent + 2 }
     {
         let low = self.vertices[self.tangent];
-        if CountedSlope::between(low, next, lift).is_below(&self.slope, steps) {
-            let found = tangent_to(&self.vertices, self.tangent, next, lift, steps);
-            self.tangent = found.vertex;
-            self.slope = found.slope;
-            self.upper = next.place;
+        if !CountedSlope::between(low, next, lift).is_below(&self.slope, steps) {
+            return false;
+        }
+        let found = tangent_to(&self.vertices, self.tangent, next, lift, steps);
+        self.tangent = found.vertex;
+        self.slope = found.slope;
+        self.upper = next.place;
+        true
+    }
+
+    /// Puts the next point on the hull, if it can be the lower place of a later pair.
+    pub fn take_in<L: Ledger>(&mut self, next: Vertex, stands_out: bool, steps: &mut Steps<L>)
+        requires next { (q : Points) × (eps : ℕ) × (s : ℕ) × (e : ℕ) × IsHullUpTo q eps s e
+            (e + 1) self.old × IsNextVertex q e next }
+        requires room { length self.old.vertices.items < vec_capacity self.old.vertices }
+        ensures hull { (q : Points) (eps s e : ℕ) → IsHullUpTo q eps s e (e + 1) self.old →
+            IsNextVertex q e next
+            → OnFalse stands_out (IsShadowed q eps s e) → IsHullOf q eps s (e + 1) self.new }
+        ensures cost { steps.new + spare_of self.new ≤ steps.old + spare_of self.old + 2 }
+        ensures capacity { vec_capacity self.old.vertices ≤ vec_capacity self.new.vertices }
+    {
+        if stands_out {
+            self.cover(next, steps);
         }
     }
 

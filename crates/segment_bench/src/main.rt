@@ -11,6 +11,7 @@ ghost use Rattle.std.specs.List.Sorted.{IsStrictlyIncreasing, IsNonDecreasing};
 
 use anyhow::{Context, Result, ensure};
 use edge::{FileShelf, Shelf};
+use exact_cross::MAX_EPSILON;
 use segmenter::segment;
 use sosd_reader::read_keys;
 use std::alloc::{AllocError, Global};
@@ -26,7 +27,10 @@ fn run<R: AllocGlobal + Env + Files + Print + Clock>(rt: &R) -> Result<()> {
     let words: Vec<String> = env::args(rt)?.collect(rt.alloc())?;
     ensure!(words.len() == 3, "segment_bench KEYS EPS");
     let eps = words[2].parse::<u32>().context("the error bound")?;
-    ensure!(eps <= 1_048_576, "the error bound is at most 1048576");
+    ensure!(
+        eps <= MAX_EPSILON,
+        "the error bound is at most {MAX_EPSILON}"
+    );
     let mut files = FileShelf::new(rt);
     ensure!(
         files.take_file(words[1].as_str()).is_ok(),
@@ -54,7 +58,7 @@ fn time_rounds<R: AllocGlobal + Print + Clock>(
     requires rising { IsStrictlyIncreasing xs.now }
     requires never_falls { IsNonDecreasing ys.now }
     requires few { length xs.now < 2 ^ 32 }
-    requires bounded { eps ≤ 1048576 }
+    requires bounded { eps ≤ MAX_EPSILON }
 {
     let n = xs.len() as u32;
     let mut least = Duration::MAX;

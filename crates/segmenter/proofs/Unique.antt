@@ -1,12 +1,12 @@
 -- Two segmentations of the same points are equal: their starts are, since the greedy ones are one list, and so are the pairs, the lines and the cuts of each run.
-use Rattle.std.proofs.Common.{◌≡◌, ℕ, ◌+◌, ◌<◌, ◌≤◌, ◌∙◌, List, [], ◌∷◌, Option, None, Some, inl, inr, refl, ap, subst, sym, arith}
+use Rattle.std.proofs.Common.{◌≡◌, ℕ, ◌+◌, ◌<◌, ◌≤◌, ◌∙◌, List, [], ◌∷◌, Option, Some, inl, inr, refl, ap, subst, sym, arith}
 use Rattle.std.proofs.lemmas.Bool.{cases_lt}
 use Rattle.exact_cross.specs.declared.line.Line.{Line}
 use Rattle.exact_cross.specs.declared.segment.Side.{Side}
 use Rattle.exact_cross.specs.declared.segment.Side.TheVariants.{Over, Under}
 use Rattle.exact_cross.specs.declared.segment.Witness.{Witness}
 use Rattle.exact_cross.specs.declared.segment.Segment.{Segment}
-use Rattle.exact_cross.specs.Points.{Points, IsAscending}
+use Rattle.exact_cross.specs.Points.{Points}
 use Rattle.exact_cross.specs.Covers.{run_end, IsGreedy, IsLongest}
 use Rattle.exact_cross.specs.Steep.{IsSteepOf, line_of_pair}
 use Rattle.exact_cross.specs.Segments.{starts_of, EachRun, IsSteepSegment}

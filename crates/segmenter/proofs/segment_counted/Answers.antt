@@ -1,5 +1,5 @@
 -- The longest run from `start` is one more run.
-use Rattle.std.proofs.Common.{arith, ◌≡◌, ℕ, ◌∙◌, sym, subst}
+use Rattle.std.proofs.Common.{arith, ◌≡◌, ℕ, sym, subst}
 use Rattle.exact_cross.specs.Points.{points_of}
 use Rattle.exact_cross.specs.Lines.{SomeLineFits}
 use Rattle.exact_cross.specs.Covers.{IsLongest}

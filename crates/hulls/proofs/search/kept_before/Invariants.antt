@@ -1,5 +1,5 @@
 -- So far each vertex from `kept` on is straight on or up to the next point, and took a step.
-use Rattle.std.proofs.Common.{length, ◌-◌, ◌≡◌, ℕ, ◌+◌, ◌<◌, ◌≤◌}
+use Rattle.std.proofs.Common.{length, ◌-◌, ℕ, ◌+◌, ◌<◌, ◌≤◌}
 use Rattle.hulls.specs.Vertices.{vertex_at, IsNoTurn}
 use Rattle.hulls.proofs.search.kept_before.Given as goal
 

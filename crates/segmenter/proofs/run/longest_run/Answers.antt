@@ -1,8 +1,8 @@
 -- The hulls stand for the run, place by place, until a place is refused.
-use Rattle.std.proofs.Common.{◌≡◌, ◌+◌, ◌∙◌, refl, sym, arith}
+use Rattle.std.proofs.Common.{◌≡◌, ◌∙◌, refl, arith}
 use Rattle.exact_cross.specs.Points.{points_of}
 use Rattle.exact_cross.proofs.CallerLemmas.{IsAscending-points_of}
-use Rattle.hulls.specs.Hulls.{bound_of, StandsFor}
+use Rattle.hulls.specs.Hulls.{bound_of}
 use Rattle.segmenter.proofs.Runs.{IsNext-place, IsLongest-whole, IsLongest-cut, HasItsCut-cut}
 use Rattle.segmenter.proofs.run.longest_run.Goals as goal
 

@@ -1,5 +1,4 @@
 -- The hulls' pair and line are the segment's.
-use Rattle.std.proofs.Common.{arith}
 use Rattle.segmenter.proofs.run.segment_of.Goals as goal
 
 pub returns-clause-steep : goal.returns-clause-steep

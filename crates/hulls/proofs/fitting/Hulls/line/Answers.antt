@@ -4,10 +4,8 @@ use Rattle.std.specs.Int.RustNames.{unsigned_abs}
 use Rattle.std.proofs.lemmas.Int.{ints}
 use lib.Dec.{T}
 use lib.Signed.{non_neg}
-use Rattle.exact_cross.specs.Points.{Points}
 use Rattle.hulls.specs.declared.vertex.Vertex.{Vertex}
 use Rattle.hulls.specs.Hull.{IsVertexOf, lower_of}
-use Rattle.hulls.specs.Hulls.{StandsFor}
 use Rattle.hulls.proofs.PairLine.{Rises, Rises-from_stands, line_of_pair-from_slope}
 use Rattle.hulls.proofs.fitting.Hulls.line.Goals as goal
 
