@@ -7,7 +7,7 @@ use Rattle.std.proofs.lemmas.Bool.Decides.{nat_tests}
 use Rattle.std.proofs.lemmas.List.{append-nil}
 use Rattle.std.proofs.lemmas.List.Elements.{All-cons}
 use Rattle.pgm_script.specs.declared.fault.Why.{Why}
-use Rattle.pgm_script.specs.declared.fault.Why.TheVariants.{Number, Missing, Extra}
+use Rattle.pgm_script.specs.declared.fault.Why.TheVariants.{Extra}
 use Rattle.pgm_script.specs.Words.{number_of}
 use Rattle.pgm_script.specs.Scripts.{numbers_of, and_then}
 
@@ -16,27 +16,12 @@ abbrev pub behind : List ℕ → Result (List ℕ) Why → Result (List ℕ) Why
 behind front (Ok numbers) = Ok (front ++ numbers)
 behind front (Err why) = Err why
 
-pub behind-nothing : (r : Result (List ℕ) Why) → r ≡ behind [] r
-behind-nothing (Ok numbers) = refl
-behind-nothing (Err why) = refl
-
 behind-more : (front : List ℕ) (x : ℕ) (r : Result (List ℕ) Why) → behind front (and_then (Some x) r) ≡ behind (front ++ x ∷ []) r
 behind-more front x (Ok numbers) = ap Ok (sym (append_assoc front (x ∷ []) numbers))
 behind-more front x (Err why) = refl
 
 one-less : (count i : ℕ) → i < count → count - i ≡ suc (count - (i + 1))
 one-less count i below = omega arith
-
-pub read-missing : (most count : ℕ) (words : List (List ℕ)) (i : ℕ) (front : List ℕ) (left : List (List ℕ)) → numbers_of most count words ≡ behind front (numbers_of most (count - i) left) →
-    i < count → left ≡ [] → numbers_of most count words ≡ Err Missing
-read-missing most count words i front left so_far below none =
-    so_far ∙ ap (λ (n : ℕ). behind front (numbers_of most n left)) (one-less count i below) ∙ ap (λ (w : List (List ℕ)). behind front (numbers_of most (suc (count - (i + 1))) w)) none
-
-pub read-number : (most count : ℕ) (words : List (List ℕ)) (i : ℕ) (front : List ℕ) (left : List (List ℕ)) (word : List ℕ) (others : List (List ℕ)) → numbers_of most count words ≡ behind front (numbers_of most (count - i) left) →
-    i < count → left ≡ word ∷ others → number_of most word ≡ None → numbers_of most count words ≡ Err Number
-read-number most count words i front left word others so_far below here none =
-    so_far ∙ ap (λ (n : ℕ). behind front (numbers_of most n left)) (one-less count i below) ∙ ap (λ (w : List (List ℕ)). behind front (numbers_of most (suc (count - (i + 1))) w)) here
-    ∙ ap (λ (o : Option ℕ). behind front (and_then o (numbers_of most (count - (i + 1)) others))) none
 
 pub read-more : (most count : ℕ) (words : List (List ℕ)) (i : ℕ) (front : List ℕ) (left : List (List ℕ)) (word : List ℕ) (others : List (List ℕ)) (x : ℕ) → numbers_of most count words ≡ behind front (numbers_of most (count - i) left) →
     i < count → left ≡ word ∷ others → number_of most word ≡ Some x → numbers_of most count words ≡ behind (front ++ x ∷ []) (numbers_of most (count - (i + 1)) others)

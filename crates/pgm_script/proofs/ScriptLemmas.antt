@@ -1,5 +1,5 @@
 -- A text is read line by line: what is said of the lines so far, and what the lines so far and the rest are.
-use Rattle.std.proofs.Common.{◌≡◌, ◌⊎◌, ℕ, zero, suc, ◌+◌, ◌<◌, List, [], ◌∷◌, ◌++◌, length, get_or, refl, sym, ap, ◌∙◌, subst, append_assoc, length-append, arith, Option, Some, None, Result, Ok, Err, IfOk, IfErr, MatchResult, IsOk, Vec, Global, inl, inr, ⊎_elim}
+use Rattle.std.proofs.Common.{◌≡◌, ◌⊎◌, ℕ, zero, suc, ◌+◌, ◌<◌, List, [], ◌∷◌, ◌++◌, length, get_or, refl, sym, ap, ◌∙◌, subst, append_assoc, length-append, arith, Option, Some, None, Result, Ok, Err, IsOk, inl, inr, ⊎_elim}
 use Rattle.std.specs.List.{cons_option}
 use Rattle.std.proofs.lemmas.Bool.{cases_lt, false≢true}
 use Rattle.std.proofs.lemmas.List.{append-nil, get_or_append_left, get_or-append-add, nil_from_length}
@@ -23,9 +23,6 @@ pub record IsUnderWay (kind : ScriptKind) (text rest : List ℕ) (lines : List S
   pub good : AreGood kind before
   pub made : lines ≡ script_of kind before
   pub place : number ≡ length before
-
-pub under-way-none : (kind : ScriptKind) (text : List ℕ) → IsUnderWay kind text text [] 0
-under-way-none kind text = record { before = []; parts = refl; good = λ k d below. absurd (omega arith); made = refl; place = refl }
 
 ok-is : (r : Result (Option ScriptLine) Why) (line : Option ScriptLine) → r ≡ Ok line → IsOk r
 ok-is r line is = let P : Result (Option ScriptLine) Why → Type 0 = λ r. IsOk r in subst P (sym is) refl
@@ -167,12 +164,3 @@ pub has-one-reading : (kind : ScriptKind) (text : List ℕ) → HasOneReading ki
 has-one-reading kind text =
     let some = some-reading kind text in
     record { reading = some.0; is_one = some.1; only = λ other reads. one-reading kind text other some.0 reads some.1 }
-
--- the text has one reading, so it is the answer
-pub script-wherever : (kind : ScriptKind) (text : List ℕ) (result : Result (Vec ScriptLine Global) ScriptFault) →
-    IfOk result (λ lines. ReadsAs kind text (Ok lines.items)) → IfErr result (λ fault. (fault ≡ NoMemory) ⊎ ReadsAs kind text (Err fault)) →
-    (reading : Result (List ScriptLine) ScriptFault) → ReadsAs kind text reading →
-    MatchResult result (λ lines. reading ≡ Ok lines.items) (λ fault. (fault ≡ NoMemory) ⊎ (reading ≡ Err fault))
-script-wherever kind text (Ok lines) ok err reading reads = one-reading kind text reading (Ok lines.items) reads ok
-script-wherever kind text (Err fault) ok err reading reads =
-    ⊎_elim (λ full. inl full) (λ told. inr (one-reading kind text reading (Err fault) reads told)) err

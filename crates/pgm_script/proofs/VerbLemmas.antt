@@ -1,24 +1,9 @@
 -- The numbers of a region as its corners.
-use Rattle.std.proofs.Common.{◌≡◌, ℕ, zero, suc, ◌+◌, ◌-◌, ◌^◌, ◌<◌, ◌≤◌, List, [], ◌∷◌, ◌++◌, length, take, drop, set, get_or, replicate, refl, sym, ap, ◌∙◌, arith, All, lit≤}
-use Rattle.std.proofs.lemmas.List.{take-take, drop-take, length-take-le, length-take, get_or-take, take_more}
+use Rattle.std.proofs.Common.{◌≡◌, ℕ, zero, suc, ◌+◌, ◌-◌, ◌^◌, ◌<◌, ◌≤◌, List, ◌++◌, length, take, drop, get_or, replicate, sym, ap, ◌∙◌, arith, All, lit≤}
+use Rattle.std.proofs.lemmas.List.{take-take, drop-take, length-take, get_or-take}
 use Rattle.zorder.specs.Codes.{IsDimension, coordinate_bits}
 use Rattle.zorder.specs.declared.regions.Region.{Region}
 use Rattle.pgm_script.specs.Commands.{corner, region_of}
-
--- a place behind a list takes the first of what follows
-set-behind : (xs : List ℕ) (n k v : ℕ) → k ≡ length xs → set (xs ++ replicate (suc n) 0) k v ≡ (xs ++ v ∷ []) ++ replicate n 0
-set-behind [] n zero v same = refl
-set-behind [] n (suc k) v same = absurd (omega arith)
-set-behind (x ∷ xs) n zero v same = absurd (omega arith)
-set-behind (x ∷ xs) n (suc k) v same = ap (λ (w : List ℕ). x ∷ w) (set-behind xs n k v (omega arith))
-
-pub corner-more : (numbers coords : List ℕ) (c v : ℕ) → coords ≡ take c numbers ++ replicate (4 - c) 0 → c < 4 → c < length numbers → v ≡ get_or numbers c 0 →
-    set coords c v ≡ take (c + 1) numbers ++ replicate (4 - (c + 1)) 0
-corner-more numbers coords c v so_far small within is =
-    let step : 4 - c ≡ suc (4 - (c + 1)) = omega arith in
-    ap (λ (w : List ℕ). set w c v) (so_far ∙ ap (λ (n : ℕ). take c numbers ++ replicate n 0) step)
-    ∙ set-behind (take c numbers) (4 - (c + 1)) c v (sym (length-take-le c numbers (omega arith)))
-    ∙ ap (λ (w : List ℕ). w ++ replicate (4 - (c + 1)) 0) (ap (λ (n : ℕ). take c numbers ++ n ∷ []) is ∙ sym (take_more numbers c 0 within))
 
 -- a corner is that of the numbers up to its end
 low-corner : (d : ℕ) (numbers : List ℕ) → corner d numbers ≡ corner d (take (d + d) numbers)

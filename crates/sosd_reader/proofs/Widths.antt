@@ -9,17 +9,6 @@ use Rattle.sosd_reader.proofs.Numbers.{little_bytes-little_number}
 pub width-some : (width : ℕ) → IsWidth width → 0 < width
 width-some width is = ⊎_elim (λ four. omega (arith, four)) (λ eight. omega (arith, eight)) is
 
--- a key has at most eight bytes
-pub width-most : (width n m : ℕ) → IsWidth width → n ≤ m → width * n ≤ 8 * m
-width-most width n m is few =
-    let P : ℕ → Type 0 = λ w. w * n ≤ 8 * m in
-    ⊎_elim (λ four. subst P (sym four) (omega arith)) (λ eight. subst P (sym eight) (omega arith)) is
-
--- a number that is whole lies within
-pub place-in : (width n i : ℕ) → 0 < width → i < n / width → width * i + width ≤ n
-place-in width n i some below =
-    let up = mul-le-mul_left width below in let split = mul-add width i 1 in let one = mul-one width in omega arith
-
 -- what is over of whole numbers is less than one
 pub over-last : (width n : ℕ) → 0 < width → n < width * (n / width) + width
 over-last width n some = omega arith
@@ -34,14 +23,6 @@ numbers-fit width n room some fit =
     (λ more. let up = mul-le-mul_left width more in let split = mul-add width room 1 in let one = mul-one width in absurd (omega arith))
     (λ few. few)
     (cases_lt room (n / width))
-
-pub numbers-all : (width room : ℕ) → 0 < width → (width * room) / width ≡ room
-numbers-all width room some =
-    let low = numbers-fit width (width * room) room some (omega arith) in
-    ⊎_elim
-    (λ less. let up = mul-le-mul_left width less in let split = mul-add width (width * room / width) 1 in let one = mul-one width in absurd (omega (arith, over-last width (width * room) some)))
-    (λ more. omega (arith, low, more))
-    (cases_lt (width * room / width) room)
 
 -- the number that so many bytes spell
 pub record Spells (width x : ℕ) (bytes : List ℕ) : Type 0 where
