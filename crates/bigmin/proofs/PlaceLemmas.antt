@@ -1,5 +1,5 @@
 -- The places of an opening, as the bits of the numbers that are computed.
-use Rattle.std.proofs.Common.{◌≡◌, ◌⊎◌, ◌↔◌, ℕ, ◌+◌, ◌-◌, ◌*◌, ◌/◌, ◌%◌, ◌^◌, ◌<◌, ◌≤◌, max, w64, sym, ap, ◌∙◌, subst, inl, inr, refl, arith}
+use Rattle.std.proofs.Common.{◌≡◌, ◌↔◌, ℕ, ◌+◌, ◌-◌, ◌*◌, ◌/◌, ◌%◌, ◌^◌, ◌<◌, ◌≤◌, max, w64, sym, ap, ◌∙◌, subst, inl, inr, refl, arith}
 use Rattle.std.specs.Prelude.{bit_and, bit_or}
 use Rattle.std.specs.Int.{bit_at, bit_not, trailing_zeros}
 use Rattle.std.proofs.lemmas.Bool.{cases_lt, cases_eq}
@@ -35,40 +35,6 @@ raised_same place lesser greater rest = record {
   covers = λ t found. absurd (omega (arith, less_by_bit t lesser greater found));
   attained = inl refl;
 }
-
-pub decision_none : (d z low high : ℕ) → IsHighestDecision d z low high 0 0
-decision_none d z low high = record { highest = λ c t none. absurd (omega arith); attained = inl refl }
-
-pub decision_more : (d z low high c place p q : ℕ) → IsHighestDecision d z low high c place → IsRaised place (dilated d c z) (dilated d c low) p →
-    IsRaised p (dilated d c high) (dilated d c z) q → IsHighestDecision d z low high (c + 1) q
-decision_more d z low high c place p q so_far below above = record { highest = highest; attained = attained }
-  where
-    here : (t : ℕ) → IsDecidedAt d z low high c t → t ≤ q
-    here t (inl falls) = omega (arith, below.covers t falls, above.not_below)
-    here t (inr rises) = above.covers t rises
-
-    highest : (k t : ℕ) → k < c + 1 → IsDecidedAt d z low high k t → t ≤ q
-    highest k t within decided = elim (cases_eq k c) [
-      | inl last ↦ here t (subst (λ n. IsDecidedAt d z low high n t) last decided)
-      | inr apart ↦ omega (arith, so_far.highest k t (omega arith) decided, below.not_below, above.not_below)
-    ]
-
-    earlier : p ≡ place → q ≡ p → (q ≡ 0) ⊎ ((k : ℕ) × (k < c + 1) × IsDecidedAt d z low high k q)
-    earlier first second = elim so_far.attained [
-      | inl none ↦ inl (second ∙ first ∙ none)
-      | inr found ↦
-          let same : place ≡ q = sym (second ∙ first) in
-          inr (found.0, omega (arith, found.1), subst (IsDecidedAt d z low high found.0) same found.2)
-    ]
-
-    attained : (q ≡ 0) ⊎ ((k : ℕ) × (k < c + 1) × IsDecidedAt d z low high k q)
-    attained = elim above.attained [
-      | inr rises ↦ inr (c, omega arith, inr rises)
-      | inl second ↦ elim below.attained [
-        | inr falls ↦ inr (c, omega arith, inl (subst (λ n. DiffersAt n (dilated d c z) (dilated d c low)) (sym second) falls))
-        | inl first ↦ earlier first second
-      ]
-    ]
 
 pub decision_below : (d z low high place : ℕ) → IsHighestDecision d z low high d place → place < 64
 decision_below d z low high place highest = elim highest.attained [

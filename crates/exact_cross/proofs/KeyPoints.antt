@@ -1,10 +1,10 @@
 -- The points of two lists ascend where the x rise and the y never fall, and those of a key list are its keys with their places.
-use Rattle.std.proofs.Common.{◌≡◌, ℕ, zero, suc, ◌+◌, ◌-◌, ◌<◌, ◌≤◌, List, length, slice_index, refl, ap, sym, ◌∙◌, arith, ◌++◌, [], ◌∷◌, add-one}
-use Rattle.std.proofs.lemmas.List.{ext_get_or, get_or_default}
+use Rattle.std.proofs.Common.{◌≡◌, ℕ, zero, suc, ◌+◌, ◌-◌, ◌<◌, ◌≤◌, List, length, slice_index, refl, ap, ◌∙◌, arith, ◌++◌, [], ◌∷◌, add-one}
+use Rattle.std.proofs.lemmas.List.{get_or_default}
 use Rattle.std.specs.List.Sorted.{IsStrictlyIncreasing, IsNonDecreasing}
 use Rattle.std.proofs.lemmas.List.FromFn.{get_or-range_with_len, length-range_with_len}
 use Rattle.std.specs.List.{range_with_len}
-use Rattle.exact_cross.specs.Points.{IsAscending, points_of, points_of_keys, places}
+use Rattle.exact_cross.specs.Points.{IsAscending, points_of, places}
 
 -- of two places the lower has the lesser x; up from `i`, a place at a time
 rises_along : (xs : List ℕ) (i gap j : ℕ) → IsStrictlyIncreasing xs → j ≡ i + suc gap → j < length xs → slice_index xs i < slice_index xs j
@@ -49,16 +49,6 @@ length-places n = length-range_with_len 0 n
 pub IsNonDecreasing-places : (n : ℕ) → IsNonDecreasing (places n)
 IsNonDecreasing-places n = IsNonDecreasing-from_neighbours (places n) (λ k inside.
     omega (arith, length-places n, inside, get_or-range_with_len 0 n k 0 (omega (arith, length-places n, inside)), get_or-range_with_len 0 n (k + 1) 0 (omega (arith, length-places n, inside))))
-
-pub IsAscending-points_of_keys : (keys : List ℕ) → IsStrictlyIncreasing keys → IsAscending (points_of_keys keys)
-IsAscending-points_of_keys keys rises =
-    IsAscending-points_of keys (places (length keys)) (length-places (length keys)) rises (IsNonDecreasing-places (length keys))
-
--- a list that counts from 0 is that of the places
-pub places-from_counting : (ys : List ℕ) (n : ℕ) → length ys ≡ n → ((j : ℕ) → j < n → slice_index ys j ≡ j) → ys ≡ places n
-places-from_counting ys n same counts =
-    ext_get_or 0 ys (places n) (same ∙ sym (length-places n)) (λ j inside.
-    counts j (omega (arith, same)) ∙ sym (slice_index-places n j (omega (arith, same))))
 
 range-more : (a n : ℕ) → range_with_len a (suc n) ≡ range_with_len a n ++ (a + n) ∷ []
 range-more a zero = ap (λ (k : ℕ). k ∷ []) (omega arith)

@@ -1,8 +1,8 @@
 -- On which side of a run's lines the next place lies.
 --
 -- Main results: a place over the steep pair or under the flat one ends the run (`IsOver-no_line`, `IsUnder-no_line`), a place
--- that is neither goes on with it (`some_line-longer`), a place that no line goes on to is one of the two (`side-of_refused`),
--- and none is both (`sides_exclude`).
+-- that is neither goes on with it (`some_line-longer`), and no place is
+-- both (`sides_exclude`).
 --
 --                                   r  over: even from eps below r
 --              steep line     .  '     the chord passes b too high
@@ -16,7 +16,7 @@
 -- same upside down for the flat pair (`steep_up_to`). Pairs that both end at r are led over the place between them
 -- (`flat_through`, `steep_through`). Then no flat slope is above a steep one, and the steep pair's line fits. All is cleared
 -- of denominators: a slope is compared by cross products, and sums of naturals are left to linear arithmetic.
-use Rattle.std.proofs.Common.{◌≡◌, ◌⊎◌, ℕ, ◌+◌, ◌*◌, ◌-◌, ◌<◌, ◌≤◌, ◌+ℤ◌, ◌≤ℤ◌, inl, inr, ap, arith}
+use Rattle.std.proofs.Common.{◌≡◌, ℕ, ◌+◌, ◌*◌, ◌-◌, ◌<◌, ◌≤◌, ◌+ℤ◌, ◌≤ℤ◌, inl, inr, ap, arith}
 use Rattle.std.proofs.lemmas.Int.{ints}
 use Rattle.std.proofs.lemmas.Bool.{cases_lt, cases_order, cases_eq}
 use Rattle.exact_cross.specs.declared.slope.Slope.{Slope}
@@ -31,7 +31,7 @@ use Rattle.exact_cross.proofs.Cleared.{difference_times, products_le-out, produc
 use Rattle.exact_cross.proofs.SteepLine.{IsWide, IsWide-from_pair, rising_line, rising_line_fits}
 use Rattle.exact_cross.proofs.LineSlopes.{flat_at_most_steep}
 use Rattle.exact_cross.proofs.SlopeOrder.{IsAtMost-refl, IsAtMost-trans, IsAtMost-total}
-use Rattle.exact_cross.proofs.PairOrder.{one_pair_steep, flat_at_most_own_steep, IsAtMost-decided, IsSteepPair-longer}
+use Rattle.exact_cross.proofs.PairOrder.{one_pair_steep, flat_at_most_own_steep, IsSteepPair-longer}
 use Rattle.exact_cross.proofs.StoredLine.{some_line-from_pairs}
 
 -- the gaps of three places
@@ -316,19 +316,5 @@ sides_exclude p eps s e a b c d run over under =
               (flat_at_most_steep p eps s e c d d b ascends (omega (arith, run.inside)) run.fits flat (record { from_start = omega (arith, flat.from_start, flat.rises); rises = right; to_end = steep.to_end }))
               (IsAtMost-trans (flat_slope p eps c d) (steep_slope p eps a b) (flat_slope p eps b e) (IsWide-from_pair p eps a b ascends steep.rises (omega (arith, steep.to_end, run.inside))).positive order above))
         ]
-      ]
-    ]
-
--- a place that no line goes on to is over the steep pair or under the flat one
-pub side-of_refused : (p : Points) (eps s e a b c d : ℕ) → IsFollowed p eps s e a b c d → (SomeLineFits p eps s (e + 1) → ⊥) →
-    IsOver p eps a b e ⊎ IsUnder p eps c d e
-side-of_refused p eps s e a b c d run refused =
-    let steep = run.steep.pair in
-    let flat = run.flat.pair in
-    elim (IsAtMost-decided (flat_slope p eps b e) (steep_slope p eps a b)) [
-      | inr over ↦ inl (IsOver-in p eps a b e run.ascends steep.rises steep.to_end run.inside over)
-      | inl not_over ↦ elim (IsAtMost-decided (flat_slope p eps c d) (steep_slope p eps d e)) [
-        | inr under ↦ inr (IsUnder-in p eps c d e run.ascends flat.rises flat.to_end run.inside under)
-        | inl not_under ↦ absurd (refused (some_line-longer p eps s e a b c d run not_over not_under))
       ]
     ]

@@ -11,7 +11,7 @@ use Rattle.hulls.specs.declared.vertex.Vertex.{Vertex}
 use Rattle.hulls.specs.declared.hull.Hull.{Hull}
 use Rattle.hulls.specs.Vertices.{vertex_at, lifted_slope, AreLeftOf, IsNoTurn}
 use Rattle.hulls.specs.Hull.{IsUnderChord, IsUpperHull, IsUnderLine, IsVertexOf, IsPairOf, IsHullOn, IsHullUpTo, IsHullOf, IsFittable, IsShadowed, IsNextVertex, lower_of}
-use Rattle.hulls.proofs.Lines.{at_least-out, at_least-in, under-out, under-in}
+use Rattle.hulls.proofs.RaisedSlopes.{at_least-out, at_least-in, under-out, under-in}
 use Rattle.hulls.proofs.Tangents.{IsTangent, place_before, not_right, chord_gaps, chord_from_gaps}
 use Rattle.hulls.proofs.PairSteps.{slope_positive, IsPairOf-keeps, IsPairOf-takes}
 use Rattle.hulls.proofs.Growth.{IsKept, IsUpperHull-later, IsUpperHull-skips, IsUpperHull-grows}

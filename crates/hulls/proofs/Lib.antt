@@ -1,5 +1,5 @@
 pub mod Chords
-pub mod Lines
+pub mod RaisedSlopes
 pub mod Tangents
 pub mod PairSteps
 pub mod Growth

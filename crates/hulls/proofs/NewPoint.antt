@@ -18,7 +18,7 @@ use Rattle.hulls.specs.declared.fitting.Hulls.{Hulls}
 use Rattle.hulls.specs.Slopes.{steepest}
 use Rattle.hulls.specs.Hull.{IsUnderLine, IsHullOf, IsFittable, IsShadowed, IsNextVertex, RiseRight, lower_of}
 use Rattle.hulls.specs.Hulls.{StandsFor, IsNext, mirrored}
-use Rattle.hulls.proofs.Lines.{under-out, under-in, on_own_line}
+use Rattle.hulls.proofs.RaisedSlopes.{under-out, under-in, on_own_line}
 use Rattle.hulls.proofs.PairSteps.{lower_place, steepest_above}
 use Rattle.hulls.proofs.Mirrored.{RiseRight-ascending, RiseRight-mirrored, IsFlatPair-from_mirrored, flat-from_mirrored, mirrored_flat-from_steep, steep-from_mirrored, mirrored-from_steep}
 

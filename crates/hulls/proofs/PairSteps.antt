@@ -10,7 +10,7 @@ use Rattle.exact_cross.specs.Steep.{IsPair}
 use Rattle.exact_cross.proofs.CallerLemmas.{IsAtMost-trans, IsAtMost-total, IsAtMost-out}
 use Rattle.hulls.specs.Slopes.{steepest}
 use Rattle.hulls.specs.Hull.{IsUnderLine, IsUpperHull, IsPairOf, IsFittable, RiseRight}
-use Rattle.hulls.proofs.Lines.{at_most-from_line, under-from_at_most, under_own_line, steeper_left}
+use Rattle.hulls.proofs.RaisedSlopes.{at_most-from_line, under-from_at_most, under_own_line, steeper_left}
 use Rattle.hulls.proofs.Tangents.{IsTangent, place_rises, place_before, not_right, first_under, least_under_hull, less_under_hull, shadow-from}
 
 -- the lower place is one of the run

@@ -8,7 +8,7 @@ use Rattle.exact_cross.specs.Slopes.{IsAtMost, steep_slope}
 use Rattle.exact_cross.proofs.CallerLemmas.{IsAtMost-refl, IsAtMost-trans, IsAtMost-total, products_le-out, products_le-in}
 use Rattle.hulls.specs.Hull.{IsUnderChord, IsUnderHull, IsShadowed, IsUpperHull, IsFittable, RiseRight}
 use Rattle.hulls.proofs.Chords.{chord_under, chord_strictly_under, later_slope, slope_behind}
-use Rattle.hulls.proofs.Lines.{at_most-out, at_most-in, at_least-out, at_least-in}
+use Rattle.hulls.proofs.RaisedSlopes.{at_most-out, at_most-in, at_least-out, at_least-in}
 
 -- the places of a hull rise from each to each later one
 pub places_rise : (q : Points) (eps s : ℕ) (v : ℕ → ℕ) (t last e : ℕ) → IsUpperHull q eps s v t last e → (i gap j : ℕ) → t ≤ i → j ≡ i + gap → j ≤ last → v i ≤ v j

@@ -19,7 +19,7 @@ use Rattle.pgm_script.proofs.VerbLemmas.{of-dimension}
 
 -- whatever numbers a command reads make a line of the kind
 abbrev MakesLines : ScriptKind → Command → Type 0
-MakesLines kind command = (words : List (List ℕ)) (numbers : List ℕ) → numbers_of command.most command.count words ≡ Ok numbers → IsLineOf kind (command.line numbers)
+MakesLines asked command = (words : List (List ℕ)) (numbers : List ℕ) → numbers_of command.most command.count words ≡ Ok numbers → IsLineOf asked (command.line numbers)
 
 some-bits : (d : ℕ) → IsDimension d → 0 < 2 ^ coordinate_bits d
 some-bits = of-dimension (λ d. 0 < 2 ^ coordinate_bits d) (lit< tt) (lit< tt) (lit< tt)
@@ -41,15 +41,15 @@ box-makes d words numbers dimension is =
     }
 
 -- the first command of a list, or one of the others
-found : (kind : ScriptKind) (command : Command) (b : Bool) (other : Option Command) → MakesLines kind command → ((c : Command) → other ≡ Some c → MakesLines kind c) →
-    (c : Command) → cond b (Some command) other ≡ Some c → MakesLines kind c
-found kind command true other here rest c is = let same : command ≡ c = cc in subst (MakesLines kind) same here
-found kind command false other here rest c is = rest c is
+found : (asked : ScriptKind) (command : Command) (b : Bool) (other : Option Command) → MakesLines asked command → ((c : Command) → other ≡ Some c → MakesLines asked c) →
+    (c : Command) → cond b (Some command) other ≡ Some c → MakesLines asked c
+found asked command true other here rest c is = let same : command ≡ c = cc in subst (MakesLines asked) same here
+found asked command false other here rest c is = rest c is
 
-nothing-found : (kind : ScriptKind) (c : Command) → None ≡ Some c → MakesLines kind c
-nothing-found kind c is = cc
+nothing-found : (asked : ScriptKind) (c : Command) → None ≡ Some c → MakesLines asked c
+nothing-found asked c is = cc
 
-commands-make : (kind : ScriptKind) (word : List ℕ) → IsKind kind → (c : Command) → find (λ command. bytes_eq word command.word) (commands_of kind) ≡ Some c → MakesLines kind c
+commands-make : (asked : ScriptKind) (word : List ℕ) → IsKind asked → (c : Command) → find (λ command. bytes_eq word command.word) (commands_of asked) ≡ Some c → MakesLines asked c
 commands-make ScriptKind.Find word is =
     found ScriptKind.Find find_command (bytes_eq word (codes "find")) None (λ words numbers read. tt) (nothing-found ScriptKind.Find)
 commands-make (ScriptKind.Region d) word is =
@@ -62,15 +62,15 @@ commands-make ScriptKind.Replay word is =
     (found ScriptKind.Replay count_command (bytes_eq word (codes "count")) _ (λ words numbers read. tt)
     (found ScriptKind.Replay sweep_command (bytes_eq word (codes "sweep")) None (λ words numbers read. tt) (nothing-found ScriptKind.Replay))))))
 
-made-line : (kind : ScriptKind) (command : Command) (r : Result (List ℕ) Why) (line : ScriptLine) → ((numbers : List ℕ) → r ≡ Ok numbers → IsLineOf kind (command.line numbers)) →
-    made command r ≡ Ok (Some line) → IsLineOf kind line
-made-line kind command (Ok numbers) line makes is = let same : command.line numbers ≡ line = cc in subst (IsLineOf kind) same (makes numbers refl)
-made-line kind command (Err why) line makes is = cc
+made-line : (asked : ScriptKind) (command : Command) (r : Result (List ℕ) Why) (line : ScriptLine) → ((numbers : List ℕ) → r ≡ Ok numbers → IsLineOf asked (command.line numbers)) →
+    made command r ≡ Ok (Some line) → IsLineOf asked line
+made-line asked command (Ok numbers) line makes is = let same : command.line numbers ≡ line = cc in subst (IsLineOf asked) same (makes numbers refl)
+made-line asked command (Err why) line makes is = cc
 
-command-line : (kind : ScriptKind) (o : Option Command) (words : List (List ℕ)) (line : ScriptLine) → ((c : Command) → o ≡ Some c → MakesLines kind c) →
-    command_reading o words ≡ Ok (Some line) → IsLineOf kind line
-command-line kind None words line makes is = cc
-command-line kind (Some c) words line makes is = made-line kind c (numbers_of c.most c.count words) line (makes c refl words) is
+command-line : (asked : ScriptKind) (o : Option Command) (words : List (List ℕ)) (line : ScriptLine) → ((c : Command) → o ≡ Some c → MakesLines asked c) →
+    command_reading o words ≡ Ok (Some line) → IsLineOf asked line
+command-line asked None words line makes is = cc
+command-line asked (Some c) words line makes is = made-line asked c (numbers_of c.most c.count words) line (makes c refl words) is
 
 unless-comment : (b : Bool) (r : Result (Option ScriptLine) Why) (line : ScriptLine) → (if b then Ok None else r) ≡ Ok (Some line) → r ≡ Ok (Some line)
 unless-comment true r line is = cc
@@ -80,24 +80,24 @@ where-text : (b : Bool) (r : Result (Option ScriptLine) Why) (why : Why) (line :
 where-text true r why line is = is
 where-text false r why line is = cc
 
-words-line : (kind : ScriptKind) (words : List (List ℕ)) (line : ScriptLine) → IsKind kind → words_reading kind words ≡ Ok (Some line) → IsLineOf kind line
-words-line kind [] line good is = cc
-words-line kind (word ∷ words) line good is =
-    let command = find (λ command. bytes_eq word command.word) (commands_of kind) in
-    command-line kind command words line (commands-make kind word good) (unless-comment (eqb (get_or word 0 0) 35) (command_reading command words) line is)
+words-line : (asked : ScriptKind) (words : List (List ℕ)) (line : ScriptLine) → IsKind asked → words_reading asked words ≡ Ok (Some line) → IsLineOf asked line
+words-line asked [] line good is = cc
+words-line asked (word ∷ words) line good is =
+    let command = find (λ command. bytes_eq word command.word) (commands_of asked) in
+    command-line asked command words line (commands-make asked word good) (unless-comment (eqb (get_or word 0 0) 35) (command_reading command words) line is)
 
-line-of-kind : (kind : ScriptKind) (bytes : List ℕ) (line : ScriptLine) → IsKind kind → line_reading kind bytes ≡ Ok (Some line) → IsLineOf kind line
-line-of-kind kind bytes line good is =
+line-of-kind : (asked : ScriptKind) (bytes : List ℕ) (line : ScriptLine) → IsKind asked → line_reading asked bytes ≡ Ok (Some line) → IsLineOf asked line
+line-of-kind asked bytes line good is =
     let words = words_of (strip_carriage_return bytes) in
-    words-line kind words line good (where-text (is_utf8 bytes) (words_reading kind words) NotUtf8 line is)
+    words-line asked words line good (where-text (is_utf8 bytes) (words_reading asked words) NotUtf8 line is)
 
-kind-cons : (kind : ScriptKind) (r : Result (Option ScriptLine) Why) (lines : List ScriptLine) → ((line : ScriptLine) → r ≡ Ok (Some line) → IsLineOf kind line) → All (IsLineOf kind) lines →
-    All (IsLineOf kind) (cons_option (script_line r) lines)
-kind-cons kind (Ok None) lines here rest = rest
-kind-cons kind (Ok (Some line)) lines here rest = All-cons (IsLineOf kind) line lines (here line refl) rest
-kind-cons kind (Err why) lines here rest = rest
+kind-cons : (asked : ScriptKind) (r : Result (Option ScriptLine) Why) (lines : List ScriptLine) → ((line : ScriptLine) → r ≡ Ok (Some line) → IsLineOf asked line) → All (IsLineOf asked) lines →
+    All (IsLineOf asked) (cons_option (script_line r) lines)
+kind-cons asked (Ok None) lines here rest = rest
+kind-cons asked (Ok (Some line)) lines here rest = All-cons (IsLineOf asked) line lines (here line refl) rest
+kind-cons asked (Err why) lines here rest = rest
 
-pub script-of-kind : (kind : ScriptKind) (lines : List (List ℕ)) → IsKind kind → All (IsLineOf kind) (script_of kind lines)
-script-of-kind kind [] good = λ k d below. absurd (omega arith)
-script-of-kind kind (line ∷ lines) good =
-    kind-cons kind (line_reading kind line) (script_of kind lines) (λ made read. line-of-kind kind line made good read) (script-of-kind kind lines good)
+pub script-of-kind : (asked : ScriptKind) (lines : List (List ℕ)) → IsKind asked → All (IsLineOf asked) (script_of asked lines)
+script-of-kind asked [] good = λ k d below. absurd (omega arith)
+script-of-kind asked (line ∷ lines) good =
+    kind-cons asked (line_reading asked line) (script_of asked lines) (λ made read. line-of-kind asked line made good read) (script-of-kind asked lines good)

@@ -37,13 +37,13 @@ command_reading (Some command) words = made command (numbers_of command.most com
 
 -- a line without a word is skipped, and so is one whose first word begins with a `#`
 abbrev pub words_reading : ScriptKind → List (List ℕ) → Result (Option ScriptLine) Why
-words_reading kind [] = Ok None
-words_reading kind (word ∷ words) =
-    if slice_index word 0 == 35 then Ok None else command_reading (find (λ command. bytes_eq word command.word) (commands_of kind)) words
+words_reading asked [] = Ok None
+words_reading asked (word ∷ words) =
+    if slice_index word 0 == 35 then Ok None else command_reading (find (λ command. bytes_eq word command.word) (commands_of asked)) words
 
 -- what a line is: nothing, one line of the script, or what is wrong with it first
 abbrev pub line_reading : ScriptKind → List ℕ → Result (Option ScriptLine) Why
-line_reading kind line = if is_utf8 line then words_reading kind (words_of (strip_carriage_return line)) else Err NotUtf8
+line_reading asked line = if is_utf8 line then words_reading asked (words_of (strip_carriage_return line)) else Err NotUtf8
 
 -- the line of the script, if it is one
 abbrev pub script_line : Result (Option ScriptLine) Why → Option ScriptLine
@@ -52,35 +52,35 @@ script_line (Err why) = None
 
 -- the lines of the script, in order
 abbrev pub script_of : ScriptKind → List (List ℕ) → List ScriptLine
-script_of kind lines = filter_map (λ line. script_line (line_reading kind line)) lines
+script_of asked lines = filter_map (λ line. script_line (line_reading asked line)) lines
 
 -- nothing is wrong with these lines
 abbrev pub AreGood : ScriptKind → List (List ℕ) → Type 0
-AreGood kind lines = All (λ line. IsOk (line_reading kind line)) lines
+AreGood asked lines = All (λ line. IsOk (line_reading asked line)) lines
 
 -- line `at` is the first one with something wrong, counted from 1
-pub record IsFirstFault (kind : ScriptKind) (text : List ℕ) (at : ℕ) (why : Why) : Type 0 where
+pub record IsFirstFault (asked : ScriptKind) (text : List ℕ) (at : ℕ) (why : Why) : Type 0 where
   pub before : List (List ℕ)
   pub line : List ℕ
   pub after : List (List ℕ)
   pub lines : lines_of text ≡ before ++ line ∷ after
-  pub good : AreGood kind before
+  pub good : AreGood asked before
   pub place : at ≡ length before + 1
-  pub wrong : line_reading kind line ≡ Err why
+  pub wrong : line_reading asked line ≡ Err why
 
 -- the reading of a text: the lines of the script that it is, or its first fault
 abbrev pub ReadsAs : ScriptKind → List ℕ → Result (List ScriptLine) ScriptFault → Type 0
-ReadsAs kind text (Ok lines) = AreGood kind (lines_of text) × (lines ≡ script_of kind (lines_of text))
-ReadsAs kind text (Err (At line why)) = IsFirstFault kind text line why
-ReadsAs kind text (Err ReadFault) = ⊥
-ReadsAs kind text (Err (TooLong got)) = ⊥
-ReadsAs kind text (Err NoMemory) = ⊥
+ReadsAs asked text (Ok lines) = AreGood asked (lines_of text) × (lines ≡ script_of asked (lines_of text))
+ReadsAs asked text (Err (At line why)) = IsFirstFault asked text line why
+ReadsAs asked text (Err ReadFault) = ⊥
+ReadsAs asked text (Err (TooLong got)) = ⊥
+ReadsAs asked text (Err NoMemory) = ⊥
 
 -- a text has exactly one reading
-pub record HasOneReading (kind : ScriptKind) (text : List ℕ) : Type 0 where
+pub record HasOneReading (asked : ScriptKind) (text : List ℕ) : Type 0 where
   pub reading : Result (List ScriptLine) ScriptFault
-  pub is_one : ReadsAs kind text reading
-  pub only : (other : Result (List ScriptLine) ScriptFault) → ReadsAs kind text other → other ≡ reading
+  pub is_one : ReadsAs asked text reading
+  pub only : (other : Result (List ScriptLine) ScriptFault) → ReadsAs asked text other → other ≡ reading
 
 -- a region has from 2 to 4 coordinates
 abbrev pub IsKind : ScriptKind → Type 0
@@ -98,4 +98,4 @@ IsLineOf ScriptKind.Replay (ScriptLine.Get key) = ⊤
 IsLineOf ScriptKind.Replay (ScriptLine.Next key) = ⊤
 IsLineOf ScriptKind.Replay (ScriptLine.Count low high) = ⊤
 IsLineOf ScriptKind.Replay (ScriptLine.Sweep low high) = ⊤
-IsLineOf kind line = ⊥
+IsLineOf asked line = ⊥

@@ -1,6 +1,6 @@
 // Reading the text of a file.
 ghost use Rattle.std.specs.Prelude.{◌≡◌, ◌≢◌, ◌⊎◌, ◌+◌, ◌<◌, ◌≤◌, ◌^◌, ◌++◌, ℕ, List, Ok, Err, Result, length, take, vec_len, IfOk, IfErr, OnOk, OnErr, IfSome, MatchResult, IsErrOf};
-ghost use Rattle.edge.specs.Risen.{HasRisen};
+ghost use Rattle.edge.specs.Risen.{HasRisen, StaysQuiet};
 ghost use Rattle.edge.specs.Shelf.{TakesAtMost, IsEmptied};
 ghost use Rattle.pgm_script.specs.declared.fault.ScriptFault.{ScriptFault};
 ghost use Rattle.pgm_script.specs.declared.fault.Why.{Why};
@@ -35,7 +35,7 @@ pub fn read_text<F: Shelf>(alloc: Global, shelf: &mut F, limit: u64) -> Result<V
         (fault ≡ ScriptFault.ReadFault) ⊎ (fault ≡ ScriptFault.NoMemory) ⊎ IsTextOf limit bytes (Err fault))) }
     ensures wherever { IfSome (F.rest shelf.old)
         (λ bytes. (reading : Result (List ℕ) ScriptFault) → IsTextOf limit bytes reading →
-        (HasRisen (F.faults shelf.old) (F.faults shelf.new) → ⊥) →
+        StaysQuiet (F.faults shelf.old) (F.faults shelf.new) →
         MatchResult result (λ text. reading ≡ Ok text.items)
         (λ fault. (fault ≡ ScriptFault.NoMemory) ⊎ (reading ≡ Err fault))) }
 

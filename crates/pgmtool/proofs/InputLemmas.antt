@@ -2,7 +2,7 @@
 --
 -- Main results: a call that reads two inputs answers what the files define for both (`then_stops`, `then_goes_on`); and where
 -- at most one reading of the first is defined, and of what goes on with it, so it is for both (`then_one`).
-use Rattle.std.proofs.Common.{◌≡◌, ◌⊎◌, inl, inr, ℕ, ◌<◌, ◌≤◌, List, Option, None, Some, Result, Ok, Err, arith, refl, sym, subst, ap, ◌∙◌}
+use Rattle.std.proofs.Common.{◌≡◌, inl, inr, ℕ, ◌<◌, ◌≤◌, Result, Ok, Err, sym, subst, ◌∙◌}
 use Rattle.pgmtool.specs.declared.refusal.Refusal.{Refusal}
 use Rattle.pgmtool.specs.declared.refusal.Refusal.TheVariants.{ReadFault, Usage, TooMany, Short, Unsorted, Trailing, Wide}
 use Rattle.pgmtool.specs.declared.refusal.Stopped.{Stopped}
@@ -62,10 +62,6 @@ module _ {A B X Y : Type 0} (first : Reading A) (next : A → Reading B) (value_
     faulted = λ rose. two.faulted (subst (λ (n : ℕ). n < after) (sym one.unfaulted) rose);
     never_falls = subst (λ (n : ℕ). n ≤ after) one.unfaulted two.never_falls;
   }
-
--- nothing more is read
-pub gives_answer : {B Y : Type 0} (made_of : Y → B) (made : Y) (b : B) (n : ℕ) → made_of made ≡ b → Answers (gives b) made_of n n (Ok made)
-gives_answer made_of made b n is = record { ok = ap Ok is; unfaulted = refl; stopped = tt; faulted = λ rose. absurd (omega arith); never_falls = omega arith }
 
 -- at most one thing is defined
 abbrev pub IsFunctional : {A : Type 0} → Reading A → Type 0

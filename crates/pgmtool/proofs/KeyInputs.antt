@@ -2,9 +2,8 @@
 --
 -- Main results: what a reader of keys answered is what the file of that name defines (`keys_read`, `keys_stopped`); and told
 -- files define one reading of each request (`reads_one`), since any bytes have one reading as a key file.
-use Rattle.std.proofs.Common.{◌≡◌, ◌≢◌, ◌⊎◌, inl, inr, ℕ, ◌<◌, ◌≤◌, List, length, Option, None, Some, Result, Ok, Err, arith, refl, sym, subst, ap, ◌∙◌}
+use Rattle.std.proofs.Common.{◌≡◌, ◌≢◌, ◌⊎◌, inl, inr, ℕ, List, Option, None, Some, Result, Ok, Err, refl, sym, subst, ◌∙◌}
 use Rattle.std.specs.Prelude.{IfSome, IsSome, IsErrOf}
-use Rattle.std.specs.List.Sorted.{IsNonDecreasing}
 use Rattle.edge.specs.Risen.{HasRisen}
 use Rattle.edge.specs.Shelf.{TakesFile}
 use Rattle.sosd_reader.specs.declared.fault.KeyFault.{KeyFault}
@@ -18,7 +17,7 @@ use Rattle.pgmtool.specs.Files.{Files, HoldsOfFile, IsMissing}
 use Rattle.pgmtool.specs.Refusals.{refusal_of}
 use Rattle.pgmtool.specs.Requests.{Request}
 use Rattle.pgmtool.specs.Requests.Request.{explain}
-use Rattle.pgmtool.specs.Inputs.{Reading, IsOfKeys, reads_keys, reads}
+use Rattle.pgmtool.specs.Inputs.{IsOfKeys, reads_keys, reads}
 use Rattle.pgmtool.specs.Stops.{IsStopped, stop_of_refusal}
 use Rattle.pgmtool.proofs.InputLemmas.{IsFunctional, then_one, gives_one}
 

@@ -2,7 +2,7 @@
 --
 -- Main results: what came decides how all that is defined ends (`it_ends`, `stopped_ends`); what stopped the reading of the
 -- inputs is the cause of the refusal (`stopped_cause`).
-use Rattle.std.proofs.Common.{◌≡◌, ◌⊎◌, inl, inr, ℕ, List, Option, None, Some, Result, Ok, Err, refl, sym, subst, ap, ◌∙◌}
+use Rattle.std.proofs.Common.{◌≡◌, ◌⊎◌, inl, inr, ℕ, List, Option, None, Some, Result, Err, refl, subst}
 use Rattle.std.specs.Prelude.{IsSome}
 use Rattle.pgmtool.specs.declared.refusal.Refusal.{Refusal}
 use Rattle.pgmtool.specs.declared.refusal.Refusal.TheVariants.{ReadFault, Usage, TooMany, Short, Unsorted, Trailing, Wide}

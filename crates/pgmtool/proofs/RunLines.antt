@@ -23,12 +23,6 @@ run_lines-from segments to i end there is =
 pub run_lines-end : (segments : List Segment) (to i : ℕ) → length segments ≤ i → run_lines (drop i segments) to ≡ []
 run_lines-end segments to i behind = ap (λ (s : List Segment). run_lines s to) (drop_all i segments behind)
 
-pub start_there : (segments : List Segment) (to i : ℕ) → i < length segments → (get_or segments i no_segment).start ≡ run_end (starts_of (drop i segments)) to
-start_there segments to i there = ap (λ (s : List Segment). run_end (starts_of s) to) (sym (rest_from segments i there))
-
-pub start_behind : (segments : List Segment) (to i : ℕ) → length segments ≤ i → to ≡ run_end (starts_of (drop i segments)) to
-start_behind segments to i behind = ap (λ (s : List Segment). run_end (starts_of s) to) (sym (drop_all i segments behind))
-
 -- the same where the first text line is at hand
 pub run_lines-begin : (segments : List Segment) (to i end : ℕ) (piece : List ℕ) → i < length segments → end ≡ run_end (starts_of (drop (i + 1) segments)) to →
     piece ≡ run_line (get_or segments i no_segment) end → run_lines (drop i segments) to ≡ (piece ∷ []) ++ run_lines (drop (i + 1) segments) to

@@ -1,5 +1,5 @@
 -- What the words and the files define: a text, or a refusal.
-use Rattle.std.specs.Prelude.{◌≡◌, ◌⊎◌, ℕ, List, Option, None, Some, Result, Ok, Err}
+use Rattle.std.specs.Prelude.{◌≡◌, ◌⊎◌, ℕ, List, None, Some, Result, Ok, Err}
 use Rattle.edge.specs.Risen.{HasRisen}
 use Rattle.pgmtool.specs.declared.refusal.Refusal.{Refusal}
 use Rattle.pgmtool.specs.declared.refusal.Refusal.TheVariants.{Usage, ReadFault}

@@ -3,7 +3,7 @@ ghost use Rattle.std.specs.Prelude.{◌≡◌, ◌≢◌, ◌⊎◌, ◌<◌, �
 ghost use Rattle.std.specs.List.{flat_map};
 ghost use Rattle.std.specs.List.Sorted.{IsNonDecreasing};
 ghost use Rattle.byteorder.specs.Endian.{little_bytes};
-ghost use Rattle.edge.specs.Risen.{HasRisen};
+ghost use Rattle.edge.specs.Risen.{HasRisen, StaysQuiet};
 ghost use Rattle.edge.specs.Shelf.{TakesAtMost, IsEmptied};
 ghost use Rattle.sosd_reader.specs.KeyFiles.{IsKeyFileOf, IsWidth, key_width};
 ghost use Rattle.sosd_reader.specs.KeyFileFaults.{ReadsAs, ReadingsAreOne, reach};
@@ -57,7 +57,7 @@ pub fn read_keys<F: Shelf>(alloc: Global, shelf: &mut F, wide: bool) -> Result<V
         (fault ≡ KeyFault.ReadFault) ⊎ (fault ≡ KeyFault.NoMemory) ⊎ ReadsAs (key_width wide) bytes (Err fault))) }
     ensures wherever { IfSome (F.rest shelf.old)
         (λ bytes. (reading : Result (List ℕ) KeyFault) → ReadsAs (key_width wide) bytes reading →
-        (HasRisen (F.faults shelf.old) (F.faults shelf.new) → ⊥) →
+        StaysQuiet (F.faults shelf.old) (F.faults shelf.new) →
         MatchResult result (λ keys. reading ≡ Ok keys.items)
         (λ fault. (fault ≡ KeyFault.NoMemory) ⊎ (reading ≡ Err fault))) }
 

@@ -1,7 +1,6 @@
 -- Halving n places takes t steps, with 2 ^ t at most twice n: while `count` places are left, 2 ^ t * (count - 1) is at most n - 1, and each step halves count - 1.
 use Rattle.std.proofs.Common.{◌≡◌, ℕ, ◌+◌, ◌-◌, ◌*◌, ◌/◌, ◌^◌, ◌<◌, ◌≤◌, ap, ◌∙◌, add-one, arith}
 use Rattle.std.proofs.Math.Nat.{pow-suc, mul-le-mul_left}
-use Rattle.window_search.specs.Searches.{HalvesPlaces}
 
 -- from `before` to `now` the steps so far, with `count` of the places left
 pub record IsHalved (before now places count : ℕ) : Type 0 where
@@ -9,9 +8,6 @@ pub record IsHalved (before now places count : ℕ) : Type 0 where
   pub taken : now ≡ before + t
   pub left : 2 ^ t * (count - 1) ≤ places - 1
   pub bound : 2 ^ t ≤ 2 * places
-
-pub halved_none : (before places count : ℕ) → 1 ≤ count → count ≤ places → IsHalved before before places count
-halved_none before places count some within = record { t = 0; taken = omega arith; left = omega arith; bound = omega arith }
 
 pub halved_more : (before now places count : ℕ) → 1 < count → IsHalved before now places count → IsHalved before (now + 1) places (count - count / 2)
 halved_more before now places count more halved =
@@ -30,6 +26,3 @@ halved_more before now places count more halved =
   where
     one_of : (count : ℕ) → 1 < count → 1 ≤ count - 1
     one_of count more = omega arith
-
-pub halved_all : (before now places wide count : ℕ) → places ≤ wide → IsHalved before now places count → HalvesPlaces before now wide
-halved_all before now places wide count within halved = (halved.t, halved.taken, omega (arith, halved.bound))

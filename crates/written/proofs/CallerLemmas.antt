@@ -3,13 +3,13 @@
 -- Main results: pieces written after others are written together with them (`Writes-append`); pieces that break off after
 -- others were written break off with them (`BreaksOff-append`); and pieces that broke off did so whatever had followed
 -- (`BreaksOff-more`). For a loop, `HasWritten` says which pieces of all are left.
-use Rattle.std.proofs.Common.{◌≡◌, ℕ, List, [], ◌∷◌, ◌++◌, Bool, true, false, refl, sym, ◌∙◌, ap, subst, append_assoc}
+use Rattle.std.proofs.Common.{◌≡◌, ℕ, List, [], ◌++◌, Bool, true, false, refl, sym, ◌∙◌, ap, subst, append_assoc}
 use Rattle.std.proofs.lemmas.List.{append-nil}
 use Rattle.std.proofs.lemmas.List.Folds.{concat-append}
 use Rattle.std.specs.List.{concat}
 use Rattle.edge.specs.declared.sink.Sink.{Ghosts}
 use Rattle.edge.specs.Risen.{HasRisen}
-use Rattle.written.specs.Handing.{HandsPiece, HandsPieces}
+use Rattle.written.specs.Handing.{HandsPieces}
 use Rattle.written.specs.Handing.HandsPieces.{finished, stops, next}
 use Rattle.written.specs.Writing.{Gains, GainsFront, Writes, BreaksOff}
 use Rattle.written.proofs.Gaining.{Gains-nil, Gains-append, GainsFront-append, front_of_more}

@@ -7,7 +7,7 @@ use Rattle.std.proofs.lemmas.List.{append-nil}
 use Rattle.edge.specs.declared.failed.Failed.{Failed}
 use Rattle.edge.specs.declared.sink.Sink.{Ghosts}
 use Rattle.edge.specs.Risen.{HasRisen}
-use Rattle.written.specs.Handing.{HandsPiece, HandsPieces}
+use Rattle.written.specs.Handing.{HandsPiece}
 use Rattle.written.specs.Handing.HandsPiece.{taken, failed, again}
 use Rattle.written.specs.Handing.HandsPieces.{finished, stops, next}
 use Rattle.written.specs.Writing.{Gains, GainsFront, Writes, BreaksOff}

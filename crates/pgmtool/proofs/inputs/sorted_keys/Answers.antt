@@ -1,4 +1,4 @@
-use Rattle.std.proofs.Common.{◌≡◌, ◌∙◌, ℕ, ◌<◌, length, sym, subst, ap, arith, Err}
+use Rattle.std.proofs.Common.{◌∙◌, ℕ, ◌<◌, length, sym, subst, ap, arith, Err}
 use Rattle.edge.specs.Risen.{HasRisen}
 use Rattle.sosd_reader.specs.declared.fault.KeyFault.{KeyFault}
 use Rattle.pgmtool.specs.declared.refusal.Stopped.{Stopped}

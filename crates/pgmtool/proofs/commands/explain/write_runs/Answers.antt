@@ -1,5 +1,4 @@
-use Rattle.std.proofs.Common.{◌≡◌, ℕ, ◌+◌, List, [], ◌∷◌, get_or, drop, arith, ◌∙◌}
-use Rattle.written.specs.Writing.{BreaksOff}
+use Rattle.std.proofs.Common.{◌≡◌, ◌+◌, [], ◌∷◌, get_or, drop, arith, ◌∙◌}
 use Rattle.written.proofs.CallerLemmas.{written_none, written_more, written_all, breaks_off_there}
 use Rattle.pgmtool.specs.Commands.Explain.{run_line, run_lines}
 use Rattle.pgmtool.proofs.RunLines.{no_segment, run_lines-begin, run_lines-end}
