@@ -1,0 +1,79 @@
+-- Keys that don't repeat are their distinct ones and the x of their points.
+--
+-- Main results: `distinct_of-alone`, since a list that loses no key to its repeats has none, and `xs_of-alone`, since a key that
+-- stands once isn't closed.
+use Rattle.std.proofs.Common.{◌≡◌, ℕ, suc, ◌+◌, ◌<◌, ◌≤◌, List, [], ◌∷◌, ◌++◌, length, slice_index, false, eqb, refl, ap, ◌∙◌, subst, arith, inl, inr}
+use Rattle.std.proofs.lemmas.Bool.{cases_lt}
+use Rattle.std.proofs.lemmas.Bool.Decides.{nat_tests}
+use Rattle.std.specs.List.{dedup_from, flat_map}
+use Rattle.std.specs.List.Sorted.{IsNonDecreasing, IsStrictlyIncreasing, IsSorted}
+use Rattle.std.specs.Ordering.{nat_cmp, is_lt}
+use Rattle.std.proofs.Common.{get_or}
+use Rattle.std.proofs.lemmas.Map.Keys.{IsStrictlyIncreasing-dedup}
+use Rattle.window_search.proofs.CallerLemmas.{lb-is}
+use Rattle.window_search.specs.Searches.{lb}
+use Rattle.exact_cross.proofs.CallerLemmas.{slice_index-rises}
+use Rattle.levels.specs.KeyPoints.{distinct_of, with_closing, is_closed, times, xs_of}
+use Rattle.levels.proofs.DistinctLemmas.{times-lb}
+use Rattle.levels.proofs.GroupLemmas.{first_fails}
+
+from-short : (k : ℕ) (xs : List ℕ) → length (dedup_from eqb k xs) ≤ length xs + 1
+from-short k [] = omega arith
+from-short k (x ∷ xs) = grind (arith, nat_tests, from-short k xs, from-short x xs)
+
+from-whole : (k : ℕ) (xs : List ℕ) → length xs + 1 ≤ length (dedup_from eqb k xs) → dedup_from eqb k xs ≡ k ∷ xs
+from-whole k [] long = refl
+from-whole k (x ∷ xs) long = grind (arith, nat_tests, from-short k xs, from-whole x xs)
+
+pub distinct_of-alone : (keys : List ℕ) → length keys ≤ length (distinct_of keys) → distinct_of keys ≡ keys
+distinct_of-alone [] long = refl
+distinct_of-alone (k ∷ keys) long = from-whole k keys (omega (arith, long))
+
+not_less : (a b : ℕ) → a ≤ b → is_lt (nat_cmp b a) ≡ false
+not_less a b le = grind (arith, nat_tests)
+
+sorted : (xs : List ℕ) → IsNonDecreasing xs → IsSorted nat_cmp xs
+sorted xs never_falls k d low high = not_less (get_or xs k d) (get_or xs (k + 1) d) (never_falls k (k + 1) d (omega arith) high)
+
+pub IsStrictlyIncreasing-distinct_of : (keys : List ℕ) → IsNonDecreasing keys → IsStrictlyIncreasing (distinct_of keys)
+IsStrictlyIncreasing-distinct_of keys order = IsStrictlyIncreasing-dedup keys (sorted keys order)
+
+-- points without a closing one
+singles : (keys xs : List ℕ) → ((j : ℕ) → j < length xs → is_closed keys (slice_index xs j) ≡ false) → flat_map (with_closing keys) xs ≡ xs
+singles keys [] none = refl
+singles keys (x ∷ xs) none =
+    let first : with_closing keys x ≡ x ∷ [] = rw (none 0 (omega arith)) refl in
+    ap (λ (l : List ℕ). l ++ flat_map (with_closing keys) xs) first
+    ∙ ap (λ (l : List ℕ). x ∷ l) (singles keys xs (λ j inside. none (suc j) (omega (arith, inside))))
+
+-- a rising key stands once
+once_closed : (keys : List ℕ) → IsStrictlyIncreasing keys → (j : ℕ) → j < length keys → is_closed keys (slice_index keys j) ≡ false
+once_closed keys rises j inside =
+    let here : lb keys (slice_index keys j) ≡ j = lb-is keys (slice_index keys j) j (omega (arith, inside))
+    (λ k low. slice_index-rises keys k j rises low inside) (λ k low within. not_before k low within) in
+    let next : lb keys (slice_index keys j + 1) ≡ j + 1 = lb-is keys (slice_index keys j + 1) (j + 1) (omega (arith, inside))
+    (λ k low. up_to k low) (λ k low within. omega (arith, slice_index-rises keys j k rises (omega (arith, low)) within)) in
+    first_fails (times keys (slice_index keys j)) (slice_index keys j) _ (omega (arith, times-lb keys (slice_index keys j), here, next))
+  where
+    not_before : (k : ℕ) → j ≤ k → k < length keys → slice_index keys j ≤ slice_index keys k
+    not_before k low within = elim (cases_lt j k) [
+      | inl less ↦ omega (arith, slice_index-rises keys j k rises less within)
+      | inr rest ↦ omega (arith, ap (slice_index keys) (same k low rest))
+    ]
+      where
+        same : (k : ℕ) → j ≤ k → k ≤ j → k ≡ j
+        same k low high = omega arith
+
+    up_to : (k : ℕ) → k < j + 1 → slice_index keys k < slice_index keys j + 1
+    up_to k low = elim (cases_lt k j) [
+      | inl less ↦ omega (arith, slice_index-rises keys k j rises less inside)
+      | inr rest ↦ omega (arith, ap (slice_index keys) (same k low rest))
+    ]
+      where
+        same : (k : ℕ) → k < j + 1 → j ≤ k → k ≡ j
+        same k low high = omega arith
+
+pub xs_of-alone : (keys : List ℕ) → IsNonDecreasing keys → distinct_of keys ≡ keys → xs_of keys ≡ keys
+xs_of-alone keys order alone =
+    let rises = subst (λ (xs : List ℕ). IsStrictlyIncreasing xs) alone (IsStrictlyIncreasing-distinct_of keys order) in
+    ap (flat_map (with_closing keys)) alone ∙ singles keys keys (once_closed keys rises)

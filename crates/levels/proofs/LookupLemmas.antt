@@ -1,0 +1,205 @@
+-- The lookup: each level's window holds what is searched in it.
+--
+-- Main results: `top_run`: the one run of the last level has the predecessor of a question that isn't below the first key;
+-- `run_line`: a run's line is within the level's bound at its points; `place_in_window`, `position_in_window`: above level 0 the
+-- window of the run with the predecessor holds it, and at level 0 the position in the file.
+use Rattle.std.proofs.Common.{◌≡◌, inl, inr, ℕ, zero, suc, ◌+◌, ◌-◌, ◌^◌, ◌<◌, ◌≤◌, List, [], ◌∷◌, length, slice_index, slice_index_or, refl, sym, ap, ◌∙◌, subst, arith, add-one, pos, None}
+use Rattle.std.proofs.lemmas.Bool.{cases_lt}
+use Rattle.std.specs.List.Sorted.{IsNonDecreasing, IsStrictlyIncreasing}
+use Rattle.exact_cross.specs.declared.segment.Segment.{Segment}
+use Rattle.exact_cross.specs.Points.{Points}
+use Rattle.exact_cross.specs.Covers.{IsGreedy, IsLongest}
+use Rattle.exact_cross.specs.Segments.{starts_of, EachRun, IsFitted}
+use Rattle.exact_cross.specs.Checked.{IsInRange}
+use Rattle.exact_cross.proofs.CallerLemmas.{slice_index-places, IsNonDecreasing-from_neighbours}
+use Rattle.window_search.specs.Searches.{lb, IsPredecessor}
+use Rattle.window_search.specs.Windows.{IsLineOf, IsLastAtMost, IsClose, IsNext}
+use Rattle.window_search.proofs.CallerLemmas.{predecessor_exists}
+use Rattle.levels.specs.KeyPoints.{xs_of}
+use Rattle.levels.specs.Indexes.{level_at, xs_at, ys_at, points_at, eps_at, IsIndex}
+use Rattle.levels.proofs.PointOrder.{xs-first, next_of_point, close_of_point}
+use Rattle.levels.proofs.SegmentLemmas.{first_x_at, run_at, IsRun, end_at, fitted_runs, predecessor_in_run}
+use Rattle.levels.proofs.LevelLemmas.{xs_at-base, ys_at-base, xs_at-above, ys_at-above, xs_at-length, AscendsAt, ascends_at, heights_few, some_at}
+
+pub IsNonDecreasing-from_rising : (xs : List ℕ) → IsStrictlyIncreasing xs → IsNonDecreasing xs
+IsNonDecreasing-from_rising xs rises = IsNonDecreasing-from_neighbours xs (λ k inside. omega (arith, rises k inside))
+
+-- what a read of a list of segments gives past its end
+abbrev pub no_segment : Segment
+no_segment = record { start = 0; a = 0; b = 0; line = record { x0 = 0; y0 = pos 0; rise = 0; run = 0 }; cut = None }
+
+-- the first run starts at the first place
+first_start : (p : Points) (eps to : ℕ) (segments : List Segment) (d : Segment) → 0 < length segments → IsGreedy p eps 0 to (starts_of segments) → (slice_index_or segments 0 d).start ≡ 0
+first_start p eps to [] d some greedy = absurd (omega arith)
+first_start p eps to (segment ∷ later) d some greedy = greedy.0
+
+module _ (keys : List ℕ) (eps eps_rec : ℕ) (levels : List (List Segment)) (order : IsNonDecreasing keys) (index : IsIndex keys eps eps_rec levels) where
+  pub ascends : (i : ℕ) → i ≤ length levels → AscendsAt keys levels i
+  ascends i within = ascends_at keys eps eps_rec levels order i (λ k less. index.each k (omega arith))
+
+  -- each level's first x is the first key
+  first_at : 0 < length keys → (d : Segment) (i : ℕ) → i ≤ length levels → slice_index (xs_at keys levels i) 0 ≡ slice_index keys 0
+  first_at some d zero within = ap (λ (xs : List ℕ). slice_index xs 0) (xs_at-base keys levels) ∙ (xs-first keys some).1
+  first_at some d (suc i) within =
+      let points = some_at keys eps eps_rec levels order some (suc i) (λ k less. index.each k (omega arith)) in
+      let runs : 0 < length (level_at levels i) = omega (arith, xs_at-length keys levels i, ap (λ (k : ℕ). length (xs_at keys levels k)) (add-one i)) in
+      let start = first_start (points_at keys levels i) (eps_at eps eps_rec i) (length (xs_at keys levels i)) (level_at levels i) d runs (index.each i (omega arith)).greedy in
+      ap (λ (k : ℕ). slice_index (xs_at keys levels k) 0) (sym (add-one i)) ∙ ap (λ (xs : List ℕ). slice_index xs 0) (xs_at-above keys levels i)
+      ∙ first_x_at (xs_at keys levels i) (level_at levels i) 0 d runs ∙ ap (slice_index (xs_at keys levels i)) start ∙ first_at some d i (omega arith)
+
+  -- the one run of the last level has the predecessor
+  pub top_run : (d : Segment) (last q : ℕ) → last + 1 ≡ length levels → 0 < length keys → slice_index keys 0 ≤ q → IsPredecessor (xs_at keys levels (last + 1)) q 0
+  top_run d last q at some first =
+      let one = index.last last at in
+      let count = xs_at-length keys levels last in
+      record {
+        inside = omega (arith, count, one);
+        at_most = omega (arith, first_at some d (last + 1) (omega arith), first);
+        last = λ j after inside. absurd (omega (arith, count, one));
+      }
+
+  -- where a run has the last first x at or before a question, there is a predecessor
+  pub has_predecessor : (d : Segment) (i run q : ℕ) → i < length levels → IsPredecessor (xs_at keys levels (i + 1)) q run →
+      (place : ℕ) × IsPredecessor (xs_at keys levels i) q place
+  has_predecessor d i run q inside found =
+      let here = ascends i (omega arith) in
+      let count = xs_at-length keys levels i in
+      let xs = xs_at keys levels i in
+      let p = points_at keys levels i in
+      let e = eps_at eps eps_rec i in
+      let level = index.each i inside in
+      let run_inside : run < length (level_at levels i) = omega (arith, count, found.inside) in
+      let at = run_at (λ segment e. Unit {0}) (IsLongest p e (length xs)) 0 (length xs) (level_at levels i) run d run_inside level.greedy (all (length xs) (level_at levels i)) in
+      let first : slice_index (xs_at keys levels (i + 1)) run ≡ slice_index xs (slice_index_or (level_at levels i) run d).start =
+      ap (λ (l : List ℕ). slice_index l run) (xs_at-above keys levels i) ∙ first_x_at xs (level_at levels i) run d run_inside in
+      predecessor_exists xs q (IsNonDecreasing-from_rising xs here.rises) (omega (arith, at.some, at.within))
+      (omega (arith, first, found.at_most, IsNonDecreasing-from_rising xs here.rises 0 (slice_index_or (level_at levels i) run d).start 0 (omega arith) (omega (arith, at.some, at.within))))
+    where
+      all : (to : ℕ) (segments : List Segment) → EachRun (λ segment e. Unit {0}) to segments
+      all to [] = tt
+      all to (segment ∷ later) = (tt, all to later)
+
+  -- a run's line, and its heights
+  pub record IsRunLine (i run : ℕ) (segment : Segment) (e : ℕ) : Type 0 where
+    pub in_range : IsInRange segment.line
+    pub some : segment.start < e
+    pub within : e ≤ length (xs_at keys levels i)
+    pub line : IsLineOf (points_at keys levels i) (eps_at eps eps_rec i) segment.line (slice_index (ys_at keys levels i) segment.start) (slice_index (ys_at keys levels i) (e - 1)) segment.start e
+    pub has : (q place : ℕ) → IsPredecessor (xs_at keys levels (i + 1)) q run → IsPredecessor (xs_at keys levels i) q place → (segment.start ≤ place) × (place < e)
+
+  pub run_line : length keys < 2 ^ 32 → (i run : ℕ) (d segment : Segment) (e : ℕ) → eps_at eps eps_rec i ≤ 1048576 → i < length levels → run < length (level_at levels i) →
+      segment ≡ slice_index_or (level_at levels i) run d →
+      ((d : Segment) → run + 1 < length (level_at levels i) → e ≡ (slice_index_or (level_at levels i) (run + 1) d).start) →
+      (length (level_at levels i) ≡ run + 1 → e ≡ length (xs_at keys levels i)) → IsRunLine i run segment e
+  run_line few i run d segment e bounded inside run_inside is next last =
+      let here = ascends i (omega arith) in
+      let xs = xs_at keys levels i in
+      let p = points_at keys levels i in
+      let bound = eps_at eps eps_rec i in
+      let level = index.each i inside in
+      let segments = level_at levels i in
+      let fitted = fitted_runs p bound 0 (length xs) segments here.ascends (omega arith) (λ j under. omega (arith, heights_few keys levels i here j under, few))
+      bounded level.greedy level.steep in
+      let ranged = run_at (λ segment e. IsInRange segment.line) (IsLongest p bound (length xs)) 0 (length xs) segments run d run_inside level.greedy fitted.0 in
+      let fits = run_at (IsFitted p bound) (IsLongest p bound (length xs)) 0 (length xs) segments run d run_inside level.greedy fitted.1 in
+      let end : end_at segments run (length xs) ≡ e = elim (cases_lt (run + 1) (length segments)) [
+        | inl more ↦ fits.next d more ∙ sym (next d more)
+        | inr final ↦ let count : length segments ≡ run + 1 = omega arith in fits.last count ∙ sym (last count)
+      ] in
+      let own : IsRun (IsFitted p bound) 0 (length xs) segments run segment e =
+      subst (λ (e : ℕ). IsRun (IsFitted p bound) 0 (length xs) segments run segment e) end
+      (subst (λ (s : Segment). IsRun (IsFitted p bound) 0 (length xs) segments run s (end_at segments run (length xs))) (sym is) fits) in
+      let holds = own.holds in
+      record {
+        in_range = subst (λ (s : Segment). IsInRange s.line) (sym is) ranged.holds;
+        some = own.some;
+        within = own.within;
+        line = record {
+          ascending = here.ascends;
+          some = own.some;
+          inside = own.within;
+          positive = holds.positive;
+          fits = holds.fits;
+          lowest = refl;
+          highest = refl;
+        };
+        has = λ q place found predecessor. predecessor_in_run (IsFitted p bound) xs segments run d segment e q place here.rises is own
+            (subst (λ (l : List ℕ). IsPredecessor l q run) (xs_at-above keys levels i) found) predecessor;
+      }
+
+  -- the predecessor is the last place of its run whose x is at most the question
+  pub last_at_most : (i q place s e : ℕ) → e ≤ length (xs_at keys levels i) → (s ≤ place) × (place < e) → IsPredecessor (xs_at keys levels i) q place → IsLastAtMost (points_at keys levels i) s e q place
+  last_at_most i q place s e within has found = record {
+    from_start = has.0;
+    to_end = has.1;
+    at_most = found.at_most;
+    last = λ more. found.last (place + 1) (omega arith) (omega arith);
+  }
+
+  height_above : (i j : ℕ) → 0 < i → j < length (xs_at keys levels i) → slice_index (ys_at keys levels i) j ≡ j
+  height_above zero j above inside = absurd (omega arith)
+  height_above (suc i) j above inside =
+      let shift = add-one i in
+      ap (λ (k : ℕ). slice_index (ys_at keys levels k) j) (sym shift) ∙ ap (λ (ys : List ℕ). slice_index ys j) (ys_at-above keys levels i)
+      ∙ slice_index-places (length (level_at levels i)) j (omega (arith, xs_at-length keys levels i, ap (λ (k : ℕ). length (xs_at keys levels k)) shift))
+
+  -- above level 0 the place is its height, and no point leaves a gap
+  pub close_above : (i q place e : ℕ) → 0 < i → e ≤ length (xs_at keys levels i) → place < e → IsClose (points_at keys levels i) e q place × IsNext (points_at keys levels i) place place
+  close_above i q place e above within inside =
+      let here = height_above i place above (omega arith) in (
+        elim (cases_lt (place + 1) e) [
+          | inl more ↦ inr (inr (omega (arith, here, height_above i (place + 1) above (omega arith))))
+          | inr final ↦ inr (inl (omega arith))
+        ],
+        record { from = omega (arith, here); to = omega (arith, here) },
+      )
+
+  -- at level 0 the position is the point's height or the next one
+  pub close_base : (q place e : ℕ) → q ≤ 18446744073709551615 → e ≤ length (xs_at keys levels 0) → place < e → IsPredecessor (xs_at keys levels 0) q place →
+      IsClose (points_at keys levels 0) e q place × IsNext (points_at keys levels 0) place (lb keys q)
+  close_base q place e fits within inside found =
+      let base : IsPredecessor (xs_of keys) q place = subst (λ (l : List ℕ). IsPredecessor l q place) (xs_at-base keys levels) found in
+      let below : place + 1 < length (xs_of keys) → q < slice_index (xs_of keys) (place + 1) = λ more. base.last (place + 1) (omega arith) more in
+      let close = close_of_point keys order place base.inside q base.at_most below fits in
+      let next = next_of_point keys order place base.inside q base.at_most below fits in (
+        elim close [
+          | inl same ↦ inl (same ∙ ap (λ (l : List ℕ). slice_index l place) (sym (xs_at-base keys levels)))
+          | inr step ↦ elim (cases_lt (place + 1) e) [
+            | inr final ↦ inr (inl (omega arith))
+            | inl more ↦ inr (inr (rw (ys_at-base keys levels) (step (omega (arith, ap length (xs_at-base keys levels))))))
+          ]
+        ],
+        record { from = rw (ys_at-base keys levels) next.0; to = rw (ys_at-base keys levels) next.1 },
+      )
+
+  pub closes_at_base : (i q place e : ℕ) → i ≡ 0 → q ≤ 18446744073709551615 → e ≤ length (xs_at keys levels i) → place < e → IsPredecessor (xs_at keys levels i) q place →
+      IsClose (points_at keys levels i) e q place × IsNext (points_at keys levels i) place (lb keys q)
+  closes_at_base zero q place e base fits within inside found = close_base q place e fits within inside found
+  closes_at_base (suc i) q place e base fits within inside found = absurd (omega arith)
+
+  -- no point is higher than the greatest place of the windows
+  pub height_within : (i len j : ℕ) → i ≤ length levels → (i ≡ 0 → len ≡ length keys) → (0 < i → len ≡ length (xs_at keys levels i)) → j < length (xs_at keys levels i) →
+      slice_index (ys_at keys levels i) j ≤ len
+  height_within i len j within base above inside = elim (cases_lt 0 i) [
+    | inl upper ↦ omega (arith, above upper, height_above i j upper inside)
+    | inr lowest ↦ let bottom : i ≡ 0 = omega arith in omega (arith, base bottom, heights_few keys levels i (ascends i within) j inside)
+  ]
+
+  -- the run that a list of segments has at this place
+  pub found_line : length keys < 2 ^ 32 → (i run q : ℕ) (segments : List Segment) (xs : List ℕ) (e : ℕ) → eps_at eps eps_rec i ≤ 1048576 → i < length levels →
+      IsPredecessor (xs_at keys levels (i + 1)) q run → segments ≡ level_at levels i → xs ≡ xs_at keys levels i →
+      ((d : Segment) → run + 1 < length segments → e ≡ (slice_index_or segments (run + 1) d).start) → (length segments ≡ run + 1 → e ≡ length xs) →
+      IsRunLine i run (slice_index_or segments run no_segment) e
+  found_line few i run q segments xs e bounded inside found own list next last =
+      let count : length segments ≡ length (level_at levels i) = ap length own in
+      run_line few i run no_segment (slice_index_or segments run no_segment) e bounded inside (omega (arith, found.inside, xs_at-length keys levels i))
+      (ap (λ (s : List Segment). slice_index_or s run no_segment) own)
+      (λ d more. next d (omega (arith, count, more)) ∙ ap (λ (s : List Segment). (slice_index_or s (run + 1) d).start) own)
+      (λ final. last (omega (arith, count, final)) ∙ ap length list)
+
+  -- its line, by the bound and the heights at hand
+  pub line_with : (i run : ℕ) (segment : Segment) (e bound : ℕ) (ys : List ℕ) → IsRunLine i run segment e → bound ≡ eps_at eps eps_rec i → ys ≡ ys_at keys levels i →
+      IsLineOf (points_at keys levels i) bound segment.line (slice_index ys segment.start) (slice_index ys (e - 1)) segment.start e
+  line_with i run segment e bound ys at bound_is ys_are =
+      subst (λ (b : ℕ). IsLineOf (points_at keys levels i) b segment.line (slice_index ys segment.start) (slice_index ys (e - 1)) segment.start e) (sym bound_is)
+      (subst (λ (ys : List ℕ). IsLineOf (points_at keys levels i) (eps_at eps eps_rec i) segment.line (slice_index ys segment.start) (slice_index ys (e - 1)) segment.start e) (sym ys_are) at.line)

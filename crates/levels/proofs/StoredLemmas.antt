@@ -1,0 +1,308 @@
+-- Levels as they are kept.
+--
+-- Main results: `AreLevels-push`: one more level, `AreStored-in`: all levels, where the last one has one run; `fewer_places`: the
+-- list of the level above the last one is shorter, where the last one has more runs than one.
+use Rattle.std.proofs.Common.{◌≡◌, ◌≢◌, inl, inr, ℕ, zero, suc, ◌+◌, ◌-◌, ◌^◌, ◌<◌, ◌≤◌, List, [], ◌∷◌, ◌++◌, length, slice_index_or, refl, sym, ap, ◌∙◌, subst, arith, add-one}
+use Rattle.std.proofs.lemmas.Bool.{cases_lt, cases_eq}
+use Rattle.std.proofs.lemmas.Bool.Decides.{nat_tests}
+use Rattle.std.proofs.lemmas.List.{length-map, length-append, get_or-map, get_or_append_left, map-append}
+use Rattle.std.proofs.Math.Seq.{get_or-append_seam}
+use Rattle.std.specs.List.Sorted.{IsNonDecreasing, IsStrictlyIncreasing}
+use Rattle.exact_cross.specs.declared.segment.Segment.{Segment}
+use Rattle.exact_cross.specs.Points.{points_of, places}
+use Rattle.exact_cross.specs.Covers.{IsLongest}
+use Rattle.exact_cross.specs.Segments.{starts_of, EachRun, IsSteepSegment, IsFitted}
+use Rattle.exact_cross.specs.Checked.{IsInRange, IsLeastCover, AreChecked}
+use Rattle.exact_cross.proofs.CallerLemmas.{IsLeastCover-from_greedy, AreChecked-from_greedy}
+use Rattle.segmenter.specs.Segmentation.{IsSegmentation}
+use Rattle.levels.specs.declared.level.Level.{Level}
+use Rattle.levels.specs.KeyPoints.{xs_of, ys_of}
+use Rattle.levels.specs.Indexes.{first_xs, level_at, xs_at, ys_at, points_at, eps_at, IsLevel, places_below}
+use Rattle.levels.specs.Stored.{segments_of, AreLevels, AreStored}
+use Rattle.levels.proofs.SegmentLemmas.{fewer_runs, run_at, fitted_runs}
+use Rattle.levels.proofs.LevelLemmas.{heights_few, xs_at-base, ys_at-base, xs_at-above, ys_at-above, AscendsAt, ascends_at, some_at, xs_at-same, ys_at-same, xs_at-length, IsLevel-in}
+
+pub segments_of-count : (levels : List Level) → length (segments_of levels) ≡ length levels
+segments_of-count levels = length-map levels (λ (level : Level). level.segments.items)
+
+pub segments_of-push : (levels : List Level) (level : Level) → segments_of (levels ++ level ∷ []) ≡ segments_of levels ++ level.segments.items ∷ []
+segments_of-push levels level = map-append (λ (level : Level). level.segments.items) levels (level ∷ [])
+
+pub level_at-kept : (levels : List Level) (i : ℕ) (d : Level) → i < length levels → level_at (segments_of levels) i ≡ (slice_index_or levels i d).segments.items
+level_at-kept levels i d inside = get_or-map (λ (level : Level). level.segments.items) levels i d [] inside
+
+pub level_at-below : (levels : List (List Segment)) (more : List Segment) (i : ℕ) → i < length levels → level_at levels i ≡ level_at (levels ++ more ∷ []) i
+level_at-below levels more i inside = sym (get_or_append_left levels (more ∷ []) [] i inside)
+
+pub level_at-last : (levels : List (List Segment)) (more : List Segment) (i : ℕ) → i ≡ length levels → more ≡ level_at (levels ++ more ∷ []) i
+level_at-last levels more i last = sym (ap (level_at (levels ++ more ∷ [])) last ∙ get_or-append_seam levels more [] [])
+
+-- ---- one more level
+
+pub AreLevels-push : (keys : List ℕ) (eps eps_rec : ℕ) (levels : List Level) (level : Level) → AreLevels keys eps eps_rec levels →
+    ((i : ℕ) → i + 1 ≡ length levels → length (level_at (segments_of levels) i) ≢ 1) →
+    IsSegmentation (points_at keys (segments_of levels) (length levels)) (eps_at eps eps_rec (length levels)) 0 (length (xs_at keys (segments_of levels) (length levels))) level.segments.items →
+    (0 < length levels → level.xs.items ≡ xs_at keys (segments_of levels) (length levels)) →
+    (0 < length levels → level.ys.items ≡ ys_at keys (segments_of levels) (length levels)) →
+    AreLevels keys eps eps_rec (levels ++ level ∷ [])
+AreLevels-push keys eps eps_rec levels level so_far unfinished here xs ys = record {
+  never_falls = so_far.never_falls;
+  few = so_far.few;
+  bounded = so_far.bounded;
+  bounded_rec = so_far.bounded_rec;
+  each = λ i inside. rw (segments_of-push levels level) (each i (omega (arith, count, inside)));
+  others = λ i inside. rw (segments_of-push levels level) (others i (omega (arith, count, inside)));
+  kept = λ i d above inside. rw (segments_of-push levels level) (kept i d above (omega (arith, count, inside)));
+}
+  where
+    old : List (List Segment)
+    old = segments_of levels
+
+    more : List Segment
+    more = level.segments.items
+
+    count : length (levels ++ level ∷ []) ≡ length levels + 1
+    count = length-append levels (level ∷ [])
+
+    same : (i : ℕ) → i ≤ length levels → (k : ℕ) → k < i → level_at (segments_of levels) k ≡ level_at (segments_of levels ++ level.segments.items ∷ []) k
+    same i within k less = level_at-below (segments_of levels) level.segments.items k (omega (arith, segments_of-count levels))
+
+    each : (i : ℕ) → i < length levels + 1 → IsLevel keys eps eps_rec (segments_of levels ++ level.segments.items ∷ []) i
+    each i inside = elim (cases_lt i (length levels)) [
+      | inl before ↦ IsLevel-in keys eps eps_rec (segments_of levels) (segments_of levels ++ level.segments.items ∷ []) i (level_at (segments_of levels) i) (same i (omega arith))
+          (level_at-below (segments_of levels) level.segments.items i (omega (arith, segments_of-count levels))) (so_far.each i before)
+      | inr from ↦
+          let last : length levels ≡ i = omega arith in
+          subst (λ (k : ℕ). IsLevel keys eps eps_rec (segments_of levels ++ level.segments.items ∷ []) k) last
+          (IsLevel-in keys eps eps_rec (segments_of levels) (segments_of levels ++ level.segments.items ∷ []) (length levels) level.segments.items (same (length levels) (omega arith))
+          (level_at-last (segments_of levels) level.segments.items (length levels) (sym (segments_of-count levels))) here)
+    ]
+
+    others : (i : ℕ) → i + 1 < length levels + 1 → length (level_at (segments_of levels ++ level.segments.items ∷ []) i) ≢ 1
+    others i inside =
+        let is = level_at-below (segments_of levels) level.segments.items i (omega (arith, segments_of-count levels)) in
+        λ one. elim (cases_lt (i + 1) (length levels)) [
+          | inl before ↦ so_far.others i before (ap length is ∙ one)
+          | inr last ↦ unfinished i (omega arith) (ap length is ∙ one)
+        ]
+
+    kept : (i : ℕ) (d : Level) → 0 < i → i < length levels + 1 →
+        ((slice_index_or (levels ++ level ∷ []) i d).xs.items ≡ xs_at keys (segments_of levels ++ level.segments.items ∷ []) i)
+        × ((slice_index_or (levels ++ level ∷ []) i d).ys.items ≡ ys_at keys (segments_of levels ++ level.segments.items ∷ []) i)
+    kept i d above inside = elim (cases_lt i (length levels)) [
+      | inl before ↦
+          let is = get_or_append_left levels (level ∷ []) d i before in
+          let own = so_far.kept i d above before in (
+            ap (λ (l : Level). l.xs.items) is ∙ own.0 ∙ xs_at-same keys (segments_of levels) (segments_of levels ++ level.segments.items ∷ []) i (same i (omega arith)),
+            ap (λ (l : Level). l.ys.items) is ∙ own.1 ∙ ys_at-same keys (segments_of levels) (segments_of levels ++ level.segments.items ∷ []) i (same i (omega arith)),
+          )
+      | inr from ↦
+          let last : i ≡ length levels = omega arith in
+          let is : slice_index_or (levels ++ level ∷ []) i d ≡ level = ap (λ (k : ℕ). slice_index_or (levels ++ level ∷ []) k d) last ∙ get_or-append_seam levels level [] d in (
+            ap (λ (l : Level). l.xs.items) is ∙ xs (omega arith) ∙ ap (xs_at keys (segments_of levels)) (sym last)
+                ∙ xs_at-same keys (segments_of levels) (segments_of levels ++ level.segments.items ∷ []) i (same i (omega arith)),
+            ap (λ (l : Level). l.ys.items) is ∙ ys (omega arith) ∙ ap (ys_at keys (segments_of levels)) (sym last)
+                ∙ ys_at-same keys (segments_of levels) (segments_of levels ++ level.segments.items ∷ []) i (same i (omega arith)),
+          )
+    ]
+
+-- a new last level that has more runs than one
+pub level_at-pushed : (levels : List Level) (level : Level) (i : ℕ) → i ≡ length levels → length level.segments.items ≢ 1 → length (level_at (segments_of (levels ++ level ∷ [])) i) ≢ 1
+level_at-pushed levels level i last more =
+    rw (segments_of-push levels level) (λ one. more (ap length (level_at-last (segments_of levels) level.segments.items i (omega (arith, segments_of-count levels))) ∙ one))
+
+-- all levels
+pub AreStored-in : (keys : List ℕ) (eps eps_rec : ℕ) (levels : List Level) (level : Level) → AreLevels keys eps eps_rec (levels ++ level ∷ []) → 0 < length keys →
+    length level.segments.items ≡ 1 → AreStored keys eps eps_rec (levels ++ level ∷ [])
+AreStored-in keys eps eps_rec levels level all some one =
+    let count = length-append levels (level ∷ []) in
+    let total = segments_of-count (levels ++ level ∷ []) in
+    record {
+      first = all;
+      index = record {
+        none = λ empty. absurd (omega arith);
+        some = λ key. omega (arith, count, total);
+        each = λ i inside. all.each i (omega (arith, total, inside));
+        last = λ i at. rw (segments_of-push levels level)
+            (ap length (sym (level_at-last (segments_of levels) level.segments.items i (omega (arith, at, count, total, segments_of-count levels)))) ∙ one);
+        others = λ i inside. all.others i (omega (arith, total, inside));
+      };
+    }
+
+-- ---- the list of the next level
+
+pub ascends_next : (keys : List ℕ) (eps eps_rec : ℕ) (levels : List Level) → AreLevels keys eps eps_rec levels → (i : ℕ) → i ≤ length levels → AscendsAt keys (segments_of levels) i
+ascends_next keys eps eps_rec levels all i within = ascends_at keys eps eps_rec (segments_of levels) all.never_falls i (λ k less. all.each k (omega arith))
+
+-- above a level with more runs than one the list is shorter
+pub fewer_places : (keys : List ℕ) (eps eps_rec : ℕ) (levels : List Level) (level : Level) → AreLevels keys eps eps_rec (levels ++ level ∷ []) → 0 < length keys →
+    length level.segments.items ≢ 1 →
+    length (xs_at keys (segments_of (levels ++ level ∷ [])) (length levels + 1)) < length (xs_at keys (segments_of levels) (length levels))
+fewer_places keys eps eps_rec levels level all some more =
+    let new = segments_of (levels ++ level ∷ []) in
+    let n = length levels in
+    let count = length-append levels (level ∷ []) in
+    let below = ascends_next keys eps eps_rec (levels ++ level ∷ []) all n (omega (arith, count)) in
+    let runs = fewer_runs (points_at keys new n) (eps_at eps eps_rec n) (level_at new n) below.ascends (all.each n (omega (arith, count))).greedy in
+    let points = some_at keys eps eps_rec new all.never_falls some n (λ k less. all.each k (omega (arith, count))) in
+    let is : length (level_at new n) ≡ length level.segments.items =
+    ap (λ (segments : List (List Segment)). length (level_at segments n)) (segments_of-push levels level)
+    ∙ ap length (sym (level_at-last (segments_of levels) level.segments.items n (sym (segments_of-count levels)))) in
+    let same : xs_at keys (segments_of levels) n ≡ xs_at keys new n =
+    xs_at-same keys (segments_of levels) new n (λ k less.
+    level_at-below (segments_of levels) level.segments.items k (omega (arith, segments_of-count levels))
+    ∙ ap (λ (segments : List (List Segment)). level_at segments k) (sym (segments_of-push levels level))) in
+    omega (arith, xs_at-length keys new n, runs.0, runs.1 points, is, more, ap length same)
+
+-- ---- how many places there are
+
+pub places_below-same : (keys : List ℕ) (levels others : List (List Segment)) (n : ℕ) → ((k : ℕ) → k < n → level_at levels k ≡ level_at others k) →
+    places_below keys levels n ≡ places_below keys others n
+unfolding places_below
+places_below-same keys levels others zero same = refl
+places_below-same keys levels others (suc n) same =
+    omega (arith, places_below-same keys levels others n (λ k less. same k (omega arith)), ap length (xs_at-same keys levels others n (λ k less. same k (omega arith))))
+
+places_below-more : (keys : List ℕ) (levels : List (List Segment)) (n : ℕ) → places_below keys levels (n + 1) ≡ places_below keys levels n + length (xs_at keys levels n)
+unfolding places_below
+places_below-more keys levels n = rw add-one refl
+
+pub places_below-push : (keys : List ℕ) (levels : List Level) (level : Level) →
+    places_below keys (segments_of (levels ++ level ∷ [])) (length levels + 1) ≡ places_below keys (segments_of levels) (length levels) + length (xs_at keys (segments_of levels) (length levels))
+places_below-push keys levels level =
+    let same : (k : ℕ) → k < length levels → level_at (segments_of levels) k ≡ level_at (segments_of (levels ++ level ∷ [])) k =
+    λ k less. level_at-below (segments_of levels) level.segments.items k (omega (arith, segments_of-count levels))
+    ∙ ap (λ (segments : List (List Segment)). level_at segments k) (sym (segments_of-push levels level)) in
+    omega (
+      arith,
+      places_below-more keys (segments_of (levels ++ level ∷ [])) (length levels),
+      places_below-same keys (segments_of levels) (segments_of (levels ++ level ∷ [])) (length levels) same,
+      ap length (xs_at-same keys (segments_of levels) (segments_of (levels ++ level ∷ [])) (length levels) same),
+    )
+
+-- ---- the level above the last one
+
+pub eps_at-bounded : (eps eps_rec i : ℕ) → eps ≤ 1048576 → eps_rec ≤ 1048576 → eps_at eps eps_rec i ≤ 1048576
+eps_at-bounded eps eps_rec i low high = grind (arith, nat_tests)
+
+pub eps_at-above : (eps eps_rec i : ℕ) → 0 < i → eps_rec ≡ eps_at eps eps_rec i
+eps_at-above eps eps_rec i above = grind (arith, nat_tests)
+
+pub base_level : (keys : List ℕ) (eps eps_rec : ℕ) (levels : List Level) (xs ys : List ℕ) (segments : List Segment) → length levels ≡ 0 → xs ≡ xs_of keys → ys ≡ ys_of keys →
+    IsSegmentation (points_of xs ys) eps 0 (length xs) segments →
+    IsSegmentation (points_at keys (segments_of levels) (length levels)) (eps_at eps eps_rec (length levels)) 0 (length (xs_at keys (segments_of levels) (length levels))) segments
+base_level keys eps eps_rec levels xs ys segments none x_is y_is level =
+    rw (none, xs_at-base keys (segments_of levels), ys_at-base keys (segments_of levels))
+    (subst (λ (ys : List ℕ). IsSegmentation (points_of (xs_of keys) ys) eps 0 (length (xs_of keys)) segments) y_is
+    (subst (λ (xs : List ℕ). IsSegmentation (points_of xs ys) eps 0 (length xs) segments) x_is level))
+
+pub base_places : (keys : List ℕ) (levels : List Level) (xs : List ℕ) → length levels ≡ 0 → xs ≡ xs_of keys →
+    length xs ≡ length (xs_at keys (segments_of levels) (length levels))
+base_places keys levels xs none is = rw (none, xs_at-base keys (segments_of levels)) (ap length is)
+
+pub above_xs : (keys : List ℕ) (levels : List Level) (below : ℕ) (level : Level) (list xs : List ℕ) (segments : List Segment) → below + 1 ≡ length levels →
+    level ≡ slice_index_or levels below level → segments ≡ level.segments.items → list ≡ xs_at keys (segments_of levels) below → xs ≡ first_xs list segments →
+    xs ≡ xs_at keys (segments_of levels) (length levels)
+above_xs keys levels below level list xs segments last at segments_are list_is is =
+    let own : segments ≡ level_at (segments_of levels) below =
+    segments_are ∙ ap (λ (l : Level). l.segments.items) at ∙ sym (level_at-kept levels below level (omega arith)) in
+    is ∙ ap (λ (xs : List ℕ). first_xs xs segments) list_is ∙ ap (first_xs (xs_at keys (segments_of levels) below)) own
+    ∙ sym (xs_at-above keys (segments_of levels) below) ∙ ap (xs_at keys (segments_of levels)) last
+
+pub above_ys : (keys : List ℕ) (levels : List Level) (below : ℕ) (xs ys : List ℕ) → below + 1 ≡ length levels → xs ≡ xs_at keys (segments_of levels) (length levels) →
+    ys ≡ places (length xs) → ys ≡ ys_at keys (segments_of levels) (length levels)
+above_ys keys levels below xs ys last xs_are is =
+    is ∙ ap (λ (xs : List ℕ). places (length xs)) (xs_are ∙ ap (xs_at keys (segments_of levels)) (sym last)) ∙ ap places (xs_at-length keys (segments_of levels) below)
+    ∙ sym (ys_at-above keys (segments_of levels) below) ∙ ap (ys_at keys (segments_of levels)) last
+
+pub above_level : (keys : List ℕ) (eps eps_rec : ℕ) (levels : List Level) (xs ys : List ℕ) (segments : List Segment) → 0 < length levels →
+    xs ≡ xs_at keys (segments_of levels) (length levels) → ys ≡ ys_at keys (segments_of levels) (length levels) →
+    IsSegmentation (points_of xs ys) eps_rec 0 (length xs) segments →
+    IsSegmentation (points_at keys (segments_of levels) (length levels)) (eps_at eps eps_rec (length levels)) 0 (length (xs_at keys (segments_of levels) (length levels))) segments
+above_level keys eps eps_rec levels xs ys segments above xs_are ys_are level =
+    subst (λ (e : ℕ). IsSegmentation (points_at keys (segments_of levels) (length levels)) e 0 (length (xs_at keys (segments_of levels) (length levels))) segments)
+    (eps_at-above eps eps_rec (length levels) above)
+    (subst (λ (ys : List ℕ). IsSegmentation (points_of (xs_at keys (segments_of levels) (length levels)) ys) eps_rec 0 (length (xs_at keys (segments_of levels) (length levels))) segments) ys_are
+    (subst (λ (xs : List ℕ). IsSegmentation (points_of xs ys) eps_rec 0 (length xs) segments) xs_are level))
+
+-- the runs start in the list
+pub starts_inside : (keys : List ℕ) (eps eps_rec : ℕ) (levels : List Level) (below : ℕ) (level : Level) (list : List ℕ) (segments : List Segment) → AreLevels keys eps eps_rec levels →
+    below < length levels → level ≡ slice_index_or levels below level → segments ≡ level.segments.items → list ≡ xs_at keys (segments_of levels) below →
+    (k : ℕ) (d : Segment) → k < length segments → (slice_index_or segments k d).start < length list
+starts_inside keys eps eps_rec levels below level list segments all inside at segments_are list_is k d place =
+    let own : segments ≡ level_at (segments_of levels) below =
+    segments_are ∙ ap (λ (l : Level). l.segments.items) at ∙ sym (level_at-kept levels below level inside) in
+    let here = all.each below inside in
+    let p = points_at keys (segments_of levels) below in
+    let e = eps_at eps eps_rec below in
+    let run = run_at (IsSteepSegment p e) (IsLongest p e p.count) 0 p.count (level_at (segments_of levels) below) k d (omega (arith, ap length own)) here.greedy here.steep in
+    omega (arith, run.some, run.within, ap (λ (s : List Segment). (slice_index_or s k d).start) own, ap length list_is)
+
+-- the same by the lists themselves
+pub ascends_list : (keys : List ℕ) (eps eps_rec : ℕ) (levels : List Level) (xs ys : List ℕ) → AreLevels keys eps eps_rec levels →
+    xs ≡ xs_at keys (segments_of levels) (length levels) → ys ≡ ys_at keys (segments_of levels) (length levels) →
+    (length ys ≡ length xs) × IsStrictlyIncreasing xs × IsNonDecreasing ys × (length xs < 2 ^ 32)
+ascends_list keys eps eps_rec levels xs ys all xs_are ys_are =
+    let here = ascends_next keys eps eps_rec levels all (length levels) (omega arith) in (
+      omega (arith, ap length xs_are, ap length ys_are, here.same_length),
+      subst IsStrictlyIncreasing (sym xs_are) here.rises,
+      subst IsNonDecreasing (sym ys_are) here.never_falls,
+      omega (arith, ap length xs_are, here.few, all.few),
+    )
+
+-- ---- what is known of each level
+
+-- each list is shorter than the one below, so that there are no more levels than keys
+list_and_place : (keys : List ℕ) (eps eps_rec : ℕ) (levels : List Level) → AreLevels keys eps eps_rec levels → 0 < length keys → (i : ℕ) → i < length levels →
+    length (xs_at keys (segments_of levels) i) + i ≤ length keys
+list_and_place keys eps eps_rec levels all some zero inside = omega (arith, (ascends_next keys eps eps_rec levels all 0 (omega arith)).few)
+list_and_place keys eps eps_rec levels all some (suc i) inside =
+    let here = ascends_next keys eps eps_rec levels all i (omega arith) in
+    let segments = segments_of levels in
+    let runs = fewer_runs (points_at keys segments i) (eps_at eps eps_rec i) (level_at segments i) here.ascends (all.each i (omega arith)).greedy in
+    let points = some_at keys eps eps_rec segments all.never_falls some i (λ k less. all.each k (omega arith)) in
+    omega (
+      arith,
+      list_and_place keys eps eps_rec levels all some i (omega arith),
+      runs.0,
+      runs.1 points,
+      all.others i (omega arith),
+      xs_at-length keys segments i,
+      ap (λ (k : ℕ). length (xs_at keys segments k)) (add-one i),
+    )
+
+pub levels_few : (keys : List ℕ) (eps eps_rec : ℕ) (levels : List Level) → AreStored keys eps eps_rec levels → length levels ≤ length keys
+levels_few keys eps eps_rec levels stored = elim (cases_lt 0 (length levels)) [
+  | inr none ↦ omega arith
+  | inl level ↦
+      let count = segments_of-count levels in
+      let some : 0 < length keys = elim (cases_eq (length keys) 0) [ inl none ↦ absurd (omega (arith, stored.index.none none)) | inr key ↦ omega arith ] in
+      let last = length levels - 1 in
+      let points = some_at keys eps eps_rec (segments_of levels) stored.first.never_falls some last (λ k less. stored.first.each k (omega arith)) in
+      omega (arith, list_and_place keys eps eps_rec levels stored.first some last (omega arith))
+]
+
+-- each level's lines are in range and fit
+pub fitted_level : (keys : List ℕ) (eps eps_rec : ℕ) (levels : List Level) → AreLevels keys eps eps_rec levels → (i : ℕ) → i < length levels →
+    EachRun (λ segment e. IsInRange segment.line) (length (xs_at keys (segments_of levels) i)) (level_at (segments_of levels) i)
+    × EachRun (IsFitted (points_at keys (segments_of levels) i) (eps_at eps eps_rec i)) (length (xs_at keys (segments_of levels) i)) (level_at (segments_of levels) i)
+fitted_level keys eps eps_rec levels all i inside =
+    let here = ascends_next keys eps eps_rec levels all i (omega arith) in
+    let segments = segments_of levels in
+    fitted_runs (points_at keys segments i) (eps_at eps eps_rec i) 0 (length (xs_at keys segments i)) (level_at segments i) here.ascends (omega arith)
+    (λ j low. omega (arith, heights_few keys segments i here j low, all.few)) (eps_at-bounded eps eps_rec i all.bounded all.bounded_rec)
+    (all.each i inside).greedy (all.each i inside).steep
+
+pub least_level : (keys : List ℕ) (eps eps_rec : ℕ) (levels : List Level) → AreLevels keys eps eps_rec levels → (i : ℕ) → i < length levels →
+    IsLeastCover (points_at keys (segments_of levels) i) (eps_at eps eps_rec i) 0 (length (xs_at keys (segments_of levels) i)) (starts_of (level_at (segments_of levels) i))
+least_level keys eps eps_rec levels all i inside =
+    IsLeastCover-from_greedy (points_at keys (segments_of levels) i) (eps_at eps eps_rec i) 0 (length (xs_at keys (segments_of levels) i)) (starts_of (level_at (segments_of levels) i))
+    (all.each i inside).greedy
+
+pub checked_level : (keys : List ℕ) (eps eps_rec : ℕ) (levels : List Level) → AreLevels keys eps eps_rec levels → (i : ℕ) → i < length levels →
+    AreChecked (points_at keys (segments_of levels) i) (eps_at eps eps_rec i) (level_at (segments_of levels) i)
+checked_level keys eps eps_rec levels all i inside =
+    let level = all.each i inside in
+    let fitted = fitted_level keys eps eps_rec levels all i inside in
+    AreChecked-from_greedy (points_at keys (segments_of levels) i) (eps_at eps eps_rec i) 0 (length (xs_at keys (segments_of levels) i)) (level_at (segments_of levels) i) refl refl
+    level.greedy fitted.0 fitted.1 level.cuts

@@ -1,0 +1,58 @@
+-- The one index of a key list: levels of segments, each over the first x of the runs below it.
+-- Source: P. Ferragina and G. Vinciguerra, The PGM-index, PVLDB 13(8), 2020, section 2.
+use Rattle.std.specs.Prelude.{◌≡◌, ◌≢◌, ◌==◌, if◌then◌else◌, ℕ, zero, suc, ◌+◌, ◌<◌, List, [], length, map, slice_index, slice_index_or}
+use Rattle.exact_cross.specs.declared.segment.Segment.{Segment}
+use Rattle.exact_cross.specs.Points.{Points, points_of, places}
+use Rattle.segmenter.specs.Segmentation.{IsSegmentation}
+use Rattle.levels.specs.KeyPoints.{xs_of, ys_of}
+
+-- an index: the keys of a file, the error bound of level 0, that of the levels above, and the segments of each level, the lowest first
+pub record PgmIndex : Type 0 where
+  pub keys : List ℕ
+  pub eps : ℕ
+  pub eps_rec : ℕ
+  pub levels : List (List Segment)
+
+-- the first x of each run
+abbrev pub first_xs : List ℕ → List Segment → List ℕ
+first_xs xs segments = map (λ segment. slice_index xs segment.start) segments
+
+-- the segments of level i, counted from the lowest
+abbrev pub level_at : List (List Segment) → ℕ → List Segment
+level_at levels i = slice_index_or levels i []
+
+-- the x of level i: at level 0 those of the points of the keys, and above the first x of the runs below
+unfoldable pub xs_at : List ℕ → List (List Segment) → ℕ → List ℕ
+xs_at keys levels zero = xs_of keys
+xs_at keys levels (suc i) = first_xs (xs_at keys levels i) (level_at levels i)
+
+-- the y of level i: at level 0 the positions in the file, and above the places
+unfoldable pub ys_at : List ℕ → List (List Segment) → ℕ → List ℕ
+ys_at keys levels zero = ys_of keys
+ys_at keys levels (suc i) = places (length (level_at levels i))
+
+-- the points of level i
+abbrev pub points_at : List ℕ → List (List Segment) → ℕ → Points
+points_at keys levels i = points_of (xs_at keys levels i) (ys_at keys levels i)
+
+-- the error bound of level i
+abbrev pub eps_at : ℕ → ℕ → ℕ → ℕ
+eps_at eps eps_rec i = if i == 0 then eps else eps_rec
+
+-- the segments of level i are the segmentation of its points
+abbrev pub IsLevel : (keys : List ℕ) (eps eps_rec : ℕ) (levels : List (List Segment)) (i : ℕ) → Type 0
+IsLevel keys eps eps_rec levels i =
+    IsSegmentation (points_at keys levels i) (eps_at eps eps_rec i) 0 (length (xs_at keys levels i)) (level_at levels i)
+
+-- each level is the segmentation of its points, and the last level is the first of one run; no key, no level
+pub record IsIndex (keys : List ℕ) (eps eps_rec : ℕ) (levels : List (List Segment)) : Type 0 where
+  pub none : length keys ≡ 0 → length levels ≡ 0
+  pub some : 0 < length keys → 0 < length levels
+  pub each : (i : ℕ) → i < length levels → IsLevel keys eps eps_rec levels i
+  pub last : (i : ℕ) → i + 1 ≡ length levels → length (level_at levels i) ≡ 1
+  pub others : (i : ℕ) → i + 1 < length levels → length (level_at levels i) ≢ 1
+
+-- how many places the lists of the first n levels have together
+unfoldable pub places_below : List ℕ → List (List Segment) → ℕ → ℕ
+places_below keys levels zero = 0
+places_below keys levels (suc n) = places_below keys levels n + length (xs_at keys levels n)

@@ -1,0 +1,6 @@
+pub mod KeyPoints
+pub mod Shown
+pub mod Groups
+pub mod Indexes
+pub mod Stored
+pub mod Costs

@@ -1,0 +1,30 @@
+-- How an index is kept.
+use Rattle.std.specs.Prelude.{◌≡◌, ◌≢◌, ℕ, ◌+◌, ◌<◌, ◌≤◌, ◌^◌, List, length, map, slice_index_or}
+use Rattle.std.specs.List.Sorted.{IsNonDecreasing}
+use Rattle.exact_cross.specs.declared.segment.Segment.{Segment}
+use Rattle.levels.specs.declared.level.Level.{Level}
+use Rattle.levels.specs.Indexes.{IsIndex, IsLevel, level_at, xs_at, ys_at}
+
+-- the segments of each level
+abbrev pub segments_of : List Level → List (List Segment)
+segments_of levels = map (λ level. level.segments.items) levels
+
+-- above level 0 the lists of x and y are kept with the segments
+abbrev pub IsKept : List ℕ → List Level → ℕ → Level → Type 0
+IsKept keys levels i level =
+    (level.xs.items ≡ xs_at keys (segments_of levels) i) × (level.ys.items ≡ ys_at keys (segments_of levels) i)
+
+-- the first levels of the index of sorted keys: each is the segmentation of its points, and those below the last have more runs than one
+pub record AreLevels (keys : List ℕ) (eps eps_rec : ℕ) (levels : List Level) : Type 0 where
+  pub never_falls : IsNonDecreasing keys
+  pub few : length keys < 2 ^ 32
+  pub bounded : eps ≤ 1048576
+  pub bounded_rec : eps_rec ≤ 1048576
+  pub each : (i : ℕ) → i < length levels → IsLevel keys eps eps_rec (segments_of levels) i
+  pub others : (i : ℕ) → i + 1 < length levels → length (level_at (segments_of levels) i) ≢ 1
+  pub kept : (i : ℕ) (d : Level) → 0 < i → i < length levels → IsKept keys levels i (slice_index_or levels i d)
+
+-- all levels
+pub record AreStored (keys : List ℕ) (eps eps_rec : ℕ) (levels : List Level) : Type 0 where
+  pub first : AreLevels keys eps eps_rec levels
+  pub index : IsIndex keys eps eps_rec (segments_of levels)

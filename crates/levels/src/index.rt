@@ -1,0 +1,145 @@
+// The recursive index, and its parts.
+ghost use Rattle.std.specs.Prelude.{◌≡◌, ◌+◌, ◌<◌, ◌≤◌, ℕ, List, length};
+ghost use Rattle.exact_cross.specs.declared.segment.Segment.{Segment};
+ghost use Rattle.exact_cross.specs.Checked.{IsLeastCover, AreChecked};
+ghost use Rattle.exact_cross.specs.Segments.{starts_of};
+ghost use Rattle.levels.specs.Indexes.{IsIndex, IsLevel, level_at, xs_at, ys_at, points_at, eps_at};
+ghost use Rattle.levels.specs.Stored.{AreLevels, AreStored, segments_of};
+
+use crate::keys::Keys;
+use crate::level::Level;
+use exact_cross::{MAX_EPSILON, Segment};
+use std::marker::Model;
+
+/// The recursive PGM-index of the keys of a file. Seen as a record of the keys, the two error
+/// bounds and the segments of each level, the lowest first.
+///
+/// 1. It is the one index of its keys and bounds: level 0 stands on the points of the keys, each
+///    level above on the first x of the runs below it, and each has the fewest segments that lines
+///    within its bound can do with. The last level is the first with one run. No key, no level.
+/// 2. The keys are kept once: level 0 uses the lists of [`Keys`].
+///
+/// Source: Ferragina and Vinciguerra, PVLDB 13(8), 2020, section 2.
+#[derive(Drop)]
+pub struct Index {
+    keys: Keys,
+    eps: u32,
+    eps_rec: u32,
+    stored: Vec<Level>,
+}
+
+impl Model for Index {
+    ghost use Rattle.levels.specs.Indexes.{PgmIndex};
+
+    ghost Value = { PgmIndex };
+
+    ghost use Rattle.levels.specs.Stored.{AreStored, segments_of};
+
+    ghost view = { λ index. record {
+      keys = index.keys;
+      eps = index.eps;
+      eps_rec = index.eps_rec;
+      levels = segments_of index.stored.items;
+    } };
+
+    ghost invariant = { λ index. AreStored index.keys index.eps index.eps_rec index.stored.items };
+}
+
+impl Index {
+    /// An index of its parts.
+    pub(crate) fn from_levels(keys: Keys, eps: u32, eps_rec: u32, stored: Vec<Level>) -> Index
+        requires { AreStored keys eps eps_rec stored.items }
+        ensures keys { result.keys ≡ keys }
+        ensures eps { result.eps ≡ eps }
+        ensures eps_rec { result.eps_rec ≡ eps_rec }
+        ensures levels { result.levels ≡ segments_of stored.items }
+    {
+        Index {
+            keys,
+            eps,
+            eps_rec,
+            stored,
+        }
+    }
+
+    /// How many levels there are, none where there is no key.
+    pub fn levels(&self) -> u32
+        ensures count { result ≡ length self.now.levels }
+        ensures index { IsIndex self.now.keys self.now.eps self.now.eps_rec self.now.levels }
+    {
+        self.stored.len() as u32
+    }
+
+    /// The segments of level `i`, counted from 0, the lowest.
+    ///
+    /// They are as few as lines within the level's bound can do with, and a checker of covers takes
+    /// them.
+    pub fn level(&self, i: u32) -> &[Segment]
+        requires { i < length self.now.levels }
+        ensures segments { result.now ≡ level_at self.now.levels i }
+        ensures level { IsLevel self.now.keys self.now.eps self.now.eps_rec self.now.levels i }
+        ensures least { IsLeastCover (points_at self.now.keys self.now.levels i)
+            (eps_at self.now.eps self.now.eps_rec i) 0
+            (length (xs_at self.now.keys self.now.levels i)) (starts_of result.now) }
+        ensures checked { AreChecked (points_at self.now.keys self.now.levels i)
+            (eps_at self.now.eps self.now.eps_rec i) result.now }
+    {
+        let level = &self.stored[i as usize];
+        &level.segments
+    }
+
+    /// The x of level `i`: at level 0 those of the points of the keys, above the first x of the
+    /// runs below. They rise.
+    pub fn list(&self, i: u32) -> &[u64]
+        requires { i < length self.now.levels }
+        ensures { result.now ≡ xs_at self.now.keys self.now.levels i }
+    {
+        list_at(&self.keys, &self.stored, i as usize)
+    }
+
+    /// The y of level `i`: at level 0 the positions of its x in the file, above the places 0, 1, ..
+    pub fn ranks(&self, i: u32) -> &[u32]
+        requires { i < length self.now.levels }
+        ensures { result.now ≡ ys_at self.now.keys self.now.levels i }
+    {
+        if i == 0 {
+            return self.keys.ys();
+        }
+        let level = &self.stored[i as usize];
+        &level.ys
+    }
+
+    /// The error bound of level `i`.
+    pub(crate) fn eps_of(&self, i: u32) -> u32
+        ensures bound { result ≡ eps_at self.now.eps self.now.eps_rec i }
+        ensures bounded { result ≤ MAX_EPSILON }
+    {
+        if i == 0 { self.eps } else { self.eps_rec }
+    }
+
+    /// The keys, with their points.
+    pub fn keys(&self) -> &Keys
+        ensures { result.now ≡ self.now.keys }
+    {
+        &self.keys
+    }
+}
+
+/// The x of level `i` of the levels so far.
+pub fn list_at<'a>(keys: &'a Keys, levels: &'a [Level], i: usize) -> &'a [u64]
+    requires inside { i < length levels.now }
+    requires levels { (eps : ℕ) × (eps_rec : ℕ) × AreLevels keys.now eps eps_rec levels.now }
+    ensures { result.now ≡ xs_at keys.now (segments_of levels.now) i }
+{
+    if i == 0 {
+        return keys.xs();
+    }
+    let level = &levels[i];
+    &level.xs
+}
+
+/// Keys and error bounds have one index: two lists of levels that are one are equal.
+pub fn one_index()
+    ensures { (keys : List ℕ) (eps eps_rec : ℕ) (one two : List (List Segment)) →
+        IsIndex keys eps eps_rec one → IsIndex keys eps eps_rec two → one ≡ two }
+{}

@@ -1,0 +1,121 @@
+// The keys of a file, with the points that they stand for.
+ghost use Rattle.std.specs.Prelude.{◌≡◌, ◌+◌, ◌<◌, ◌≤◌, ◌^◌, length, slice_index, vec_len, IfOk, IsTrue, ◌↔◌};
+ghost use Rattle.std.specs.List.Sorted.{IsNonDecreasing};
+ghost use Rattle.window_search.specs.Searches.{lb};
+ghost use Rattle.levels.specs.KeyPoints.{distinct_of, xs_of, ys_of};
+
+use crate::parts::{Parts, parts_of};
+use budget::NoMemory;
+use std::alloc::Global;
+use std::marker::Model;
+
+/// The keys of a file, which may repeat, with the points that level 0 stands on. Seen as the list
+/// of the keys.
+///
+/// Each distinct key is a point at its first position in the file. A key that stands more than once
+/// has a closing point behind it, one to its right at the position after its last one, unless the
+/// next number is a key or past 64 bits.
+///
+/// 1. The keys never fall, and are fewer than 2^32.
+/// 2. Where no key repeats, the keys are the distinct ones and the x of the points, and stand once.
+#[derive(Drop)]
+pub struct Keys {
+    file: Vec<u64>,
+    distinct: Vec<u64>,
+    xs: Vec<u64>,
+    ys: Vec<u32>,
+    repeats: bool,
+}
+
+impl Model for Keys {
+    ghost use Rattle.std.specs.Prelude.{List, ℕ};
+    ghost use Rattle.levels.specs.Shown.{AreOfKeys};
+
+    ghost Value = { List ℕ };
+
+    ghost view = { λ keys. keys.file.items };
+
+    ghost invariant = { λ keys. AreOfKeys keys.file.items keys.distinct.items keys.xs.items keys.ys.items keys.repeats };
+}
+
+impl Keys {
+    /// The keys of a file, with their points.
+    ///
+    /// Where no key repeats, the keys are kept once, and beside them a height of 4 bytes a key.
+    ///
+    /// # Errors
+    ///
+    /// `NoMemory` alone. Then the keys are given up.
+    pub fn of(alloc: Global, sorted: Vec<u64>) -> Result<Keys, NoMemory>
+        requires never_falls { IsNonDecreasing sorted.items }
+        requires few { vec_len sorted < 2 ^ 32 }
+        ensures { IfOk result (λ keys. keys ≡ sorted.items) }
+    {
+        let parts = parts_of(alloc, &sorted)?;
+        let Parts { distinct, xs, ys } = parts;
+        if distinct.len() < sorted.len() {
+            return Ok(Keys {
+                file: sorted,
+                distinct,
+                xs,
+                ys,
+                repeats: true,
+            });
+        }
+        Ok(Keys {
+            file: sorted,
+            distinct: Vec::new(alloc),
+            xs: Vec::new(alloc),
+            ys,
+            repeats: false,
+        })
+    }
+
+    /// The keys of the file, in order.
+    pub fn file(&self) -> &[u64]
+        ensures keys { result.now ≡ self.now }
+        ensures never_falls { IsNonDecreasing result.now }
+        ensures few { length result.now < 2 ^ 32 }
+    {
+        &self.file
+    }
+
+    /// How many keys the file has.
+    pub fn len(&self) -> u32
+        ensures { result ≡ length self.now }
+    {
+        self.file.len() as u32
+    }
+
+    /// Whether the file has no key.
+    pub fn is_empty(&self) -> bool
+        ensures { IsTrue result ↔ (length self.now ≡ 0) }
+    {
+        self.file.is_empty()
+    }
+
+    /// The keys without repeats, in order.
+    pub fn distinct(&self) -> &[u64]
+        ensures { result.now ≡ distinct_of self.now }
+    {
+        if self.repeats {
+            &self.distinct
+        } else {
+            &self.file
+        }
+    }
+
+    /// The x of the points, which rise.
+    pub fn xs(&self) -> &[u64]
+        ensures { result.now ≡ xs_of self.now }
+    {
+        if self.repeats { &self.xs } else { &self.file }
+    }
+
+    /// The y of the points: for each x how many keys of the file are below it. They never fall.
+    pub fn ys(&self) -> &[u32]
+        ensures { result.now ≡ ys_of self.now }
+    {
+        &self.ys
+    }
+}

@@ -1,0 +1,22 @@
+//! The PGM-index over sorted keys: levels of segments, and the position of a key in the file.
+//!
+//! Of the keys 0, 1, 2, 10 with both error bounds 0, level 0 has the runs `0..3` and `3..4`, and
+//! level 1 stands on their first keys, 0 and 10, with one run. The question 9 is asked at level 1,
+//! which leads to the first run, and at level 0, where 3 keys are below it.
+//!
+//! Main clauses: `index` and `cost` of [`Index::build_here`], `found` and `cost` of
+//! [`Index::lower_bound`], and the law [`one_index`]. The words of the clauses are in `specs/`.
+#![tactic(auto)]
+
+mod build;
+mod index;
+mod keys;
+mod level;
+mod lookup;
+mod parts;
+
+pub use index::{Index, one_index};
+pub use keys::Keys;
+
+#[cfg(test)]
+mod tests;

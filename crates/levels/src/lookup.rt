@@ -1,0 +1,156 @@
+// The lookup, from the last level down.
+ghost use Rattle.std.specs.Prelude.{◌≡◌, ◌+◌, ◌-◌, ◌*◌, ◌<◌, ◌≤◌, ◌^◌, ℕ, length, slice_index, slice_index_or};
+ghost use Rattle.std.specs.List.Sorted.{IsNonDecreasing};
+ghost use Rattle.exact_cross.specs.declared.segment.Segment.{Segment};
+ghost use Rattle.window_search.specs.Searches.{lb, IsPredecessor};
+ghost use Rattle.levels.specs.Costs.{TakesAtMost, lookup_bound};
+ghost use Rattle.levels.specs.Indexes.{IsIndex, level_at, xs_at, ys_at, points_at, eps_at};
+
+use crate::index::Index;
+use budget::Steps;
+use exact_cross::Segment;
+use std::marker::Brand;
+use std::sync::ledger::{Blank, Ledger};
+use window_search::{CountedKeys, lower_in, predecessor_in, window};
+
+impl Index {
+    /// The position of `q` in the file: how many of its keys are below `q`.
+    ///
+    /// It takes the steps of [`Index::lower_bound`], and counts nothing. Cannot fail and takes no
+    /// memory.
+    pub fn position(&self, q: u64) -> u32
+        ensures { result ≡ lb self.now.keys q }
+    {
+        position_from::<Brand>(self, q, Blank::new(1))
+    }
+
+    /// The lower bound of `q`: how many keys of the file are below `q`.
+    ///
+    /// The levels are gone through from the last one down. Above level 0 the predecessor of `q` is
+    /// searched in the window of the run found, and is the run of the level below; at level 0 the
+    /// position is searched among the keys of the file. Where there is no key, or the first one is
+    /// above `q`, no window is formed. A step is a key read; two to their number is at most the
+    /// product over the levels of four times a window's places. Cannot fail and takes no memory.
+    ///
+    /// Source: Ferragina and Vinciguerra, PVLDB 13(8), 2020, section 2.
+    pub fn lower_bound<L: Ledger>(&self, q: u64, steps: &mut Steps<L>) -> u32
+        ensures found { result ≡ lb self.now.keys q }
+        ensures cost { 0 < length self.now.levels → TakesAtMost (lookup_bound self.now.eps
+            self.now.eps_rec (length self.now.levels)) steps.old steps.new }
+        ensures cost_empty { length self.now.levels ≡ 0 → steps.new ≡ steps.old }
+    {
+        let keys = self.keys().file();
+        let levels = self.levels();
+        if levels == 0 {
+            return 0;
+        }
+        let first = CountedKeys::new(keys).read(0, steps);
+        if q < first {
+            return 0;
+        }
+        let mut run = 0;
+        let mut level = levels - 1;
+        while level > 0 {
+            run = self.predecessor_below(level, run, q, steps);
+            level -= 1;
+        }
+        let (low, high) = self.window_of(0, run, q);
+        lower_in(keys, low, high, q, steps)
+    }
+
+    /// The predecessor of `q` in the list of a level above level 0, where the run with it is known.
+    fn predecessor_below<L: Ledger>(
+        &self,
+        level: u32,
+        run: u32,
+        q: u64,
+        steps: &mut Steps<L>,
+    ) -> u32
+        requires never_falls { IsNonDecreasing self.now.keys }
+        requires few { length self.now.keys < 2 ^ 32 }
+        requires index { IsIndex self.now.keys self.now.eps self.now.eps_rec self.now.levels }
+        requires above { 0 < level }
+        requires inside { level < length self.now.levels }
+        requires run { IsPredecessor (xs_at self.now.keys self.now.levels (level + 1)) q run }
+        ensures found { IsPredecessor (xs_at self.now.keys self.now.levels level) q result }
+        ensures cost { TakesAtMost (2 * (2 * self.now.eps_rec + 3)) steps.old steps.new }
+    {
+        let (low, high) = self.window_of(level, run, q);
+        predecessor_in(self.list(level), low, high, q, steps)
+    }
+
+    /// The window of `q` in a run of a level.
+    fn window_of(&self, level: u32, run: u32, q: u64) -> (u32, u32)
+        requires never_falls { IsNonDecreasing self.now.keys }
+        requires few { length self.now.keys < 2 ^ 32 }
+        requires index { IsIndex self.now.keys self.now.eps self.now.eps_rec self.now.levels }
+        requires inside { level < length self.now.levels }
+        requires run { IsPredecessor (xs_at self.now.keys self.now.levels (level + 1)) q run }
+        ensures order { result.0 ≤ result.1 }
+        ensures narrow { result.1 + 1 ≤ result.0 + (2 * eps_at self.now.eps self.now.eps_rec level
+            + 3) }
+        ensures within { level ≡ 0 → result.1 ≤ length self.now.keys }
+        ensures within_list { 0 < level → result.1 ≤ length (xs_at self.now.keys self.now.levels
+            level) }
+        ensures place { (place : ℕ) → 0 < level → IsPredecessor (xs_at self.now.keys self.now.levels
+            level) q place → (result.0 ≤ place) × (place ≤ result.1) }
+        ensures position { level ≡ 0 → (result.0 ≤ lb self.now.keys q) × (lb self.now.keys q ≤
+            result.1) }
+    {
+        let segments = self.level(level);
+        let xs = self.list(level);
+        let ys = self.ranks(level);
+        let segment = &segments[run as usize];
+        let end = end_of_run(segments, run as usize, xs.len());
+        let eps = self.eps_of(level);
+        let len = self.extent_of(level);
+        window(
+            &segment.line,
+            ys[segment.start as usize],
+            ys[end - 1],
+            eps,
+            q,
+            len,
+        )
+    }
+
+    /// The greatest place of the windows of a level.
+    fn extent_of(&self, level: u32) -> u32
+        requires inside { level < length self.now.levels }
+        requires few { length (xs_at self.now.keys self.now.levels level) < 2 ^ 32 }
+        ensures base { level ≡ 0 → result ≡ length self.now.keys }
+        ensures above { 0 < level → result ≡ length (xs_at self.now.keys self.now.levels level) }
+    {
+        if level == 0 {
+            self.keys().len()
+        } else {
+            self.list(level).len() as u32
+        }
+    }
+}
+
+/// The end of a run: where the next one starts, or the list's end.
+fn end_of_run(segments: &[Segment], run: usize, len: usize) -> usize
+    requires inside { run < length segments.now }
+    ensures next { (d : Segment) → run + 1 < length segments.now → result ≡ (slice_index_or
+        segments.now (run + 1) d).start }
+    ensures last { length segments.now ≡ run + 1 → result ≡ len }
+{
+    let next = run + 1;
+    if next < segments.len() {
+        segments[next].start as usize
+    } else {
+        len
+    }
+}
+
+/// The same with a counter of its own, from a new ledger.
+fn position_from<L: Ledger>(index: &Index, q: u64, blank: Blank) -> u32
+    requires name { blank.name ≡ L.name }
+    requires parts { blank.parts ≡ L.parts }
+    requires one { blank.parts ≡ 1 }
+    ensures { result ≡ lb index.now.keys q }
+{
+    let mut steps = Steps::<L>::new(blank);
+    index.lower_bound(q, &mut steps)
+}

@@ -1,0 +1,88 @@
+// The distinct keys and the points of keys that repeat.
+ghost use Rattle.std.specs.Prelude.{◌≡◌, ◌+◌, ◌<◌, ◌≤◌, ◌^◌, ℕ, length, slice_index, IfOk, OnOk, IsTrue};
+ghost use Rattle.std.specs.List.Sorted.{IsNonDecreasing};
+ghost use Rattle.levels.specs.KeyPoints.{distinct_of, is_closed, xs_of, ys_of};
+ghost use Rattle.levels.specs.Groups.{HoldsUpTo, IsGroupStart, IsGroupEnd};
+
+use budget::NoMemory;
+use std::alloc::Global;
+
+/// The distinct keys, and the points: their x and y.
+#[derive(Drop)]
+pub struct Parts {
+    pub distinct: Vec<u64>,
+    pub xs: Vec<u64>,
+    pub ys: Vec<u32>,
+}
+
+/// The parts of sorted keys, one group of equal keys after the other.
+pub fn parts_of(alloc: Global, file: &[u64]) -> Result<Parts, NoMemory>
+    requires never_falls { IsNonDecreasing file.now }
+    requires few { length file.now < 2 ^ 32 }
+    ensures distinct { IfOk result (λ parts. parts.distinct.items ≡ distinct_of file.now) }
+    ensures xs { IfOk result (λ parts. parts.xs.items ≡ xs_of file.now) }
+    ensures ys { IfOk result (λ parts. parts.ys.items ≡ ys_of file.now) }
+{
+    let mut parts = Parts {
+        distinct: Vec::new(alloc),
+        xs: Vec::new(alloc),
+        ys: Vec::new(alloc),
+    };
+    let mut at = 0;
+    while at < file.len() {
+        let end = end_of(file, at);
+        add_group(&mut parts, file, at, end)?;
+        at = end;
+    }
+    Ok(parts)
+}
+
+// Where the equal keys that begin at this place end.
+fn end_of(file: &[u64], at: usize) -> usize
+    requires never_falls { IsNonDecreasing file.now }
+    requires inside { at < length file.now }
+    ensures { IsGroupEnd file.now at result }
+{
+    let key = file[at];
+    let mut end = at + 1;
+    while end < file.len() && file[end] == key {
+        end += 1;
+    }
+    end
+}
+
+// Whether the equal keys of these places have a closing point.
+fn is_closed_group(file: &[u64], at: usize, end: usize) -> bool
+    requires never_falls { IsNonDecreasing file.now }
+    requires start { IsGroupStart file.now at }
+    requires end { IsGroupEnd file.now at end }
+    ensures closed { result ≡ is_closed file.now (slice_index file.now at) }
+    ensures next { IsTrue result → slice_index file.now at < 18446744073709551615 }
+{
+    if end - at == 1 || file[at] == u64::MAX {
+        return false;
+    }
+    end == file.len() || file[end] > file[at] + 1
+}
+
+// Adds the equal keys of these places.
+fn add_group(parts: &mut Parts, file: &[u64], at: usize, end: usize) -> Result<(), NoMemory>
+    requires never_falls { IsNonDecreasing file.now }
+    requires few { length file.now < 2 ^ 32 }
+    requires so_far { HoldsUpTo file.now at parts.old.distinct.items parts.old.xs.items
+        parts.old.ys.items }
+    requires start { IsGroupStart file.now at }
+    requires end { IsGroupEnd file.now at end }
+    ensures { OnOk result (HoldsUpTo file.now end parts.new.distinct.items parts.new.xs.items
+        parts.new.ys.items) }
+{
+    let key = file[at];
+    parts.distinct.push(key)?;
+    parts.xs.push(key)?;
+    parts.ys.push(at as u32)?;
+    if is_closed_group(file, at, end) {
+        parts.xs.push(key + 1)?;
+        parts.ys.push(end as u32)?;
+    }
+    Ok(())
+}

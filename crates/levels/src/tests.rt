@@ -1,0 +1,103 @@
+//! Indexes worked out by hand: how many runs each level has, and positions of questions.
+ghost use Rattle.std.specs.Prelude.{◌≡◌, ◌+◌, ◌<◌, ◌≤◌, ◌^◌, length, vec_len, IsTrue};
+ghost use Rattle.std.specs.List.Sorted.{IsNonDecreasing};
+
+use crate::{Index, Keys};
+use budget::{NoMemory, Steps};
+use exact_cross::MAX_EPSILON;
+use std::alloc::Global;
+use std::marker::Brand;
+use std::process::Abort;
+use std::sync::ledger::{Blank, Ledger};
+use std::test::Fail;
+
+fn is_ordered(keys: &[u64]) -> bool
+    ensures { IsTrue result → IsNonDecreasing keys.now }
+{
+    keys.is_sorted()
+}
+
+/// The index, built with a counter of its own.
+fn build<L: Ledger>(
+    alloc: Global,
+    keys: Keys,
+    eps: u32,
+    eps_rec: u32,
+    blank: Blank,
+) -> Result<Index, NoMemory>
+    requires bounded { eps ≤ MAX_EPSILON }
+    requires bounded_rec { eps_rec ≤ MAX_EPSILON }
+    requires name { blank.name ≡ L.name }
+    requires parts { blank.parts ≡ L.parts }
+    requires one { blank.parts ≡ 1 }
+{
+    let mut steps = Steps::<L>::new(blank);
+    Index::build_here(alloc, keys, eps, eps_rec, &mut steps)
+}
+
+/// Builds the index of these keys, and compares its runs by level and the positions.
+fn expect_index<R: Abort + AllocGlobal>(
+    rt: &R,
+    keys: &[u64],
+    eps: u32,
+    runs: &[usize],
+    positions: &[(u64, u32)],
+) -> Result<Index, NoMemory> {
+    assert!(rt; is_ordered(keys));
+    assert!(rt; keys.len() < 1000 && eps <= MAX_EPSILON);
+    let keys = Keys::of(rt.alloc(), Vec::from_slice(rt.alloc(), keys)?)?;
+    let index = build::<Brand>(rt.alloc(), keys, eps, 0, Blank::new(1))?;
+    assert_eq!(rt; index.levels() as usize, runs.len());
+    for (level, count) in runs.iter().enumerate() {
+        assert!(rt; level < index.levels() as usize);
+        assert_eq!(rt; index.level(level as u32).len(), *count);
+    }
+    for (q, position) in positions {
+        assert_eq!(rt; index.position(*q), *position);
+    }
+    Ok(index)
+}
+
+#[test]
+fn worked_lists(rt: HostRuntime) -> Result<(), Fail> {
+    let _ = expect_index(&rt, &[], 0, &[], &[(5, 0)])?;
+    let _ = expect_index(&rt, &[7], 0, &[1], &[(6, 0), (7, 0), (8, 1)])?;
+    let four = [(0, 0), (1, 1), (2, 2), (3, 3), (9, 3), (10, 3), (11, 4)];
+    let _ = expect_index(&rt, &[0, 1, 2, 10], 0, &[2, 1], &four)?;
+    let _ = expect_index(
+        &rt,
+        &[0, 10, 11, 12],
+        0,
+        &[2, 1],
+        &[(9, 1), (10, 1), (11, 2), (99, 4)],
+    )?;
+    let _ = expect_index(
+        &rt,
+        &[0, 10, 11, 12],
+        1,
+        &[1],
+        &[(9, 1), (10, 1), (11, 2), (99, 4)],
+    )?;
+    let squares = [(0, 0), (3, 2), (4, 2), (16, 4), (17, 5), (25, 5), (26, 6)];
+    let _ = expect_index(&rt, &[0, 1, 4, 9, 16, 25], 0, &[3, 2, 1], &squares)?;
+    let last = u64::MAX;
+    let _ = expect_index(&rt, &[0, last], 1_048_576, &[1], &[(1, 1), (last, 1)])?;
+    Ok(())
+}
+
+// Equal keys have a closing point, at both ends of 64 bits too.
+#[test]
+fn keys_that_repeat(rt: HostRuntime) -> Result<(), Fail> {
+    let rows = [(4, 0), (5, 0), (6, 3), (8, 3), (9, 3), (10, 4)];
+    let index = expect_index(&rt, &[5, 5, 5, 9], 0, &[2, 1], &rows)?;
+    assert!(rt; index.levels() == 2);
+    assert_eq!(rt; index.list(0), [5, 6, 9].as_slice());
+    assert_eq!(rt; index.ranks(0), [0, 3, 3].as_slice());
+    assert_eq!(rt; index.list(1), [5, 9].as_slice());
+    assert_eq!(rt; index.ranks(1), [0, 1].as_slice());
+    assert_eq!(rt; index.keys().len(), 4);
+    let last = u64::MAX;
+    let rows = [(0, 0), (1, 3), (last - 1, 3), (last, 3)];
+    let _ = expect_index(&rt, &[0, 0, 0, last, last], 0, &[2, 1], &rows)?;
+    Ok(())
+}
