@@ -1,7 +1,7 @@
 // Worked lists: which places are witnesses and which segments pass was found by hand from the
 // definitions.
 ghost use Rattle.std.specs.Prelude.{IsTrue};
-ghost use Rattle.std.specs.List.Sorted.{IsStrictlyIncreasing};
+ghost use Rattle.std.specs.List.Sorted.{IsStrictlyIncreasing, IsNonDecreasing};
 
 use super::*;
 use exact_cross::Line;
