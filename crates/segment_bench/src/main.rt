@@ -2,7 +2,7 @@
 //! height of its place.
 //!
 //! It prints the number of distinct keys and of segments, and the least nanoseconds of three
-//! rounds. Reading the file and making the list of heights are left out. No contract says how long
+//! rounds; with other than two words it does nothing. Reading the file and making the list of heights are left out. No contract says how long
 //! anything takes.
 #![tactic(auto)]
 
@@ -25,7 +25,9 @@ fn main(rt: HostRuntime) -> Result<()> {
 
 fn run<R: AllocGlobal + Env + Files + Print + Clock>(rt: &R) -> Result<()> {
     let words: Vec<String> = env::args(rt)?.collect(rt.alloc())?;
-    ensure!(words.len() == 3, "segment_bench KEYS EPS");
+    if words.len() != 3 {
+        return Ok(());
+    }
     let eps = words[2].parse::<u32>().context("the error bound")?;
     ensure!(
         eps <= MAX_EPSILON,
