@@ -1,4 +1,5 @@
-// What the proved program is measured against: it reads a key file, cuts it by the same rule (the pairs of a run), and
+// What the proved program is measured against: it reads a key file, cuts it by the same rule (the
+// pairs of a run), and
 // prints the same lines, with no check of the file. Usage: plain FILE EPS
 #include <cstdint>
 #include <cstdio>

@@ -1,5 +1,6 @@
 // Files in memory, with faults where the caller wants them.
-ghost use Rattle.std.specs.Prelude.{◌≡◌, ◌+◌, ◌<◌, ◌≤◌, min, true, [], length, drop, Contains, None, Some, MatchOption, ⊤};
+ghost use Rattle.std.specs.Prelude.{◌≡◌, ◌+◌, ◌<◌, ◌≤◌, min, true, [], length, drop, Contains};
+ghost use Rattle.std.specs.Prelude.{None, Some, MatchOption, ⊤};
 ghost use Rattle.edge.specs.Files.{contents_of, file_at};
 ghost use Rattle.edge.specs.Shelf.{ReadsBytes};
 ghost use Rattle.edge.specs.Taken.{IsTakenOf};

@@ -66,7 +66,8 @@ impl Sink for MemSink {
 
     ghost faults = { λ s. s.faults };
 
-    ghost puts = { λ old piece result new. PutsInMemory (memory_of old) piece result (memory_of new) };
+    ghost puts = { λ old piece result new.
+        PutsInMemory (memory_of old) piece result (memory_of new) };
 
     fn put(&mut self, piece: &[u8]) -> Result<usize, Failed> {
         self.calls = self.calls.saturating_add(1);

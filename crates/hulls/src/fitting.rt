@@ -4,7 +4,8 @@ ghost use Rattle.exact_cross.specs.Points.{Points, IsAscending};
 ghost use Rattle.exact_cross.specs.Lines.{SomeLineFits};
 ghost use Rattle.exact_cross.specs.Steep.{IsSteepOf, line_of_pair};
 ghost use Rattle.exact_cross.specs.Cuts.{IsCutOf};
-ghost use Rattle.hulls.specs.Hulls.{MatchOffer, mirrored, bound_of, room_of, spare, StandsFor, IsNext};
+ghost use Rattle.hulls.specs.Hulls.{MatchOffer, mirrored, bound_of, room_of, spare, StandsFor};
+ghost use Rattle.hulls.specs.Hulls.{IsNext};
 
 use crate::hull::Hull;
 use crate::vertex::Vertex;

@@ -1,5 +1,6 @@
 // Texts as scripts.
-ghost use Rattle.std.specs.Prelude.{◌≡◌, ◌⊎◌, ◌++◌, ◌∷◌, ◌≤◌, [], ℕ, List, Option, All, Ok, Err, Result, IfOk, IfErr, OnOk, OnErr, MatchResult};
+ghost use Rattle.std.specs.Prelude.{◌≡◌, ◌⊎◌, ◌++◌, ◌∷◌, ◌≤◌, [], ℕ, List, Option, All, Ok, Err};
+ghost use Rattle.std.specs.Prelude.{Result, IfOk, IfErr, OnOk, OnErr, MatchResult};
 ghost use Rattle.pgm_script.specs.declared.script.ScriptLine.{ScriptLine};
 ghost use Rattle.pgm_script.specs.declared.script.ScriptKind.{ScriptKind};
 ghost use Rattle.pgm_script.specs.declared.fault.ScriptFault.{ScriptFault};

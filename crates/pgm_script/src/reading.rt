@@ -1,5 +1,7 @@
 // Reading the text of a file.
-ghost use Rattle.std.specs.Prelude.{◌≡◌, ◌≢◌, ◌⊎◌, ◌+◌, ◌<◌, ◌≤◌, ◌^◌, ◌++◌, ℕ, List, Ok, Err, Result, length, take, vec_len, IfOk, IfErr, OnOk, OnErr, IfSome, MatchResult, IsErrOf};
+ghost use Rattle.std.specs.Prelude.{◌≡◌, ◌≢◌, ◌⊎◌, ◌+◌, ◌<◌, ◌≤◌, ◌^◌, ◌++◌, ℕ, List, Ok, Err};
+ghost use Rattle.std.specs.Prelude.{Result, length, take, vec_len, IfOk, IfErr, OnOk, OnErr};
+ghost use Rattle.std.specs.Prelude.{IfSome, MatchResult, IsErrOf};
 ghost use Rattle.edge.specs.Risen.{HasRisen, StaysQuiet};
 ghost use Rattle.edge.specs.Shelf.{TakesAtMost, IsEmptied};
 ghost use Rattle.pgm_script.specs.declared.fault.ScriptFault.{ScriptFault};
@@ -32,7 +34,8 @@ pub fn read_text<F: Shelf>(alloc: Global, shelf: &mut F, limit: u64) -> Result<V
     ensures text { IfOk result
         (λ text. IfSome (F.rest shelf.old) (λ bytes. IsTextOf limit bytes (Ok text.items))) }
     ensures fault { IfErr result (λ fault. IfSome (F.rest shelf.old) (λ bytes.
-        (fault ≡ ScriptFault.ReadFault) ⊎ (fault ≡ ScriptFault.NoMemory) ⊎ IsTextOf limit bytes (Err fault))) }
+        (fault ≡ ScriptFault.ReadFault) ⊎ (fault ≡ ScriptFault.NoMemory)
+        ⊎ IsTextOf limit bytes (Err fault))) }
     ensures wherever { IfSome (F.rest shelf.old)
         (λ bytes. (reading : Result (List ℕ) ScriptFault) → IsTextOf limit bytes reading →
         StaysQuiet (F.faults shelf.old) (F.faults shelf.new) →
@@ -66,7 +69,8 @@ fn read_up_to<F: Shelf>(alloc: Global, shelf: &mut F, limit: u64) -> Result<Vec<
     ensures text { IfOk result (λ text. IfSome (F.rest shelf.old) (λ bytes. text.items ≡ bytes)) }
     ensures within { IfOk result (λ text. vec_len text ≤ limit) }
     ensures fault { IfErr result (λ fault. IfSome (F.rest shelf.old) (λ bytes.
-        (fault ≡ ScriptFault.ReadFault) ⊎ (fault ≡ ScriptFault.NoMemory) ⊎ IsTextOf limit bytes (Err fault))) }
+        (fault ≡ ScriptFault.ReadFault) ⊎ (fault ≡ ScriptFault.NoMemory)
+        ⊎ IsTextOf limit bytes (Err fault))) }
     ensures cause { HasTextCause (F.faults shelf.old) (F.faults shelf.new) result }
     ensures files { F.files shelf.new ≡ F.files shelf.old }
     ensures taken { LeavesText (limit + 1) (F.rest shelf.old) (F.rest shelf.new) result }

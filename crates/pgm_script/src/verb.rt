@@ -1,5 +1,6 @@
 // The commands, as the program knows them.
-ghost use Rattle.std.specs.Prelude.{◌≡◌, ◌≤◌, ◌<◌, ◌+◌, ◌^◌, ℕ, Option, All, IfSome, option_map, find, bytes_eq, take, drop, length, slice_index};
+ghost use Rattle.std.specs.Prelude.{◌≡◌, ◌≤◌, ◌<◌, ◌+◌, ◌^◌, ℕ, Option, All, IfSome, option_map};
+ghost use Rattle.std.specs.Prelude.{find, bytes_eq, take, drop, length, slice_index};
 ghost use Rattle.zorder.specs.Codes.{IsDimension};
 ghost use Rattle.pgm_script.specs.Commands.{Command, commands_of, corner};
 ghost use Rattle.pgm_script.specs.Scripts.{IsKind};

@@ -1,5 +1,7 @@
 // Lines cut off a text, words cut off a line, and the numbers that words write.
-ghost use Rattle.std.specs.Prelude.{◌≡◌, ◌≢◌, ◌≤◌, ◌<◌, ◌+◌, ◌*◌, ◌^◌, ℕ, [], ◌∷◌, Ok, Err, true, false, not, IfSome, IfNone, length, take, slice_index, MatchResult, SomeIff};
+ghost use Rattle.std.specs.Prelude.{◌≡◌, ◌≢◌, ◌≤◌, ◌<◌, ◌+◌, ◌*◌, ◌^◌, ℕ, [], ◌∷◌, Ok, Err, true};
+ghost use Rattle.std.specs.Prelude.{false, not, IfSome, IfNone, length, take, slice_index};
+ghost use Rattle.std.specs.Prelude.{MatchResult, SomeIff};
 ghost use Rattle.pgm_script.specs.Cuts.{ReadsDigits, HasTooGreat, BeginsWithNumber, BeginsWithout};
 ghost use Rattle.pgm_script.specs.Words.{is_blank, goes_on, lines_of, words_of};
 ghost use Rattle.pgm_script.specs.Scripts.{numbers_of};

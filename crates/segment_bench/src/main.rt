@@ -2,8 +2,8 @@
 //! height of its place.
 //!
 //! It prints the number of distinct keys and of segments, and the least nanoseconds of three
-//! rounds; with other than two words it does nothing. Reading the file and making the list of heights are left out. No contract says how long
-//! anything takes.
+//! rounds; with other than two words it does nothing. Reading the file and making the list of
+//! heights are left out. No contract says how long anything takes.
 #![tactic(auto)]
 
 ghost use Rattle.std.specs.Prelude.{◌≡◌, ◌^◌, ◌<◌, ◌≤◌, IsTrue, length};

@@ -16,7 +16,8 @@
 //! `specs/Entries.antt`.
 #![tactic(auto)]
 
-ghost use Rattle.std.specs.Prelude.{◌≡◌, ℕ, ◌+◌, ◌<◌, ◌≤◌, ◌++◌, ◌∷◌, ◌↔◌, [], if◌then◌else◌, Some, None, IfOk, IsTrue, vec_len, vec_capacity};
+ghost use Rattle.std.specs.Prelude.{◌≡◌, ℕ, ◌+◌, ◌<◌, ◌≤◌, ◌++◌, ◌∷◌, ◌↔◌, [], if◌then◌else◌, Some};
+ghost use Rattle.std.specs.Prelude.{None, IfOk, IsTrue, vec_len, vec_capacity};
 ghost use Rattle.tombstones.specs.Entries.{IsAscending, entry_at, winner_at, kept};
 
 mod entry;

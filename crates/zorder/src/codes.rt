@@ -1,7 +1,9 @@
 //! Codes of points: encoding, decoding and the range of a coordinate.
 
-ghost use Rattle.std.specs.Prelude.{◌≡◌, ℕ, ◌+◌, ◌*◌, ◌/◌, ◌^◌, ◌<◌, ◌≤◌, ◌↔◌, List, IsTrue, length, slice_index};
-ghost use Rattle.zorder.specs.Codes.{IsCode, IsCodeOf, IsDimension, IsInRange, IsNowhereAbove, code, coordinate, coordinate_bits};
+ghost use Rattle.std.specs.Prelude.{◌≡◌, ℕ, ◌+◌, ◌*◌, ◌/◌, ◌^◌, ◌<◌, ◌≤◌, ◌↔◌, List, IsTrue};
+ghost use Rattle.std.specs.Prelude.{length, slice_index};
+ghost use Rattle.zorder.specs.Codes.{IsCode, IsCodeOf, IsDimension, IsInRange, IsNowhereAbove};
+ghost use Rattle.zorder.specs.Codes.{code, coordinate, coordinate_bits};
 
 use crate::spread::{gather, spread};
 
