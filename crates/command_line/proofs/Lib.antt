@@ -1,0 +1,4 @@
+pub mod Getters
+pub mod PassedRows
+pub mod OptionReads
+pub mod TakenWords

@@ -1,0 +1,36 @@
+use Rattle.std.proofs.Common.{◌≡◌, ◌∙◌, rules, ap, ap₂}
+use Rattle.std.specs.Prelude.{false, true, codes, []}
+use Rattle.std.proofs.lemmas.Result.{IfOk-weaker}
+use Rattle.clap.specs.Words.{App, Shape, app_of, with_subcommand}
+use Rattle.clap.specs.Simple.{new_shape}
+use Rattle.command_line.proofs.definition.application.Goals as goal
+
+-- the program before its commands
+abbrev start : App
+start = record {
+  top = record (new_shape (codes "pgmtool")) {
+    disable_help_flag = true;
+    disable_help_subcommand = true;
+    disable_version_flag = true;
+    subcommand_required = true;
+  };
+  subs = [];
+}
+
+abbrev top_of : App → Shape
+top_of a = a.top
+
+-- a command added to the program
+added : (a b : App) (s t : Shape) → a ≡ b → s ≡ t → with_subcommand a s ≡ with_subcommand b t
+added a b s t same one = ap₂ with_subcommand same one
+
+pub returns : goal.returns
+returns c =
+    let start_is : app_of c.subcommand_required.result ≡ start = search rules in
+    let build_is = ap top_of (c.in_ok-index_command.ensures.shape) in
+    let first_is = c.in_ok-subcommand.ensures.shape c.in_ok-index_command.ensures.local ∙ added _ _ _ _ start_is build_is in
+    let explain_is = ap top_of (c.in_ok-index_command-2.ensures.shape) in
+    let second_is = c.in_ok-subcommand-2.ensures.shape c.in_ok-index_command-2.ensures.local ∙ added _ _ _ _ first_is explain_is in
+    let query_is = ap top_of (c.in_ok-query_command.ensures.shape) in
+    IfOk-weaker c.subcommand-3.result _ _
+    (λ program h. h.shape c.in_ok-query_command.ensures.local ∙ added _ _ _ _ second_is query_is) c.subcommand-3.ensures

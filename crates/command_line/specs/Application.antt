@@ -1,0 +1,53 @@
+-- The command line: the one definition that `clap` is given, and so which words it takes.
+use Rattle.std.specs.Prelude.{ℕ, List, [], ◌∷◌, ◌++◌, Some, true, false, pos, codes}
+use Rattle.clap.specs.Words.{Text, Rule, Shape, App, new_rule}
+use Rattle.clap.specs.Simple.{new_shape}
+use Rattle.clap.specs.declared.builder.action.ArgAction.TheVariants.{SetTrue}
+use Rattle.clap.specs.declared.builder.value_parser.ValueParser.TheVariants as parser
+use Rattle.exact_cross.specs.declared.TheConstants.{MAX_EPSILON}
+
+-- a name that has to be given
+abbrev pub positional : Text → Rule
+positional name = record (new_rule name) { required = true }
+
+-- `--NAME N`, with N from `low` to `high`, and `default` where it isn't given
+abbrev pub number : Text → (low high : ℕ) → Text → Rule
+number name low high default = record (new_rule name) {
+  long = Some name;
+  parser = Some (parser.Signed (pos low) (pos high));
+  defaults = default ∷ [];
+}
+
+-- `--NAME`, given or not
+abbrev pub flag : Text → Rule
+flag name = record (new_rule name) { long = Some name; action = Some SetTrue }
+
+-- a command with these arguments
+abbrev pub command : Text → List Rule → Shape
+command name rules = record (new_shape name) { rules = rules }
+
+-- how an index is built, of a key file
+abbrev pub build_rules : List Rule
+build_rules = positional (codes "FILE") ∷ number (codes "eps") 0 MAX_EPSILON (codes "64")
+    ∷ number (codes "rec") 0 MAX_EPSILON (codes "4") ∷ flag (codes "narrow") ∷ []
+
+-- and a script of questions
+abbrev pub query_rules : List Rule
+query_rules = build_rules ++ positional (codes "SCRIPT") ∷ flag (codes "windows") ∷ []
+
+abbrev pub commands : List Shape
+commands = command (codes "build") build_rules ∷ command (codes "explain") build_rules
+    ∷ command (codes "query") query_rules ∷ []
+
+-- the program: one of its commands has to be given, and it tells no help and no version
+abbrev pub application : App
+application = record {
+  top = record (new_shape (codes "pgmtool")) {
+    is_leaf = false;
+    disable_help_flag = true;
+    disable_help_subcommand = true;
+    disable_version_flag = true;
+    subcommand_required = true;
+  };
+  subs = commands;
+}

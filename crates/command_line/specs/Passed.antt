@@ -1,0 +1,37 @@
+-- What was found for arguments that passed their parsers. No public clause cites it.
+use Rattle.std.specs.Prelude.{◌≡◌, ◌⊎◌, ℕ, Bool, true, List, [], ◌∷◌, ⊤, Some, pos, codes}
+use Rattle.clap.specs.Words.{Text, Row, Rule, IsSignedIn, without_minus, one_of}
+use Rattle.clap.specs.Walk.{reading_by}
+use Rattle.clap.specs.Takes.{values_pass}
+use Rattle.exact_cross.specs.declared.TheConstants.{MAX_EPSILON}
+
+-- some rule of the list does
+abbrev pub SomeRule : List Rule → (Rule → Type 0) → Type 0
+SomeRule [] P = ⊥
+SomeRule (a ∷ rest) P = P a ⊎ SomeRule rest P
+
+-- the row is the rule's: its values passed, and are read as the rule says
+pub record IsRowOf (r : Row) (a : Rule) : Type 0 where
+  pub id : r.id ≡ a.id
+  pub reading : r.reading ≡ reading_by a
+  pub pass : values_pass a r.values ≡ true
+
+-- each row is one of the rules'
+abbrev pub ArePassed : List Rule → List Row → Type 0
+ArePassed rules [] = ⊤
+ArePassed rules (r ∷ rows) = SomeRule rules (IsRowOf r) × ArePassed rules rows
+
+-- where there is a text for the id, it is that of a number from `low` to `high`
+abbrev pub IsNumberIn : (low high : ℕ) → Text → List Row → Type 0
+IsNumberIn low high id rows = (text : Text) → one_of id rows ≡ Some text →
+    (written : Text) × (text ≡ without_minus written) × IsSignedIn (pos low) (pos high) written
+
+-- where there is a text for the id, it is `true` or `false`
+abbrev pub IsFlag : Text → List Row → Type 0
+IsFlag id rows = (text : Text) → one_of id rows ≡ Some text → (text ≡ codes "true") ⊎ (text ≡ codes "false")
+
+-- what the options of an index hold
+pub record AreIndexOptions (rows : List Row) : Type 0 where
+  pub eps : IsNumberIn 0 MAX_EPSILON (codes "eps") rows
+  pub eps_rec : IsNumberIn 0 MAX_EPSILON (codes "rec") rows
+  pub narrow : IsFlag (codes "narrow") rows

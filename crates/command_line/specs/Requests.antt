@@ -1,0 +1,64 @@
+-- What the words of a command line ask for, as a function of what `clap` makes of them.
+use Rattle.std.specs.Prelude.{ℕ, Bool, false, List, Option, Some, None, codes, bytes_eq, if◌then◌else◌, unwrap_or}
+use Rattle.std.specs.Option.{option_map_or}
+use Rattle.std.specs.Str.Parse.{digits_value, without_leading_plus}
+use Rattle.clap.specs.Words.{Text, Row, first_of, one_of}
+use Rattle.command_line.specs.declared.request.Building as declared_building
+use Rattle.command_line.specs.declared.request.Request as declared
+use Rattle.command_line.specs.declared.request.Request.TheVariants as variant
+
+-- a key file, and how its index is built
+pub record Building : Type 0 where
+  pub file : Text
+  pub narrow : Bool
+  pub eps : ℕ
+  pub eps_rec : ℕ
+
+-- each command, with the names of its files and its options
+pub data Request : Type 0 where
+  build : (building : Building) → Request
+  explain : (building : Building) → Request
+  query : (building : Building) (script : Text) (windows : Bool) → Request
+
+-- the number that an option has, the name, and whether a flag is given
+abbrev pub number_in : Text → List Row → ℕ
+number_in id rows = option_map_or (λ text. digits_value 10 (without_leading_plus text)) (one_of id rows) 0
+
+abbrev pub name_in : Text → List Row → Text
+name_in id rows = unwrap_or (first_of id rows) (codes "")
+
+abbrev pub is_given : Text → List Row → Bool
+is_given id rows = option_map_or (λ text. bytes_eq text (codes "true")) (one_of id rows) false
+
+abbrev pub building_of : List Row → Building
+building_of rows = record {
+  file = name_in (codes "FILE") rows;
+  narrow = is_given (codes "narrow") rows;
+  eps = number_in (codes "eps") rows;
+  eps_rec = number_in (codes "rec") rows;
+}
+
+abbrev pub query_of : List Row → Request
+query_of rows = query (building_of rows) (name_in (codes "SCRIPT") rows) (is_given (codes "windows") rows)
+
+-- what a command asks for, by what was found for its arguments
+abbrev pub request_for : Text → List Row → Option Request
+request_for name rows =
+    if bytes_eq name (codes "build") then Some (build (building_of rows))
+    else (if bytes_eq name (codes "explain") then Some (explain (building_of rows))
+    else (if bytes_eq name (codes "query") then Some (query_of rows) else None))
+
+-- the request that the program's own type stands for
+abbrev pub built_of : declared_building.Building → Building
+built_of b = record { file = b.file.now; narrow = b.narrow; eps = b.eps; eps_rec = b.eps_rec }
+
+abbrev pub asked_of : declared.Request → Request
+asked_of (variant.Build building) = build (built_of building)
+asked_of (variant.Explain building) = explain (built_of building)
+asked_of (variant.Query building script windows) = query (built_of building) script.now windows
+
+-- the file that is read first
+abbrev pub first_file : Request → Text
+first_file (build building) = building.file
+first_file (explain building) = building.file
+first_file (query building script windows) = building.file

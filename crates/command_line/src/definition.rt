@@ -1,0 +1,74 @@
+// The definition of the command line, as `clap` takes it.
+ghost use Rattle.std.specs.Prelude.{◌≡◌, ◌<◌, ◌∷◌, ◌++◌, ◌^◌, [], ℕ, IfOk, false, codes};
+ghost use Rattle.clap.specs.Words.{app_of, rule_of};
+ghost use Rattle.clap.specs.declared.builder.command.Command.TheViews.{out-Command};
+ghost use Rattle.command_line.specs.Application.{application, build_rules, query_rules, command};
+ghost use Rattle.command_line.specs.Application.{flag, number, positional};
+
+use clap::{Arg, ArgAction, Command, value_parser};
+use exact_cross::MAX_EPSILON;
+use std::alloc::{AllocError, Global};
+
+/// The program and its commands.
+pub fn application<'a>(alloc: Global) -> Result<Command<'a>, AllocError>
+    ensures { IfOk result (λ program. app_of program ≡ application) }
+{
+    Command::new(alloc, "pgmtool")
+        .disable_help_flag(true)
+        .disable_help_subcommand(true)
+        .disable_version_flag(true)
+        .subcommand_required(true)
+        .subcommand(index_command(alloc, "build")?)?
+        .subcommand(index_command(alloc, "explain")?)?
+        .subcommand(query_command(alloc)?)
+}
+
+// A command over the index of a key file.
+fn index_command<'a>(alloc: Global, name: &'a str) -> Result<Command<'a>, AllocError>
+    ensures shape { IfOk result
+        (λ made. app_of made ≡ record { top = command name.entry.now build_rules; subs = [] }) }
+    ensures local { IfOk result (λ made. (out-Command made).has_globals ≡ false) }
+{
+    Command::new(alloc, name)
+        .arg(positional(alloc, "FILE"))?
+        .arg(number(alloc, "eps", MAX_EPSILON, "64"))?
+        .arg(number(alloc, "rec", MAX_EPSILON, "4"))?
+        .arg(flag(alloc, "narrow"))
+}
+
+fn query_command<'a>(alloc: Global) -> Result<Command<'a>, AllocError>
+    ensures shape { IfOk result
+        (λ made. app_of made ≡ record { top = command (codes "query") query_rules; subs = [] }) }
+    ensures local { IfOk result (λ made. (out-Command made).has_globals ≡ false) }
+{
+    index_command(alloc, "query")?
+        .arg(positional(alloc, "SCRIPT"))?
+        .arg(flag(alloc, "windows"))
+}
+
+// A name that has to be given.
+fn positional<'a>(alloc: Global, name: &'a str) -> Arg<'a>
+    ensures rule { rule_of result ≡ positional name.entry.now }
+    ensures local { result.global ≡ false }
+{
+    Arg::new(alloc, name).required(true)
+}
+
+// `--NAME N`, with N from 0 to `most`, and `default` where it isn't given.
+fn number<'a>(alloc: Global, name: &'a str, most: u32, default: &'a str) -> Arg<'a>
+    ensures rule { rule_of result ≡ number name.entry.now 0 most default.entry.now }
+    ensures local { result.global ≡ false }
+{
+    Arg::new(alloc, name)
+        .long(name)
+        .value_parser(value_parser!(u32).range(0..=i64::from(most)))
+        .default_value(default)
+}
+
+// `--NAME`, given or not.
+fn flag<'a>(alloc: Global, name: &'a str) -> Arg<'a>
+    ensures rule { rule_of result ≡ flag name.entry.now }
+    ensures local { result.global ≡ false }
+{
+    Arg::new(alloc, name).long(name).action(ArgAction::SetTrue)
+}

@@ -1,0 +1,39 @@
+// What the words ask for.
+ghost use Rattle.std.specs.Prelude.{◌≤◌};
+ghost use Rattle.exact_cross.specs.declared.TheConstants.{MAX_EPSILON};
+
+/// A key file, and how its index is built.
+#[derive(Clone, Copy, Debug)]
+pub struct Building<'a> {
+    /// The name of the key file.
+    pub file: &'a str,
+    /// Keys are 32 bits wide, and not 64.
+    pub narrow: bool,
+    /// The error bound `ε` of level 0, in ranks.
+    pub eps: u32,
+    /// The error bound `ε'` of the levels above, in ranks.
+    pub eps_rec: u32,
+    pub ghost bounded: { eps ≤ MAX_EPSILON },
+    pub ghost bounded_above: { eps_rec ≤ MAX_EPSILON },
+}
+
+/// A command, with the names of its files and its options.
+#[derive(Clone, Copy, Debug)]
+pub enum Request<'a> {
+    /// Write how many keys and levels there are, and of each level how many runs.
+    Build {
+        building: Building<'a>,
+    },
+    /// Write the same, and each run.
+    Explain {
+        building: Building<'a>,
+    },
+    /// Write the position of each question's key in the file.
+    Query {
+        building: Building<'a>,
+        /// The name of the script of questions.
+        script: &'a str,
+        /// Write the windows that are searched, too.
+        windows: bool,
+    },
+}

@@ -1,0 +1,269 @@
+// What no clause says: word lists and what they ask for, and that requests come at all.
+use crate::{Building, NoRequest, Request, requested};
+use std::process::Abort;
+use std::test::Fail;
+
+// What a row's words ask for: a command over the file `keys`.
+#[derive(Clone, Copy)]
+struct Asked {
+    command: &'static str,
+    eps: u32,
+    eps_rec: u32,
+    narrow: bool,
+}
+
+const EXPLAIN: Asked = Asked {
+    command: "explain",
+    eps: 64,
+    eps_rec: 4,
+    narrow: false,
+};
+
+#[derive(Clone, Copy)]
+struct Taken {
+    name: &'static str,
+    words: &'static [&'static str],
+    asks: Asked,
+}
+
+const TAKEN: [Taken; 9] = [
+    Taken {
+        name: "all defaults",
+        words: &["explain", "keys"],
+        asks: EXPLAIN,
+    },
+    Taken {
+        name: "another command",
+        words: &["build", "keys"],
+        asks: Asked {
+            command: "build",
+            ..EXPLAIN
+        },
+    },
+    Taken {
+        name: "an option and its number apart",
+        words: &["explain", "keys", "--eps", "3"],
+        asks: Asked { eps: 3, ..EXPLAIN },
+    },
+    Taken {
+        name: "an option and its number joined",
+        words: &["explain", "keys", "--eps=3"],
+        asks: Asked { eps: 3, ..EXPLAIN },
+    },
+    Taken {
+        name: "options before the file",
+        words: &["explain", "--rec=0", "--narrow", "keys"],
+        asks: Asked {
+            eps_rec: 0,
+            narrow: true,
+            ..EXPLAIN
+        },
+    },
+    Taken {
+        name: "leading zeros",
+        words: &["explain", "keys", "--eps", "0000000003"],
+        asks: Asked { eps: 3, ..EXPLAIN },
+    },
+    Taken {
+        name: "a plus",
+        words: &["explain", "keys", "--eps", "+3"],
+        asks: Asked { eps: 3, ..EXPLAIN },
+    },
+    Taken {
+        name: "the least and the greatest bound",
+        words: &["explain", "keys", "--eps", "0", "--rec", "1048576"],
+        asks: Asked {
+            eps: 0,
+            eps_rec: 1048576,
+            ..EXPLAIN
+        },
+    },
+    Taken {
+        name: "only names behind two hyphens",
+        words: &["explain", "--eps", "1", "--", "keys"],
+        asks: Asked { eps: 1, ..EXPLAIN },
+    },
+];
+
+// Words that are no command, though each is near one.
+#[derive(Clone, Copy)]
+struct Refused {
+    name: &'static str,
+    words: &'static [&'static str],
+}
+
+const REFUSED: [Refused; 28] = [
+    Refused {
+        name: "no command",
+        words: &[],
+    },
+    Refused {
+        name: "a command that isn't there",
+        words: &["nothing", "keys"],
+    },
+    Refused {
+        name: "a command's name abbreviated",
+        words: &["expl", "keys"],
+    },
+    Refused {
+        name: "no file",
+        words: &["explain"],
+    },
+    Refused {
+        name: "no script",
+        words: &["query", "keys"],
+    },
+    Refused {
+        name: "a file too many",
+        words: &["explain", "keys", "more"],
+    },
+    Refused {
+        name: "an option before the command",
+        words: &["--eps", "3", "explain", "keys"],
+    },
+    Refused {
+        name: "a bound past its range",
+        words: &["explain", "keys", "--eps", "1048577"],
+    },
+    Refused {
+        name: "a bound below its range",
+        words: &["explain", "keys", "--eps=-1"],
+    },
+    Refused {
+        name: "a bound that is no number",
+        words: &["explain", "keys", "--eps", "3x"],
+    },
+    Refused {
+        name: "an option without its number",
+        words: &["explain", "keys", "--eps"],
+    },
+    Refused {
+        name: "an empty number",
+        words: &["explain", "keys", "--eps="],
+    },
+    Refused {
+        name: "a hyphen word for a number",
+        words: &["explain", "keys", "--eps", "-1"],
+    },
+    Refused {
+        name: "an option twice",
+        words: &["explain", "keys", "--eps", "3", "--eps", "3"],
+    },
+    Refused {
+        name: "a flag twice",
+        words: &["explain", "keys", "--narrow", "--narrow"],
+    },
+    Refused {
+        name: "a flag with a value",
+        words: &["explain", "keys", "--narrow=1"],
+    },
+    Refused {
+        name: "an option abbreviated",
+        words: &["explain", "keys", "--ep", "3"],
+    },
+    Refused {
+        name: "a short option",
+        words: &["explain", "keys", "-e", "3"],
+    },
+    Refused {
+        name: "an option of another command",
+        words: &["explain", "keys", "--windows"],
+    },
+    Refused {
+        name: "help as a command",
+        words: &["help"],
+    },
+    Refused {
+        name: "help as a command, for another",
+        words: &["help", "explain"],
+    },
+    Refused {
+        name: "help as a flag",
+        words: &["--help"],
+    },
+    Refused {
+        name: "help as a short flag",
+        words: &["-h"],
+    },
+    Refused {
+        name: "help of a command",
+        words: &["explain", "--help"],
+    },
+    Refused {
+        name: "the short help of a command",
+        words: &["explain", "-h"],
+    },
+    Refused {
+        name: "the version",
+        words: &["--version"],
+    },
+    Refused {
+        name: "the version by a short flag",
+        words: &["-V"],
+    },
+    Refused {
+        name: "the version of a command",
+        words: &["explain", "--version"],
+    },
+];
+
+// The words as a program gets them.
+fn words_of<R: AllocGlobal>(rt: &R, words: &[&str]) -> Result<Vec<String>, Fail> {
+    let mut all = Vec::new(rt.alloc());
+    all.push(String::from_str(rt.alloc(), "pgmtool")?)?;
+    for word in words {
+        all.push(String::from_str(rt.alloc(), word)?)?;
+    }
+    Ok(all)
+}
+
+// Whether the request is the one that is asked for, over the file `keys`.
+fn is_asked(request: Request<'_>, asks: Asked) -> bool {
+    match request {
+        Request::Build { building } => asks.command == "build" && is_index(building, asks),
+        Request::Explain { building } => asks.command == "explain" && is_index(building, asks),
+        Request::Query { building, .. } => asks.command == "query" && is_index(building, asks),
+    }
+}
+
+fn is_index(building: Building<'_>, asks: Asked) -> bool {
+    building.file == "keys"
+        && building.eps == asks.eps
+        && building.eps_rec == asks.eps_rec
+        && building.narrow == asks.narrow
+}
+
+#[test]
+fn rows_ask_for_their_command(rt: HostRuntime) -> Result<(), Fail> {
+    for row in TAKEN {
+        let words = words_of(&rt, row.words)?;
+        let request = requested(rt.alloc(), &words)?;
+        assert!(rt; is_asked(request, row.asks), "{}: {request:?}", row.name);
+    }
+    Ok(())
+}
+
+#[test]
+fn other_words_are_no_command(rt: HostRuntime) -> Result<(), Fail> {
+    for row in REFUSED {
+        let words = words_of(&rt, row.words)?;
+        let refused = requested(rt.alloc(), &words).err();
+        assert_eq!(rt; refused, Some(NoRequest::Usage), "{}", row.name);
+    }
+    Ok(())
+}
+
+#[test]
+fn questions_have_a_script(rt: HostRuntime) -> Result<(), Fail> {
+    let words = words_of(&rt, &["query", "-", "", "--windows"])?;
+    let Request::Query {
+        building,
+        script,
+        windows,
+    } = requested(rt.alloc(), &words)?
+    else {
+        return Err(Fail::from("no query"));
+    };
+    assert_eq!(rt; (building.file, script, windows), ("-", "", true));
+    Ok(())
+}

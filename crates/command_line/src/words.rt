@@ -1,0 +1,134 @@
+// What the words ask for, by what `clap` makes of them.
+ghost use Rattle.std.specs.Prelude.{◌≡◌, ◌<◌, ◌≤◌, ◌^◌, ℕ, List, map, Some, IfOk, Err};
+ghost use Rattle.std.specs.Prelude.{codes, option_map, option_and_then, IsSome};
+ghost use Rattle.std.specs.String.{string_bytes};
+ghost use Rattle.clap.specs.Words.{Text, found_of, rows_of, subcommand_of, subcommand_rows_of};
+ghost use Rattle.exact_cross.specs.declared.TheConstants.{MAX_EPSILON};
+ghost use Rattle.command_line.specs.Application.{application};
+ghost use Rattle.command_line.specs.Requests.{asked_of, building_of, built_of, is_given, name_in};
+ghost use Rattle.command_line.specs.Requests.{number_in, query_of, request_for};
+ghost use Rattle.command_line.specs.Words.{AreRefused, AreTaken, AskFor, request_of};
+ghost use Rattle.command_line.specs.Passed.{AreIndexOptions, IsFlag, IsNumberIn};
+
+use crate::definition::application;
+use crate::request::{Building, Request};
+use clap::ArgMatches;
+use clap::error::ErrorKind;
+use std::alloc::{AllocError, Global};
+use thiserror::Error;
+
+/// Why words are no request.
+#[derive(Clone, Copy, Debug, PartialEq, Eq, Error)]
+pub enum NoRequest {
+    /// They aren't those of a command.
+    #[error("the words are no command")]
+    Usage,
+    /// Memory wasn't found.
+    #[error("out of memory")]
+    NoMemory,
+}
+
+impl From<AllocError> for NoRequest {
+    ghost use Rattle.command_line.specs.declared.words.NoRequest.TheVariants.{NoMemory};
+
+    ghost from_gives = { λ _ reason. reason ≡ NoMemory };
+
+    fn from(_: AllocError) -> Self {
+        NoRequest::NoMemory
+    }
+}
+
+/// What the words ask for. The first of them is the program's name.
+///
+/// # Errors
+///
+/// `Usage` exactly where `clap`, by the definition of the command line, doesn't take the words: an
+/// ask for help or for the version is no command. `NoMemory` where memory wasn't found.
+pub fn requested<'a>(alloc: Global, words: &'a [String]) -> Result<Request<'a>, NoRequest>
+    ensures asks { IfOk result (λ request. AskFor (map string_bytes words.now) (asked_of request)) }
+    ensures usage { result ≡ Err NoRequest.Usage → AreRefused (map string_bytes words.now) }
+{
+    let program = application(alloc)?;
+    match program.try_get_matches_from(words) {
+        Ok(matches) => request_in(&matches).ok_or(NoRequest::Usage),
+        Err(error) if error.kind() == ErrorKind::OutOfMemory => Err(NoRequest::NoMemory),
+        Err(_) => Err(NoRequest::Usage),
+    }
+}
+
+// What was found for the command that was named. There is one.
+fn request_in<'a>(matches: &ArgMatches<'a>) -> Option<Request<'a>>
+    requires { (words : List Text) × AreTaken words
+        × (subcommand_rows_of matches.now ≡ subcommand_of application words) }
+    ensures { option_map asked_of result
+        ≡ option_and_then (λ p. request_for p.0 p.1) (subcommand_rows_of matches.now) }
+{
+    let (name, found) = matches.subcommand()?;
+    if name == "build" {
+        let building = building_in(found);
+        Some(Request::Build { building })
+    } else if name == "explain" {
+        let building = building_in(found);
+        Some(Request::Explain { building })
+    } else if name == "query" {
+        Some(query_in(found))
+    } else {
+        None
+    }
+}
+
+fn query_in<'a>(found: &ArgMatches<'a>) -> Request<'a>
+    requires index { AreIndexOptions (rows_of (found_of found.now)) }
+    requires windows { IsFlag (codes "windows") (rows_of (found_of found.now)) }
+    ensures { asked_of result ≡ query_of (rows_of (found_of found.now)) }
+{
+    Request::Query {
+        building: building_in(found),
+        script: name_in(found, "SCRIPT"),
+        windows: is_given(found, "windows"),
+    }
+}
+
+fn building_in<'a>(found: &ArgMatches<'a>) -> Building<'a>
+    requires { AreIndexOptions (rows_of (found_of found.now)) }
+    ensures { built_of result ≡ building_of (rows_of (found_of found.now)) }
+{
+    Building {
+        file: name_in(found, "FILE"),
+        narrow: is_given(found, "narrow"),
+        eps: number_in(found, "eps"),
+        eps_rec: number_in(found, "rec"),
+    }
+}
+
+// The name that was given.
+fn name_in<'a>(found: &ArgMatches<'a>, id: &str) -> &'a str
+    ensures { result.now ≡ name_in id.now (rows_of (found_of found.now)) }
+{
+    found.get_str(id).unwrap_or("")
+}
+
+// The number of an option.
+fn number_in(found: &ArgMatches<'_>, id: &str) -> u32
+    requires { (most : ℕ) × (most < 2 ^ 32)
+        × IsNumberIn 0 most id.now (rows_of (found_of found.now)) }
+    ensures value { result ≡ number_in id.now (rows_of (found_of found.now)) }
+    ensures most { (most : ℕ) → most < 2 ^ 32
+        → IsNumberIn 0 most id.now (rows_of (found_of found.now)) → result ≤ most }
+{
+    found.get_one::<u32>(id).unwrap_or(0)
+}
+
+// Whether a flag is given.
+fn is_given(found: &ArgMatches<'_>, id: &str) -> bool
+    requires { IsFlag id.now (rows_of (found_of found.now)) }
+    ensures { result ≡ is_given id.now (rows_of (found_of found.now)) }
+{
+    found.get_flag(id)
+}
+
+/// Words that `clap` takes ask for something: each command of the definition is a request.
+pub fn taken_words_ask()
+    ensures { (words : List Text) → AreTaken words
+        → IsSome (request_of words) }
+{}
