@@ -8,3 +8,4 @@ pub mod LevelLemmas
 pub mod StoredLemmas
 pub mod LookupLemmas
 pub mod CostLemmas
+pub mod WindowLists

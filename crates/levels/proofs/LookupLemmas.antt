@@ -3,22 +3,23 @@
 -- Main results: `top_run`: the one run of the last level has the predecessor of a question that isn't below the first key;
 -- `run_line`: a run's line is within the level's bound at its points; `place_in_window`, `position_in_window`: above level 0 the
 -- window of the run with the predecessor holds it, and at level 0 the position in the file.
-use Rattle.std.proofs.Common.{◌≡◌, inl, inr, ℕ, zero, suc, ◌+◌, ◌-◌, ◌^◌, ◌<◌, ◌≤◌, List, [], ◌∷◌, length, slice_index, slice_index_or, refl, sym, ap, ◌∙◌, subst, arith, add-one, pos, None}
-use Rattle.std.proofs.lemmas.Bool.{cases_lt}
+use Rattle.std.proofs.Common.{◌≡◌, inl, inr, ℕ, zero, suc, ◌+◌, ◌-◌, ◌^◌, ◌<◌, ◌≤◌, List, [], ◌∷◌, length, slice_index, slice_index_or, refl, sym, ap, ◌∙◌, subst, arith, add-one, eqb, pos, None}
+use Rattle.std.proofs.lemmas.Bool.{cases_lt, cond-true, cond-false, eq-eqb, ne_eqb}
 use Rattle.std.specs.List.Sorted.{IsNonDecreasing, IsStrictlyIncreasing}
 use Rattle.exact_cross.specs.declared.segment.Segment.{Segment}
 use Rattle.exact_cross.specs.Points.{Points}
 use Rattle.exact_cross.specs.Covers.{IsGreedy, IsLongest}
 use Rattle.exact_cross.specs.Segments.{starts_of, EachRun, IsFitted}
 use Rattle.exact_cross.specs.Checked.{IsInRange}
-use Rattle.exact_cross.proofs.CallerLemmas.{slice_index-places, IsNonDecreasing-from_neighbours}
+use Rattle.exact_cross.proofs.CallerLemmas.{slice_index-places, slice_index-rises, IsNonDecreasing-from_neighbours}
 use Rattle.window_search.specs.Searches.{lb, IsPredecessor}
-use Rattle.window_search.specs.Windows.{IsLineOf, IsLastAtMost, IsClose, IsNext}
-use Rattle.window_search.proofs.CallerLemmas.{predecessor_exists}
+use Rattle.window_search.specs.Windows.{IsWindow, IsLineOf, IsLastAtMost, IsClose, IsNext}
+use Rattle.window_search.proofs.CallerLemmas.{predecessor_exists, lb-predecessor}
 use Rattle.levels.specs.KeyPoints.{xs_of}
 use Rattle.levels.specs.Indexes.{level_at, xs_at, ys_at, points_at, eps_at, IsIndex}
 use Rattle.levels.proofs.PointOrder.{xs-first, next_of_point, close_of_point}
-use Rattle.levels.proofs.SegmentLemmas.{first_x_at, run_at, IsRun, end_at, fitted_runs, predecessor_in_run}
+use Rattle.levels.specs.Lookups.{HasRun, extent_at, IsWindowAt}
+use Rattle.levels.proofs.SegmentLemmas.{first_x_at, run_at, HasRun-at, IsRun, end_at, fitted_runs, predecessor_in_run}
 use Rattle.levels.proofs.LevelLemmas.{xs_at-base, ys_at-base, xs_at-above, ys_at-above, xs_at-length, AscendsAt, ascends_at, heights_few, some_at}
 
 pub IsNonDecreasing-from_rising : (xs : List ℕ) → IsStrictlyIncreasing xs → IsNonDecreasing xs
@@ -32,6 +33,12 @@ no_segment = record { start = 0; a = 0; b = 0; line = record { x0 = 0; y0 = pos 
 first_start : (p : Points) (eps to : ℕ) (segments : List Segment) (d : Segment) → 0 < length segments → IsGreedy p eps 0 to (starts_of segments) → (slice_index_or segments 0 d).start ≡ 0
 first_start p eps to [] d some greedy = absurd (omega arith)
 first_start p eps to (segment ∷ later) d some greedy = greedy.0
+
+pub extent_at-base : (keys : List ℕ) (levels : List (List Segment)) (i : ℕ) → i ≡ 0 → extent_at keys levels i ≡ length keys
+extent_at-base keys levels i base = cond-true (eqb i 0) _ _ (eq-eqb i 0 base)
+
+pub extent_at-above : (keys : List ℕ) (levels : List (List Segment)) (i : ℕ) → 0 < i → extent_at keys levels i ≡ length (xs_at keys levels i)
+extent_at-above keys levels i above = cond-false (eqb i 0) _ _ (ne_eqb i 0 (λ base. omega arith))
 
 module _ (keys : List ℕ) (eps eps_rec : ℕ) (levels : List (List Segment)) (order : IsNonDecreasing keys) (index : IsIndex keys eps eps_rec levels) where
   pub ascends : (i : ℕ) → i ≤ length levels → AscendsAt keys levels i
@@ -85,6 +92,7 @@ module _ (keys : List ℕ) (eps eps_rec : ℕ) (levels : List (List Segment)) (o
     pub some : segment.start < e
     pub within : e ≤ length (xs_at keys levels i)
     pub line : IsLineOf (points_at keys levels i) (eps_at eps eps_rec i) segment.line (slice_index (ys_at keys levels i) segment.start) (slice_index (ys_at keys levels i) (e - 1)) segment.start e
+    pub stands : HasRun (level_at levels i) (length (xs_at keys levels i)) segment e
     pub has : (q place : ℕ) → IsPredecessor (xs_at keys levels (i + 1)) q run → IsPredecessor (xs_at keys levels i) q place → (segment.start ≤ place) × (place < e)
 
   pub run_line : length keys < 2 ^ 32 → (i run : ℕ) (d segment : Segment) (e : ℕ) → eps_at eps eps_rec i ≤ 1048576 → i < length levels → run < length (level_at levels i) →
@@ -123,6 +131,8 @@ module _ (keys : List ℕ) (eps eps_rec : ℕ) (levels : List (List Segment)) (o
           lowest = refl;
           highest = refl;
         };
+        stands = subst (λ (e : ℕ). HasRun segments (length xs) segment e) end
+            (subst (λ (s : Segment). HasRun segments (length xs) s (end_at segments run (length xs))) (sym is) (HasRun-at segments run (length xs) d run_inside));
         has = λ q place found predecessor. predecessor_in_run (IsFitted p bound) xs segments run d segment e q place here.rises is own
             (subst (λ (l : List ℕ). IsPredecessor l q run) (xs_at-above keys levels i) found) predecessor;
       }
@@ -136,7 +146,7 @@ module _ (keys : List ℕ) (eps eps_rec : ℕ) (levels : List (List Segment)) (o
     last = λ more. found.last (place + 1) (omega arith) (omega arith);
   }
 
-  height_above : (i j : ℕ) → 0 < i → j < length (xs_at keys levels i) → slice_index (ys_at keys levels i) j ≡ j
+  pub height_above : (i j : ℕ) → 0 < i → j < length (xs_at keys levels i) → slice_index (ys_at keys levels i) j ≡ j
   height_above zero j above inside = absurd (omega arith)
   height_above (suc i) j above inside =
       let shift = add-one i in
@@ -144,15 +154,20 @@ module _ (keys : List ℕ) (eps eps_rec : ℕ) (levels : List (List Segment)) (o
       ∙ slice_index-places (length (level_at levels i)) j (omega (arith, xs_at-length keys levels i, ap (λ (k : ℕ). length (xs_at keys levels k)) shift))
 
   -- above level 0 the place is its height, and no point leaves a gap
-  pub close_above : (i q place e : ℕ) → 0 < i → e ≤ length (xs_at keys levels i) → place < e → IsClose (points_at keys levels i) e q place × IsNext (points_at keys levels i) place place
-  close_above i q place e above within inside =
-      let here = height_above i place above (omega arith) in (
-        elim (cases_lt (place + 1) e) [
-          | inl more ↦ inr (inr (omega (arith, here, height_above i (place + 1) above (omega arith))))
-          | inr final ↦ inr (inl (omega arith))
-        ],
-        record { from = omega (arith, here); to = omega (arith, here) },
-      )
+  pub close_above : (i q place e : ℕ) → 0 < i → e ≤ length (xs_at keys levels i) → place < e → IsClose (points_at keys levels i) e q place
+  close_above i q place e above within inside = elim (cases_lt (place + 1) e) [
+    | inl more ↦ inr (inr (omega (arith, height_above i place above (omega arith), height_above i (place + 1) above (omega arith))))
+    | inr final ↦ inr (inl (omega arith))
+  ]
+
+  pub next_above : (i place next : ℕ) → 0 < i → place < length (xs_at keys levels i) → place ≤ next → next ≤ place + 1 → IsNext (points_at keys levels i) place next
+  next_above i place next above inside from to =
+      let here = height_above i place above inside in record { from = omega (arith, here); to = omega (arith, here) }
+
+  -- above level 0 the lower bound is the predecessor or the place after it
+  pub lb_above : (i q place : ℕ) → i ≤ length levels → IsPredecessor (xs_at keys levels i) q place → (place ≤ lb (xs_at keys levels i) q) × (lb (xs_at keys levels i) q ≤ place + 1)
+  lb_above i q place within found =
+      lb-predecessor (xs_at keys levels i) q place (λ j k less inside. slice_index-rises (xs_at keys levels i) j k (ascends i within).rises less inside) found
 
   -- at level 0 the position is the point's height or the next one
   pub close_base : (q place e : ℕ) → q ≤ 18446744073709551615 → e ≤ length (xs_at keys levels 0) → place < e → IsPredecessor (xs_at keys levels 0) q place →
@@ -178,11 +193,11 @@ module _ (keys : List ℕ) (eps eps_rec : ℕ) (levels : List (List Segment)) (o
   closes_at_base (suc i) q place e base fits within inside found = absurd (omega arith)
 
   -- no point is higher than the greatest place of the windows
-  pub height_within : (i len j : ℕ) → i ≤ length levels → (i ≡ 0 → len ≡ length keys) → (0 < i → len ≡ length (xs_at keys levels i)) → j < length (xs_at keys levels i) →
+  pub height_within : (i len j : ℕ) → i ≤ length levels → len ≡ extent_at keys levels i → j < length (xs_at keys levels i) →
       slice_index (ys_at keys levels i) j ≤ len
-  height_within i len j within base above inside = elim (cases_lt 0 i) [
-    | inl upper ↦ omega (arith, above upper, height_above i j upper inside)
-    | inr lowest ↦ let bottom : i ≡ 0 = omega arith in omega (arith, base bottom, heights_few keys levels i (ascends i within) j inside)
+  height_within i len j within is inside = elim (cases_lt 0 i) [
+    | inl upper ↦ omega (arith, is, extent_at-above keys levels i upper, height_above i j upper inside)
+    | inr lowest ↦ omega (arith, is, extent_at-base keys levels i (omega arith), heights_few keys levels i (ascends i within) j inside)
   ]
 
   -- the run that a list of segments has at this place
@@ -203,3 +218,20 @@ module _ (keys : List ℕ) (eps eps_rec : ℕ) (levels : List (List Segment)) (o
   line_with i run segment e bound ys at bound_is ys_are =
       subst (λ (b : ℕ). IsLineOf (points_at keys levels i) b segment.line (slice_index ys segment.start) (slice_index ys (e - 1)) segment.start e) (sym bound_is)
       (subst (λ (ys : List ℕ). IsLineOf (points_at keys levels i) (eps_at eps eps_rec i) segment.line (slice_index ys segment.start) (slice_index ys (e - 1)) segment.start e) (sym ys_are) at.line)
+
+  -- its window is that of the level
+  pub window_at : (i run q place : ℕ) (segment : Segment) (e bound len low high : ℕ) (ys : List ℕ) → IsRunLine i run segment e → IsPredecessor (xs_at keys levels (i + 1)) q run →
+      IsPredecessor (xs_at keys levels i) q place → bound ≡ eps_at eps eps_rec i → ys ≡ ys_at keys levels i → len ≡ extent_at keys levels i →
+      IsWindow segment.line (slice_index ys segment.start) (slice_index ys (e - 1)) bound q len low high → IsWindowAt keys eps eps_rec levels i q low high
+  window_at i run q place segment e bound len low high ys at found last bound_is ys_are len_is window =
+      let has = at.has q place found last in
+      record {
+        place = place;
+        last = last;
+        segment = segment;
+        e = e;
+        run = at.stands;
+        from_start = has.0;
+        to_end = has.1;
+        window = rw (← bound_is, ← ys_are, ← len_is) window;
+      }

@@ -16,24 +16,43 @@ use Rattle.exact_cross.specs.Checked.{IsInRange}
 use Rattle.exact_cross.proofs.CallerLemmas.{IsInRange-from_steep, IsFitted-from_steep, CutsInto-rises, some_line-two_places, slice_index-rises}
 use Rattle.window_search.specs.Searches.{IsPredecessor}
 use Rattle.levels.specs.Indexes.{first_xs}
+use Rattle.levels.specs.Lookups.{HasRun}
 
 -- a run that isn't the last one has two places or more
-two_places : (p : Points) (eps to s e : ℕ) → IsAscending p → to ≤ p.count → s < e → e < to → IsLongest p eps to s e → s + 2 ≤ e
+pub two_places : (p : Points) (eps to s e : ℕ) → IsAscending p → to ≤ p.count → s < e → e < to → IsLongest p eps to s e → s + 2 ≤ e
 two_places p eps to s e ascends inside some before longest = elim (cases_lt e (s + 2)) [
   | inl short ↦ absurd (longest.no_longer before (subst (λ (n : ℕ). SomeLineFits p eps s n) (omega arith) (some_line-two_places p eps s ascends (omega arith))))
   | inr enough ↦ enough
 ]
 
+-- a run that isn't the last one has so many places
+abbrev pub IsLong : ℕ → ℕ → ℕ → ℕ → Type 0
+IsLong least to s e = e < to → s + least ≤ e
+
+pub cuts_long : (p : Points) (eps to from least : ℕ) (starts : List ℕ) → ((s e : ℕ) → s < e → e < to → IsLongest p eps to s e → s + least ≤ e) →
+    IsGreedy p eps from to starts → CutsInto (IsLong least to) from to starts
+cuts_long p eps to from least [] long greedy = greedy
+cuts_long p eps to from least (start ∷ later) long greedy =
+    (greedy.0, greedy.1, λ before. long from (run_end later to) greedy.1 before greedy.2, cuts_long p eps to (run_end later to) least later long greedy.3)
+
+pub runs-count : (least to from : ℕ) (starts : List ℕ) → 0 < length starts → CutsInto (IsLong least to) from to starts → least * length starts + from + 1 ≤ to + least
+runs-count least to from [] some cuts = absurd (omega arith)
+runs-count least to from (start ∷ []) some cuts = omega (arith, cuts.1)
+runs-count least to from (start ∷ next ∷ later) some cuts =
+    let behind = cuts.3 in
+    let inside : next < to = omega (arith, behind.0, behind.1, CutsInto-rises (IsLong least to) later (run_end later to) to behind.3) in
+    omega (arith, cuts.2 inside, runs-count least to next (next ∷ later) (omega arith) behind)
+
 runs-halve : (p : Points) (eps to from : ℕ) (starts : List ℕ) → IsAscending p → to ≤ p.count → IsGreedy p eps from to starts → 2 * length starts + from ≤ to + 1
 runs-halve p eps to from [] ascends inside greedy = omega (arith, greedy)
-runs-halve p eps to from (start ∷ []) ascends inside greedy = omega (arith, greedy.1)
-runs-halve p eps to from (start ∷ next ∷ later) ascends inside greedy =
-    let behind = greedy.3 in
-    let two = two_places p eps to from next ascends inside greedy.1
-    (omega (arith, behind.0, behind.1, CutsInto-rises (IsLongest p eps to) later (run_end later to) to behind.3)) greedy.2 in
-    omega (arith, two, runs-halve p eps to next (next ∷ later) ascends inside behind)
+runs-halve p eps to from (start ∷ later) ascends inside greedy =
+    omega (
+      arith,
+      runs-count 2 to from (start ∷ later) (omega arith)
+          (cuts_long p eps to from 2 (start ∷ later) (λ s e some before longest. two_places p eps to s e ascends inside some before longest) greedy),
+    )
 
-starts_count : (segments : List Segment) → length (starts_of segments) ≡ length segments
+pub starts_count : (segments : List Segment) → length (starts_of segments) ≡ length segments
 starts_count segments = rw length-map refl
 
 pub first_xs-count : (xs : List ℕ) (segments : List Segment) → length (first_xs xs segments) ≡ length segments
@@ -95,6 +114,13 @@ run_at R C from to (segment ∷ later) (suc run) d inside cuts runs =
           behind.next d (omega arith) ∙ ap (λ (k : ℕ). (slice_index_or (segment ∷ later) k d).start) shift;
       last = λ count. behind.last (omega arith);
     }
+
+pub HasRun-at : (segments : List Segment) (run to : ℕ) (d : Segment) → run < length segments → HasRun segments to (slice_index_or segments run d) (end_at segments run to)
+HasRun-at [] run to d inside = absurd (omega arith)
+HasRun-at (segment ∷ later) zero to d inside = record { before = []; later = later; stands = refl; ends = refl }
+HasRun-at (segment ∷ later) (suc run) to d inside =
+    let behind = HasRun-at later run to d (omega arith) in
+    record { before = segment ∷ behind.before; later = behind.later; stands = ap (λ (l : List Segment). segment ∷ l) behind.stands; ends = behind.ends }
 
 -- the first x of the run at this place
 pub first_x_at : (xs : List ℕ) (segments : List Segment) (run : ℕ) (d : Segment) → run < length segments →

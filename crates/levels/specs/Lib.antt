@@ -4,3 +4,4 @@ pub mod Groups
 pub mod Indexes
 pub mod Stored
 pub mod Costs
+pub mod Lookups

@@ -14,6 +14,7 @@ mod keys;
 mod level;
 mod lookup;
 mod parts;
+mod windows;
 
 pub use index::{Index, one_index};
 pub use keys::Keys;

@@ -5,6 +5,7 @@ ghost use Rattle.exact_cross.specs.declared.segment.Segment.{Segment};
 ghost use Rattle.window_search.specs.Searches.{lb, IsPredecessor};
 ghost use Rattle.levels.specs.Costs.{TakesAtMost, lookup_bound};
 ghost use Rattle.levels.specs.Indexes.{IsIndex, level_at, xs_at, ys_at, points_at, eps_at};
+ghost use Rattle.levels.specs.Lookups.{IsWindowAt, IsNarrow, HoldsAnswers, extent_at};
 
 use crate::index::Index;
 use budget::Steps;
@@ -80,22 +81,20 @@ impl Index {
     }
 
     /// The window of `q` in a run of a level.
-    fn window_of(&self, level: u32, run: u32, q: u64) -> (u32, u32)
+    pub(crate) fn window_of(&self, level: u32, run: u32, q: u64) -> (u32, u32)
         requires never_falls { IsNonDecreasing self.now.keys }
         requires few { length self.now.keys < 2 ^ 32 }
         requires index { IsIndex self.now.keys self.now.eps self.now.eps_rec self.now.levels }
         requires inside { level < length self.now.levels }
         requires run { IsPredecessor (xs_at self.now.keys self.now.levels (level + 1)) q run }
+        ensures exact { IsWindowAt self.now.keys self.now.eps self.now.eps_rec self.now.levels level
+            q result.0 result.1 }
         ensures order { result.0 ≤ result.1 }
-        ensures narrow { result.1 + 1 ≤ result.0 + (2 * eps_at self.now.eps self.now.eps_rec level
-            + 3) }
+        ensures narrow { IsNarrow self.now.eps self.now.eps_rec level result.0 result.1 }
         ensures within { level ≡ 0 → result.1 ≤ length self.now.keys }
         ensures within_list { 0 < level → result.1 ≤ length (xs_at self.now.keys self.now.levels
             level) }
-        ensures place { (place : ℕ) → 0 < level → IsPredecessor (xs_at self.now.keys self.now.levels
-            level) q place → (result.0 ≤ place) × (place ≤ result.1) }
-        ensures position { level ≡ 0 → (result.0 ≤ lb self.now.keys q) × (lb self.now.keys q ≤
-            result.1) }
+        ensures holds { HoldsAnswers self.now.keys self.now.levels level q result.0 result.1 }
     {
         let segments = self.level(level);
         let xs = self.list(level);
@@ -118,8 +117,7 @@ impl Index {
     fn extent_of(&self, level: u32) -> u32
         requires inside { level < length self.now.levels }
         requires few { length (xs_at self.now.keys self.now.levels level) < 2 ^ 32 }
-        ensures base { level ≡ 0 → result ≡ length self.now.keys }
-        ensures above { 0 < level → result ≡ length (xs_at self.now.keys self.now.levels level) }
+        ensures { result ≡ extent_at self.now.keys self.now.levels level }
     {
         if level == 0 {
             self.keys().len()

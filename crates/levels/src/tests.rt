@@ -35,6 +35,18 @@ fn build<L: Ledger>(
     Index::build_here(alloc, keys, eps, eps_rec, &mut steps)
 }
 
+fn keys_of<R: Abort + AllocGlobal>(rt: &R, keys: &[u64]) -> Result<Keys, NoMemory> {
+    assert!(rt; is_ordered(keys));
+    assert!(rt; keys.len() < 1000);
+    Keys::of(rt.alloc(), Vec::from_slice(rt.alloc(), keys)?)
+}
+
+/// The index of these keys, with the bound 0 above level 0.
+fn index_of<R: Abort + AllocGlobal>(rt: &R, keys: &[u64], eps: u32) -> Result<Index, NoMemory> {
+    assert!(rt; eps <= MAX_EPSILON);
+    build::<Brand>(rt.alloc(), keys_of(rt, keys)?, eps, 0, Blank::new(1))
+}
+
 /// Builds the index of these keys, and compares its runs by level and the positions.
 fn expect_index<R: Abort + AllocGlobal>(
     rt: &R,
@@ -43,10 +55,7 @@ fn expect_index<R: Abort + AllocGlobal>(
     runs: &[usize],
     positions: &[(u64, u32)],
 ) -> Result<Index, NoMemory> {
-    assert!(rt; is_ordered(keys));
-    assert!(rt; keys.len() < 1000 && eps <= MAX_EPSILON);
-    let keys = Keys::of(rt.alloc(), Vec::from_slice(rt.alloc(), keys)?)?;
-    let index = build::<Brand>(rt.alloc(), keys, eps, 0, Blank::new(1))?;
+    let index = index_of(rt, keys, eps)?;
     assert_eq!(rt; index.levels() as usize, runs.len());
     for (level, count) in runs.iter().enumerate() {
         assert!(rt; level < index.levels() as usize);
@@ -99,5 +108,56 @@ fn keys_that_repeat(rt: HostRuntime) -> Result<(), Fail> {
     let last = u64::MAX;
     let rows = [(0, 0), (1, 3), (last - 1, 3), (last, 3)];
     let _ = expect_index(&rt, &[0, 0, 0, last, last], 0, &[2, 1], &rows)?;
+    Ok(())
+}
+
+/// A question, and the windows along its lookup: level, first and last place.
+struct WindowRow<'a> {
+    keys: &'a [u64],
+    q: u64,
+    windows: &'a [(u32, u32, u32)],
+}
+
+// Both error bounds are 0: a question below the first key, equal keys, and three levels.
+const WINDOW_ROWS: [WindowRow; 6] = [
+    WindowRow {
+        keys: &[],
+        q: 4,
+        windows: &[],
+    },
+    WindowRow {
+        keys: &[5, 5, 5, 9],
+        q: 4,
+        windows: &[],
+    },
+    WindowRow {
+        keys: &[5, 5, 5, 9],
+        q: 5,
+        windows: &[(1, 0, 1), (0, 0, 1)],
+    },
+    WindowRow {
+        keys: &[5, 5, 5, 9],
+        q: 6,
+        windows: &[(1, 0, 1), (0, 2, 4)],
+    },
+    WindowRow {
+        keys: &[5, 5, 5, 9],
+        q: 10,
+        windows: &[(1, 0, 2), (0, 2, 4)],
+    },
+    WindowRow {
+        keys: &[0, 1, 4, 9, 16, 25],
+        q: 17,
+        windows: &[(2, 0, 2), (1, 1, 3), (0, 3, 5)],
+    },
+];
+
+#[test]
+fn windows_along_lookups(rt: HostRuntime) -> Result<(), Fail> {
+    for row in &WINDOW_ROWS {
+        let index = index_of(&rt, row.keys, 0)?;
+        let windows = index.windows(rt.alloc(), row.q)?;
+        assert_eq!(rt; windows.as_slice(), row.windows, "question {}", row.q);
+    }
     Ok(())
 }

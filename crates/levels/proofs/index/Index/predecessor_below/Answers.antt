@@ -20,7 +20,7 @@ pub predecessor_in-requires-clause-answer : goal.predecessor_in-requires-clause-
 predecessor_in-requires-clause-answer g c =
     let value = c.args.self.now in
     let found = has_predecessor value.keys value.eps value.eps_rec value.levels c.requires.never_falls c.requires.index no_segment c.args.level c.args.run c.args.q c.requires.inside c.requires.run in
-    let held = c.window_of-low.ensures.place found.0 c.requires.above found.1 in
+    let held = c.window_of-low.ensures.holds.predecessor found.0 c.requires.above found.1 in
     (found.0, subst (λ (xs : List ℕ). IsPredecessor xs c.args.q found.0) (sym c.list.ensures) found.1, held.0, held.1)
 
 pub returns-clause-cost : goal.returns-clause-cost

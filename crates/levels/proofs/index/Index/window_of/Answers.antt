@@ -1,10 +1,10 @@
 -- The line of the run found is within the level's bound at its points, and the run has the predecessor.
 use Rattle.std.proofs.Common.{◌≡◌, ◌-◌, ℕ, length, slice_index_or, ap, ◌∙◌, arith}
 use Rattle.window_search.specs.Searches.{lb, IsPredecessor}
-use Rattle.window_search.proofs.CallerLemmas.{IsLowerBound-lb}
+use Rattle.window_search.proofs.CallerLemmas.{IsLowerBound-lb, IsPredecessor-unique}
 use Rattle.levels.specs.Indexes.{xs_at, points_at}
 use Rattle.levels.proofs.LevelLemmas.{xs_at-length}
-use Rattle.levels.proofs.LookupLemmas.{no_segment, ascends, found_line, line_with, height_within, has_predecessor, last_at_most, close_above, closes_at_base}
+use Rattle.levels.proofs.LookupLemmas.{no_segment, ascends, found_line, line_with, height_within, has_predecessor, last_at_most, close_above, next_above, lb_above, closes_at_base, window_at, extent_at-base, extent_at-above}
 use Rattle.levels.proofs.index.Index.window_of.Goals as goal
 
 pub bounds-segments-run : goal.bounds-segments-run
@@ -180,10 +180,10 @@ window-requires-clause-within c =
     c.end_of_run-end.ensures.next c.end_of_run-end.ensures.last in
     let count : length c.ranks-ys.result.now ≡ length (xs_at keys levels level) = ap length c.ranks-ys.ensures ∙ here.same_length in
     rw c.ranks-ys.ensures (height_within keys eps eps_rec levels order index level c.extent_of-len.result (end - 1) (omega (arith, c.requires.inside))
-    c.extent_of-len.ensures.base c.extent_of-len.ensures.above (omega (arith, line.some, line.within)))
+    c.extent_of-len.ensures (omega (arith, line.some, line.within)))
 
-pub returns-clause-place : goal.returns-clause-place
-returns-clause-place c = λ place above found.
+pub returns-clause-exact : goal.returns-clause-exact
+returns-clause-exact c =
     let keys = c.args.self.now.keys in
     let eps = c.args.self.now.eps in
     let eps_rec = c.args.self.now.eps_rec in
@@ -198,15 +198,14 @@ returns-clause-place c = λ place above found.
     c.end_of_run-end.ensures.next c.end_of_run-end.ensures.last in
     let count : length c.ranks-ys.result.now ≡ length (xs_at keys levels level) = ap length c.ranks-ys.ensures ∙ here.same_length in
     let segment = slice_index_or c.level-segments.result.now c.args.run no_segment in
-    let has = line.has c.args.q place c.requires.run found in
-    let close = close_above keys eps eps_rec levels order index level c.args.q place end above line.within has.1 in
-    c.window.ensures.holds (points_at keys levels level) segment.start end place place
-    (line_with keys eps eps_rec levels order index level c.args.run segment end c.eps_of-eps.result c.ranks-ys.result.now line c.eps_of-eps.ensures.bound c.ranks-ys.ensures)
-    (last_at_most keys eps eps_rec levels order index level c.args.q place segment.start end line.within has found) close.0 close.1
-    (omega (arith, c.extent_of-len.ensures.above above, found.inside))
+    let predecessor = has_predecessor keys eps eps_rec levels order index no_segment level c.args.run c.args.q c.requires.inside c.requires.run in
+    let place : ℕ = predecessor.0 in
+    let found : IsPredecessor (xs_at keys levels level) c.args.q place = predecessor.1 in
+    window_at keys eps eps_rec levels order index level c.args.run c.args.q place segment end c.eps_of-eps.result c.extent_of-len.result c.window.result.0 c.window.result.1
+    c.ranks-ys.result.now line c.requires.run found c.eps_of-eps.ensures.bound c.ranks-ys.ensures c.extent_of-len.ensures c.window.ensures.exact
 
-pub returns-clause-position : goal.returns-clause-position
-returns-clause-position c = λ base.
+pub returns-clause-holds : goal.returns-clause-holds
+returns-clause-holds c =
     let keys = c.args.self.now.keys in
     let eps = c.args.self.now.eps in
     let eps_rec = c.args.self.now.eps_rec in
@@ -225,8 +224,23 @@ returns-clause-position c = λ base.
     let place : ℕ = predecessor.0 in
     let found : IsPredecessor (xs_at keys levels level) c.args.q place = predecessor.1 in
     let has = line.has c.args.q place c.requires.run found in
-    let close = closes_at_base keys eps eps_rec levels order index level c.args.q place end base (omega (arith, c.ranges.q)) line.within has.1 found in
-    c.window.ensures.holds (points_at keys levels level) segment.start end place (lb keys c.args.q)
-    (line_with keys eps eps_rec levels order index level c.args.run segment end c.eps_of-eps.result c.ranks-ys.result.now line c.eps_of-eps.ensures.bound c.ranks-ys.ensures)
-    (last_at_most keys eps eps_rec levels order index level c.args.q place segment.start end line.within has found) close.0 close.1
-    (omega (arith, c.extent_of-len.ensures.base base, (IsLowerBound-lb keys c.args.q order).within))
+    let own = line_with keys eps eps_rec levels order index level c.args.run segment end c.eps_of-eps.result c.ranks-ys.result.now line c.eps_of-eps.ensures.bound c.ranks-ys.ensures in
+    let last = last_at_most keys eps eps_rec levels order index level c.args.q place segment.start end line.within has found in
+    let holds = c.window.ensures.holds (points_at keys levels level) segment.start end place in
+    let inside = c.requires.inside in
+    record {
+      position = λ base.
+          let close = closes_at_base keys eps eps_rec levels order index level c.args.q place end base (omega (arith, c.ranges.q)) line.within has.1 found in
+          holds (lb keys c.args.q) own last close.0 close.1 (omega (arith, c.extent_of-len.ensures, extent_at-base keys levels level base, (IsLowerBound-lb keys c.args.q order).within));
+      predecessor = λ other above is.
+          let same = IsPredecessor-unique (xs_at keys levels level) c.args.q other place is found in
+          let held = holds place own last (close_above keys eps eps_rec levels order index level c.args.q place end above line.within has.1)
+          (next_above keys eps eps_rec levels order index level place place above found.inside (omega arith) (omega arith))
+          (omega (arith, c.extent_of-len.ensures, extent_at-above keys levels level above, found.inside)) in
+          (omega (arith, held.0, same), omega (arith, held.1, same));
+      lower_bound = λ above.
+          let bound = lb_above keys eps eps_rec levels order index level c.args.q place (omega arith) found in
+          holds (lb (xs_at keys levels level) c.args.q) own last (close_above keys eps eps_rec levels order index level c.args.q place end above line.within has.1)
+          (next_above keys eps eps_rec levels order index level place (lb (xs_at keys levels level) c.args.q) above found.inside bound.0 bound.1)
+          (omega (arith, c.extent_of-len.ensures, extent_at-above keys levels level above, found.inside, bound.1));
+    }

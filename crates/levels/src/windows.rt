@@ -1,0 +1,134 @@
+// The windows along a lookup.
+ghost use Rattle.std.specs.Prelude.{◌≡◌, ◌+◌, ◌<◌, ◌≤◌, ◌^◌, ℕ, All, IfOk, length};
+ghost use Rattle.std.specs.Prelude.{slice_index, vec_len, vec_capacity};
+ghost use Rattle.std.specs.List.Sorted.{IsNonDecreasing};
+ghost use Rattle.window_search.specs.Searches.{IsPredecessor};
+ghost use Rattle.levels.specs.Indexes.{IsIndex, xs_at};
+ghost use Rattle.levels.specs.Lookups.{AreWindows, HoldsAnswers, HasWindowsTo, IsNarrow};
+
+use crate::index::Index;
+use budget::{NoMemory, Steps};
+use std::alloc::Global;
+use std::marker::Brand;
+use std::sync::ledger::{Blank, Ledger};
+use window_search::predecessor_in;
+
+impl Index {
+    /// The windows along the lookup of `q`: of each level its number, and the first and the last
+    /// place of the window there, from the last level down to level 0.
+    ///
+    /// Above level 0 a place is one of the level's list, and at level 0 a position in the file. A
+    /// window is that of the run whose points include the last one with an x at most `q`. It has at
+    /// most 2ε + 3 places, ε being the level's error bound, and holds what is looked for there. No
+    /// window exactly where there is no key, or `q` is below the first one.
+    ///
+    /// # Errors
+    ///
+    /// `NoMemory` alone.
+    ///
+    /// Source: Ferragina and Vinciguerra, PVLDB 13(8), 2020, section 2.
+    pub fn windows(&self, alloc: Global, q: u64) -> Result<Vec<(u32, u32, u32)>, NoMemory>
+        ensures windows { IfOk result (λ windows. AreWindows self.now.keys self.now.eps
+            self.now.eps_rec self.now.levels q windows.items) }
+        ensures holds { IfOk result (λ windows. All (λ window. HoldsAnswers self.now.keys
+            self.now.levels window.0 q window.1 window.2) windows.items) }
+        ensures narrow { IfOk result (λ windows. All (λ window. IsNarrow self.now.eps
+            self.now.eps_rec window.0 window.1 window.2) windows.items) }
+    {
+        let mut windows = Vec::with_capacity(alloc, self.levels() as usize)?;
+        self.windows_into(q, &mut windows);
+        Ok(windows)
+    }
+
+    /// Puts what [`Index::windows`] gives into a list that is empty and has room for
+    /// [`Index::levels`] windows.
+    ///
+    /// Cannot fail and takes no memory.
+    pub fn windows_into(&self, q: u64, into: &mut Vec<(u32, u32, u32)>)
+        requires empty { vec_len into.old ≡ 0 }
+        requires room { length self.now.levels ≤ vec_capacity into.old }
+        ensures windows { AreWindows self.now.keys self.now.eps self.now.eps_rec self.now.levels q
+            into.new.items }
+        ensures holds { All (λ window. HoldsAnswers self.now.keys self.now.levels window.0 q
+            window.1 window.2) into.new.items }
+        ensures narrow { All (λ window. IsNarrow self.now.eps self.now.eps_rec window.0 window.1
+            window.2) into.new.items }
+        ensures capacity { vec_capacity into.old ≤ vec_capacity into.new }
+    {
+        windows_from::<Brand>(self, q, into, Blank::new(1));
+    }
+
+    /// The windows of the levels, where `q` isn't below the first key.
+    fn windows_down<L: Ledger>(&self, q: u64, into: &mut Vec<(u32, u32, u32)>, steps: &mut Steps<L>)
+        requires never_falls { IsNonDecreasing self.now.keys }
+        requires few { length self.now.keys < 2 ^ 32 }
+        requires some { 0 < length self.now.keys }
+        requires from_first { slice_index self.now.keys 0 ≤ q }
+        requires empty { vec_len into.old ≡ 0 }
+        requires room { length self.now.levels ≤ vec_capacity into.old }
+        ensures windows { HasWindowsTo self.now.keys self.now.eps self.now.eps_rec self.now.levels q
+            0 into.new.items }
+        ensures capacity { vec_capacity into.old ≤ vec_capacity into.new }
+    {
+        let mut level = self.levels() - 1;
+        let mut run = 0;
+        while level > 0 {
+            let (low, high) = self.push_window(level, run, q, into);
+            run = predecessor_in(self.list(level), low, high, q, steps);
+            level -= 1;
+        }
+        let _ = self.push_window(0, run, q, into);
+    }
+
+    /// Adds the window of `q` in a run of a level to those of the levels above it, and gives it.
+    fn push_window(
+        &self,
+        level: u32,
+        run: u32,
+        q: u64,
+        into: &mut Vec<(u32, u32, u32)>,
+    ) -> (u32, u32)
+        requires never_falls { IsNonDecreasing self.now.keys }
+        requires few { length self.now.keys < 2 ^ 32 }
+        requires index { IsIndex self.now.keys self.now.eps self.now.eps_rec self.now.levels }
+        requires inside { level < length self.now.levels }
+        requires run { IsPredecessor (xs_at self.now.keys self.now.levels (level + 1)) q run }
+        requires room { length self.now.levels ≤ vec_capacity into.old }
+        requires above { HasWindowsTo self.now.keys self.now.eps self.now.eps_rec self.now.levels q
+            (level + 1) into.old.items }
+        ensures windows { HasWindowsTo self.now.keys self.now.eps self.now.eps_rec self.now.levels q
+            level into.new.items }
+        ensures capacity { vec_capacity into.old ≤ vec_capacity into.new }
+        ensures order { result.0 ≤ result.1 }
+        ensures within_list { 0 < level → result.1 ≤ length (xs_at self.now.keys self.now.levels
+            level) }
+        ensures holds { HoldsAnswers self.now.keys self.now.levels level q result.0 result.1 }
+    {
+        let (low, high) = self.window_of(level, run, q);
+        let _ = into.push((level, low, high));
+        (low, high)
+    }
+}
+
+/// The windows, with a counter of its own, from a new ledger.
+fn windows_from<L: Ledger>(index: &Index, q: u64, into: &mut Vec<(u32, u32, u32)>, blank: Blank)
+    requires name { blank.name ≡ L.name }
+    requires parts { blank.parts ≡ L.parts }
+    requires one { blank.parts ≡ 1 }
+    requires empty { vec_len into.old ≡ 0 }
+    requires room { length index.now.levels ≤ vec_capacity into.old }
+    ensures windows { AreWindows index.now.keys index.now.eps index.now.eps_rec index.now.levels q
+        into.new.items }
+    ensures holds { All (λ window. HoldsAnswers index.now.keys index.now.levels window.0 q window.1
+        window.2) into.new.items }
+    ensures narrow { All (λ window. IsNarrow index.now.eps index.now.eps_rec window.0 window.1
+        window.2) into.new.items }
+    ensures capacity { vec_capacity into.old ≤ vec_capacity into.new }
+{
+    let keys = index.keys().file();
+    if keys.is_empty() || q < keys[0] {
+        return;
+    }
+    let mut steps = Steps::<L>::new(blank);
+    index.windows_down(q, into, &mut steps);
+}
