@@ -2,8 +2,8 @@
 --
 -- Main results: `distinct_of-alone`, since a list that loses no key to its repeats has none, and `xs_of-alone`, since a key that
 -- stands once isn't closed.
-use Rattle.std.proofs.Common.{◌≡◌, ℕ, suc, ◌+◌, ◌<◌, ◌≤◌, List, [], ◌∷◌, ◌++◌, length, slice_index, false, eqb, refl, ap, ◌∙◌, subst, arith, inl, inr}
-use Rattle.std.proofs.lemmas.Bool.{cases_lt}
+use Rattle.std.proofs.Common.{◌≡◌, ℕ, suc, ◌+◌, ◌<◌, ◌≤◌, List, [], ◌∷◌, ◌++◌, length, slice_index, false, eqb, ltb, refl, ap, ◌∙◌, subst, arith, inl, inr}
+use Rattle.std.proofs.lemmas.Bool.{cases_lt, cond-true, cond-false, lt-ltb, le-ltb}
 use Rattle.std.proofs.lemmas.Bool.Decides.{nat_tests}
 use Rattle.std.specs.List.{dedup_from, flat_map}
 use Rattle.std.specs.List.Sorted.{IsNonDecreasing, IsStrictlyIncreasing, IsSorted}
@@ -13,7 +13,7 @@ use Rattle.std.proofs.lemmas.Map.Keys.{IsStrictlyIncreasing-dedup}
 use Rattle.window_search.proofs.CallerLemmas.{lb-is}
 use Rattle.window_search.specs.Searches.{lb}
 use Rattle.exact_cross.proofs.CallerLemmas.{slice_index-rises}
-use Rattle.levels.specs.KeyPoints.{distinct_of, with_closing, is_closed, times, xs_of}
+use Rattle.levels.specs.KeyPoints.{distinct_of, first_of, with_closing, is_closed, times, xs_of}
 use Rattle.levels.proofs.DistinctLemmas.{times-lb}
 use Rattle.levels.proofs.GroupLemmas.{first_fails}
 
@@ -46,34 +46,47 @@ singles keys (x ∷ xs) none =
     ap (λ (l : List ℕ). l ++ flat_map (with_closing keys) xs) first
     ∙ ap (λ (l : List ℕ). x ∷ l) (singles keys xs (λ j inside. none (suc j) (omega (arith, inside))))
 
--- a rising key stands once
-once_closed : (keys : List ℕ) → IsStrictlyIncreasing keys → (j : ℕ) → j < length keys → is_closed keys (slice_index keys j) ≡ false
-once_closed keys rises j inside =
-    let here : lb keys (slice_index keys j) ≡ j = lb-is keys (slice_index keys j) j (omega (arith, inside))
-    (λ k low. slice_index-rises keys k j rises low inside) (λ k low within. not_before k low within) in
-    let next : lb keys (slice_index keys j + 1) ≡ j + 1 = lb-is keys (slice_index keys j + 1) (j + 1) (omega (arith, inside))
-    (λ k low. up_to k low) (λ k low within. omega (arith, slice_index-rises keys j k rises (omega (arith, low)) within)) in
-    first_fails (times keys (slice_index keys j)) (slice_index keys j) _ (omega (arith, times-lb keys (slice_index keys j), here, next))
-  where
-    not_before : (k : ℕ) → j ≤ k → k < length keys → slice_index keys j ≤ slice_index keys k
-    not_before k low within = elim (cases_lt j k) [
-      | inl less ↦ omega (arith, slice_index-rises keys j k rises less within)
-      | inr rest ↦ omega (arith, ap (slice_index keys) (same k low rest))
-    ]
-      where
-        same : (k : ℕ) → j ≤ k → k ≤ j → k ≡ j
-        same k low high = omega arith
+-- of rising keys as many are below one as stand before it
+module _ (keys : List ℕ) (rises : IsStrictlyIncreasing keys) (j : ℕ) (inside : j < length keys) where
+  pub lb-rising : lb keys (slice_index keys j) ≡ j
+  lb-rising = lb-is keys (slice_index keys j) j (omega (arith, inside)) (λ k low. slice_index-rises keys k j rises low inside) from
+    where
+      from : (k : ℕ) → j ≤ k → k < length keys → slice_index keys j ≤ slice_index keys k
+      from k low within = elim (cases_lt j k) [
+        | inl less ↦ omega (arith, slice_index-rises keys j k rises less within)
+        | inr rest ↦ let same : k ≡ j = omega arith in omega (arith, ap (slice_index keys) same)
+      ]
 
-    up_to : (k : ℕ) → k < j + 1 → slice_index keys k < slice_index keys j + 1
-    up_to k low = elim (cases_lt k j) [
-      | inl less ↦ omega (arith, slice_index-rises keys k j rises less inside)
-      | inr rest ↦ omega (arith, ap (slice_index keys) (same k low rest))
-    ]
-      where
-        same : (k : ℕ) → k < j + 1 → j ≤ k → k ≡ j
-        same k low high = omega arith
+  lb-rising_next : lb keys (slice_index keys j + 1) ≡ j + 1
+  lb-rising_next = lb-is keys (slice_index keys j + 1) (j + 1) (omega (arith, inside)) up_to
+      (λ k low within. omega (arith, slice_index-rises keys j k rises (omega (arith, low)) within))
+    where
+      up_to : (k : ℕ) → k < j + 1 → slice_index keys k < slice_index keys j + 1
+      up_to k low = elim (cases_lt k j) [
+        | inl less ↦ omega (arith, slice_index-rises keys k j rises less inside)
+        | inr rest ↦ let same : k ≡ j = omega arith in omega (arith, ap (slice_index keys) same)
+      ]
+
+  -- a rising key stands once
+  once_closed : is_closed keys (slice_index keys j) ≡ false
+  once_closed = first_fails (times keys (slice_index keys j)) (slice_index keys j) _ (omega (arith, times-lb keys (slice_index keys j), lb-rising, lb-rising_next))
 
 pub xs_of-alone : (keys : List ℕ) → IsNonDecreasing keys → distinct_of keys ≡ keys → xs_of keys ≡ keys
 xs_of-alone keys order alone =
     let rises = subst (λ (xs : List ℕ). IsStrictlyIncreasing xs) alone (IsStrictlyIncreasing-distinct_of keys order) in
     ap (flat_map (with_closing keys)) alone ∙ singles keys keys (once_closed keys rises)
+
+-- the first position of the j-th distinct key
+pub first_of-inner : (keys : List ℕ) (j : ℕ) → j < length (distinct_of keys) → first_of keys j ≡ lb keys (slice_index (distinct_of keys) j)
+first_of-inner keys j inside = cond-true (ltb j (length (distinct_of keys))) _ _ (lt-ltb j (length (distinct_of keys)) inside)
+
+pub first_of-last : (keys : List ℕ) (j : ℕ) → length (distinct_of keys) ≤ j → first_of keys j ≡ length keys
+first_of-last keys j past = cond-false (ltb j (length (distinct_of keys))) _ _ (le-ltb j (length (distinct_of keys)) past)
+
+pub first_of-alone : (keys : List ℕ) (j : ℕ) → IsNonDecreasing keys → distinct_of keys ≡ keys → j ≤ length keys → first_of keys j ≡ j
+first_of-alone keys j order alone within = elim (cases_lt j (length keys)) [
+  | inl inside ↦
+      let rises = subst (λ (xs : List ℕ). IsStrictlyIncreasing xs) alone (IsStrictlyIncreasing-distinct_of keys order) in
+      first_of-inner keys j (omega (arith, ap length alone)) ∙ ap (λ (xs : List ℕ). lb keys (slice_index xs j)) alone ∙ lb-rising keys rises j inside
+  | inr last ↦ first_of-last keys j (omega (arith, ap length alone)) ∙ omega arith
+]

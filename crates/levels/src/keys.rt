@@ -2,12 +2,14 @@
 ghost use Rattle.std.specs.Prelude.{◌≡◌, ◌+◌, ◌<◌, ◌≤◌, ◌^◌, length, slice_index, vec_len, IfOk, IsTrue, ◌↔◌};
 ghost use Rattle.std.specs.List.Sorted.{IsNonDecreasing};
 ghost use Rattle.window_search.specs.Searches.{lb};
-ghost use Rattle.levels.specs.KeyPoints.{distinct_of, xs_of, ys_of};
+ghost use Rattle.levels.specs.KeyPoints.{distinct_of, first_of, xs_of, ys_of};
 
 use crate::parts::{Parts, parts_of};
-use budget::NoMemory;
+use budget::{NoMemory, Steps};
 use std::alloc::Global;
-use std::marker::Model;
+use std::marker::{Brand, Model};
+use std::sync::ledger::{Blank, Ledger};
+use window_search::lower_in;
 
 /// The keys of a file, which may repeat, with the points that level 0 stands on. Seen as the list
 /// of the keys.
@@ -105,6 +107,25 @@ impl Keys {
         }
     }
 
+    /// How many keys of the file are below the `j`-th distinct key, counted from 0, and all of them
+    /// where `j` is the number of distinct keys.
+    ///
+    /// Where keys repeat, the distinct key is searched in the file, and at most 33 of its keys are
+    /// read. Cannot fail and takes no memory.
+    pub fn first(&self, j: u32) -> u32
+        requires { j ≤ length (distinct_of self.now) }
+        ensures { result ≡ first_of self.now j }
+    {
+        if !self.repeats {
+            return j;
+        }
+        let distinct = &self.distinct;
+        if j as usize == distinct.len() {
+            return self.file.len() as u32;
+        }
+        lower_of::<Brand>(&self.file, distinct[j as usize], Blank::new(1))
+    }
+
     /// The x of the points, which rise.
     pub fn xs(&self) -> &[u64]
         ensures { result.now ≡ xs_of self.now }
@@ -118,4 +139,17 @@ impl Keys {
     {
         &self.ys
     }
+}
+
+/// How many keys of the file are below `q`, with a counter of its own, from a new ledger.
+fn lower_of<L: Ledger>(file: &[u64], q: u64, blank: Blank) -> u32
+    requires never_falls { IsNonDecreasing file.now }
+    requires few { length file.now < 2 ^ 32 }
+    requires name { blank.name ≡ L.name }
+    requires parts { blank.parts ≡ L.parts }
+    requires one { blank.parts ≡ 1 }
+    ensures { result ≡ lb file.now q }
+{
+    let mut steps = Steps::<L>::new(blank);
+    lower_in(file, 0, file.len() as u32, q, &mut steps)
 }
