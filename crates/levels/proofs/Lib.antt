@@ -9,3 +9,4 @@ pub mod StoredLemmas
 pub mod LookupLemmas
 pub mod CostLemmas
 pub mod WindowLists
+pub mod HeightLemmas

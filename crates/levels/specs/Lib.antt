@@ -5,3 +5,4 @@ pub mod Indexes
 pub mod Stored
 pub mod Costs
 pub mod Lookups
+pub mod Heights

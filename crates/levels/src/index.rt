@@ -4,6 +4,8 @@ ghost use Rattle.exact_cross.specs.declared.segment.Segment.{Segment};
 ghost use Rattle.exact_cross.specs.Checked.{IsLeastCover, AreChecked};
 ghost use Rattle.exact_cross.specs.Segments.{starts_of};
 ghost use Rattle.levels.specs.Indexes.{IsIndex, IsLevel, level_at, xs_at, ys_at, points_at, eps_at};
+ghost use Rattle.levels.specs.KeyPoints.{xs_of};
+ghost use Rattle.levels.specs.Heights.{IsLow, HasLongRuns, least_places};
 ghost use Rattle.levels.specs.Stored.{AreLevels, AreStored, segments_of};
 
 use crate::keys::Keys;
@@ -63,9 +65,13 @@ impl Index {
     }
 
     /// How many levels there are, none where there is no key.
+    ///
+    /// They are few: two levels or more stand on more than `2 * (2ε' + 2)^(levels - 2)` points,
+    /// where ε' is the bound above level 0.
     pub fn levels(&self) -> u32
         ensures count { result ≡ length self.now.levels }
         ensures index { IsIndex self.now.keys self.now.eps self.now.eps_rec self.now.levels }
+        ensures few { IsLow self.now.eps_rec result (length (xs_of self.now.keys)) }
     {
         self.stored.len() as u32
     }
@@ -73,7 +79,7 @@ impl Index {
     /// The segments of level `i`, counted from 0, the lowest.
     ///
     /// They are as few as lines within the level's bound can do with, and a checker of covers takes
-    /// them.
+    /// them. Each run but the last one has 2 places or more at level 0, and `2ε' + 2` above it.
     pub fn level(&self, i: u32) -> &[Segment]
         requires { i < length self.now.levels }
         ensures segments { result.now ≡ level_at self.now.levels i }
@@ -83,6 +89,7 @@ impl Index {
             (length (xs_at self.now.keys self.now.levels i)) (starts_of result.now) }
         ensures checked { AreChecked (points_at self.now.keys self.now.levels i)
             (eps_at self.now.eps self.now.eps_rec i) result.now }
+        ensures long { HasLongRuns (least_places self.now.eps_rec i) result.now }
     {
         let level = &self.stored[i as usize];
         &level.segments

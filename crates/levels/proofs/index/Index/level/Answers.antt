@@ -4,6 +4,7 @@ use Rattle.levels.specs.declared.level.Level.{Level}
 use Rattle.levels.specs.Indexes.{level_at}
 use Rattle.levels.specs.Stored.{segments_of}
 use Rattle.levels.proofs.StoredLemmas.{level_at-kept, segments_of-count, least_level, checked_level}
+use Rattle.levels.proofs.HeightLemmas.{long_level}
 use Rattle.levels.proofs.index.Index.level.Goals as goal
 
 pub returns-clause-least : goal.returns-clause-least
@@ -23,3 +24,13 @@ returns-clause-checked c =
     let here : c.deref.result.now ≡ level_at (segments_of levels) c.args.i =
     c.deref.ensures.value ∙ ap (λ (l : Level). l.segments.items) c.index-level.ensures ∙ sym (level_at-kept levels c.args.i c.index-level.result.now inside) in
     rw (← c.self.view_is, here) (checked_level own.keys own.eps own.eps_rec levels c.self.invariant.first c.args.i inside)
+
+pub returns-clause-long : goal.returns-clause-long
+returns-clause-long c =
+    let own = c.self.inside in
+    let levels = own.stored.items in
+    let inside : c.args.i < length levels = omega (arith, segments_of-count levels, rw (← c.self.view_is) at c.requires) in
+    let here : c.deref.result.now ≡ level_at (segments_of levels) c.args.i =
+    c.deref.ensures.value ∙ ap (λ (l : Level). l.segments.items) c.index-level.ensures ∙ sym (level_at-kept levels c.args.i c.index-level.result.now inside) in
+    rw (← c.self.view_is, here)
+    (long_level own.keys own.eps own.eps_rec (segments_of levels) c.self.invariant.first.never_falls c.self.invariant.index c.args.i (omega (arith, inside, segments_of-count levels)))
