@@ -154,13 +154,3 @@ module _ (keys : List ℕ) (at end : ℕ) (order : IsNonDecreasing keys) (start 
       lb-start
       (subst (λ (place : ℕ). HoldsUpTo keys end (distinct ++ slice_index keys at ∷ []) (xs ++ slice_index keys at ∷ (slice_index keys at + 1) ∷ []) (ys ++ lb keys (slice_index keys at) ∷ place ∷ []))
       lb-end (HoldsUpTo-more distinct xs ys (slice_index keys at ∷ (slice_index keys at + 1) ∷ []) so_far (points-closed closed)))
-
-  -- the next group begins where this one ends
-  pub IsGroupStart-next : end < length keys → IsGroupStart keys end
-  IsGroupStart-next inside = record {
-    inside = inside;
-    before = λ k less. elim (cases_lt k at) [
-      | inl low ↦ omega (arith, start.before k low, group.behind end (omega arith) inside)
-      | inr high ↦ omega (arith, group.same k high less, group.behind end (omega arith) inside)
-    ];
-  }

@@ -8,5 +8,8 @@ pub mod LevelLemmas
 pub mod StoredLemmas
 pub mod LookupLemmas
 pub mod CostLemmas
+pub mod RunsApart
 pub mod WindowLists
 pub mod HeightLemmas
+pub mod IndexLemmas
+pub mod CallerLemmas

@@ -1,5 +1,5 @@
 -- Lists by their first element: numbers that are in a list, that never fall or that rise from a bound on, and the same by places.
-use Rattle.std.proofs.Common.{◌≡◌, ◌⊎◌, inl, inr, ℕ, zero, suc, ◌+◌, ◌<◌, ◌≤◌, List, [], ◌∷◌, ◌++◌, length, get_or, slice_index, refl, sym, arith, add-one}
+use Rattle.std.proofs.Common.{◌≡◌, ◌⊎◌, inl, inr, ℕ, zero, suc, ◌+◌, ◌<◌, ◌≤◌, List, [], ◌∷◌, ◌++◌, length, get_or, slice_index, sym, arith, add-one}
 use Rattle.std.specs.List.Sorted.{IsNonDecreasing, IsStrictlyIncreasing}
 
 -- the number stands in the list
@@ -38,11 +38,6 @@ pub IsIn-place : (x : ℕ) (xs : List ℕ) → IsIn x xs → (j : ℕ) × (j < l
 IsIn-place x [] inside = absurd inside
 IsIn-place x (y ∷ ys) (inl same) = (0, omega arith, sym same)
 IsIn-place x (y ∷ ys) (inr later) = let found = IsIn-place x ys later in (suc found.0, omega (arith, found.1), found.2)
-
-pub IsIn-from_place : (xs : List ℕ) (j : ℕ) → j < length xs → IsIn (slice_index xs j) xs
-IsIn-from_place [] j inside = absurd (omega arith)
-IsIn-from_place (x ∷ xs) zero inside = inl refl
-IsIn-from_place (x ∷ xs) (suc j) inside = inr (IsIn-from_place xs j (omega arith))
 
 pub IsIn-left : (x : ℕ) (xs ys : List ℕ) → IsIn x xs → IsIn x (xs ++ ys)
 IsIn-left x [] ys inside = absurd inside

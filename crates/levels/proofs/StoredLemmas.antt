@@ -11,16 +11,14 @@ use Rattle.std.specs.List.Sorted.{IsNonDecreasing, IsStrictlyIncreasing}
 use Rattle.exact_cross.specs.declared.segment.Segment.{Segment}
 use Rattle.exact_cross.specs.Points.{points_of, places}
 use Rattle.exact_cross.specs.Covers.{IsLongest}
-use Rattle.exact_cross.specs.Segments.{starts_of, EachRun, IsSteepSegment, IsFitted}
-use Rattle.exact_cross.specs.Checked.{IsInRange, IsLeastCover, AreChecked}
-use Rattle.exact_cross.proofs.CallerLemmas.{IsLeastCover-from_greedy, AreChecked-from_greedy}
+use Rattle.exact_cross.specs.Segments.{IsSteepSegment}
 use Rattle.segmenter.specs.Segmentation.{IsSegmentation}
 use Rattle.levels.specs.declared.level.Level.{Level}
 use Rattle.levels.specs.KeyPoints.{xs_of, ys_of}
 use Rattle.levels.specs.Indexes.{first_xs, level_at, xs_at, ys_at, points_at, eps_at, IsLevel, places_below}
 use Rattle.levels.specs.Stored.{segments_of, AreLevels, AreStored}
-use Rattle.levels.proofs.SegmentLemmas.{fewer_runs, run_at, fitted_runs}
-use Rattle.levels.proofs.LevelLemmas.{heights_few, xs_at-base, ys_at-base, xs_at-above, ys_at-above, AscendsAt, ascends_at, some_at, xs_at-same, ys_at-same, xs_at-length, IsLevel-in}
+use Rattle.levels.proofs.SegmentLemmas.{fewer_runs, run_at}
+use Rattle.levels.proofs.LevelLemmas.{xs_at-base, ys_at-base, xs_at-above, ys_at-above, AscendsAt, ascends_at, some_at, xs_at-same, ys_at-same, xs_at-length, IsLevel-in}
 
 pub segments_of-count : (levels : List Level) → length (segments_of levels) ≡ length levels
 segments_of-count levels = length-map levels (λ (level : Level). level.segments.items)
@@ -281,28 +279,3 @@ levels_few keys eps eps_rec levels stored = elim (cases_lt 0 (length levels)) [
       let points = some_at keys eps eps_rec (segments_of levels) stored.first.never_falls some last (λ k less. stored.first.each k (omega arith)) in
       omega (arith, list_and_place keys eps eps_rec levels stored.first some last (omega arith))
 ]
-
--- each level's lines are in range and fit
-pub fitted_level : (keys : List ℕ) (eps eps_rec : ℕ) (levels : List Level) → AreLevels keys eps eps_rec levels → (i : ℕ) → i < length levels →
-    EachRun (λ segment e. IsInRange segment.line) (length (xs_at keys (segments_of levels) i)) (level_at (segments_of levels) i)
-    × EachRun (IsFitted (points_at keys (segments_of levels) i) (eps_at eps eps_rec i)) (length (xs_at keys (segments_of levels) i)) (level_at (segments_of levels) i)
-fitted_level keys eps eps_rec levels all i inside =
-    let here = ascends_next keys eps eps_rec levels all i (omega arith) in
-    let segments = segments_of levels in
-    fitted_runs (points_at keys segments i) (eps_at eps eps_rec i) 0 (length (xs_at keys segments i)) (level_at segments i) here.ascends (omega arith)
-    (λ j low. omega (arith, heights_few keys segments i here j low, all.few)) (eps_at-bounded eps eps_rec i all.bounded all.bounded_rec)
-    (all.each i inside).greedy (all.each i inside).steep
-
-pub least_level : (keys : List ℕ) (eps eps_rec : ℕ) (levels : List Level) → AreLevels keys eps eps_rec levels → (i : ℕ) → i < length levels →
-    IsLeastCover (points_at keys (segments_of levels) i) (eps_at eps eps_rec i) 0 (length (xs_at keys (segments_of levels) i)) (starts_of (level_at (segments_of levels) i))
-least_level keys eps eps_rec levels all i inside =
-    IsLeastCover-from_greedy (points_at keys (segments_of levels) i) (eps_at eps eps_rec i) 0 (length (xs_at keys (segments_of levels) i)) (starts_of (level_at (segments_of levels) i))
-    (all.each i inside).greedy
-
-pub checked_level : (keys : List ℕ) (eps eps_rec : ℕ) (levels : List Level) → AreLevels keys eps eps_rec levels → (i : ℕ) → i < length levels →
-    AreChecked (points_at keys (segments_of levels) i) (eps_at eps eps_rec i) (level_at (segments_of levels) i)
-checked_level keys eps eps_rec levels all i inside =
-    let level = all.each i inside in
-    let fitted = fitted_level keys eps eps_rec levels all i inside in
-    AreChecked-from_greedy (points_at keys (segments_of levels) i) (eps_at eps eps_rec i) 0 (length (xs_at keys (segments_of levels) i)) (level_at (segments_of levels) i) refl refl
-    level.greedy fitted.0 fitted.1 level.cuts

@@ -1,11 +1,20 @@
 -- The windows along a lookup: one more, all of them, and that there is one list of them.
-use Rattle.std.proofs.Common.{◌≡◌, inl, inr, ℕ, ◌+◌, ◌<◌, ◌≤◌, List, [], ◌∷◌, ◌++◌, length, slice_index, slice_index_or, ap, ◌∙◌, arith, Result, Ok, Err, is_ok, IsOk, if◌then◌else◌}
+use Rattle.std.proofs.Common.{◌≡◌, inl, inr, ℕ, ◌+◌, ◌<◌, ◌≤◌, List, [], ◌∷◌, ◌++◌, length, slice_index, slice_index_or, ap, ◌∙◌, arith, Result, Ok, Err, is_ok, IsOk, if◌then◌else◌, ◌-◌, sym}
 use Rattle.std.proofs.lemmas.Bool.{cases_lt}
-use Rattle.std.proofs.lemmas.List.{length-append, get_or_append_left}
+use Rattle.std.proofs.lemmas.List.{length-append, get_or_append_left, ext_get_or}
 use Rattle.std.proofs.lemmas.List.Elements.{All-push}
 use Rattle.std.proofs.Math.Seq.{get_or-append_seam}
+use Rattle.std.specs.List.Sorted.{IsNonDecreasing}
+use Rattle.exact_cross.specs.declared.line.Line.{Line}
 use Rattle.exact_cross.specs.declared.segment.Segment.{Segment}
-use Rattle.levels.specs.Lookups.{IsWindowAt, IsBelowAll, AreWindows, HoldsAnswers, IsNarrow, HasWindowsTo}
+use Rattle.exact_cross.specs.Covers.{IsLongest}
+use Rattle.exact_cross.specs.Segments.{IsSteepSegment}
+use Rattle.exact_cross.proofs.CallerLemmas.{line_of_pair-positive}
+use Rattle.window_search.proofs.CallerLemmas.{IsPredecessor-unique, IsWindow-unique}
+use Rattle.levels.specs.Indexes.{IsIndex, level_at, xs_at, ys_at, points_at, eps_at}
+use Rattle.levels.proofs.RunsApart.{HasRun-each, HasRun-within, HasRun-unique}
+use Rattle.levels.proofs.LookupLemmas.{ascends}
+use Rattle.levels.specs.Lookups.{extent_at, IsWindowAt, AreWindows, HoldsAnswers, IsNarrow, HasWindowsTo}
 
 -- a push that succeeds
 pub pushed : {X E : Type 0} (r : Result (Unit {0}) E) (items before after : List X) → IsOk r → items ≡ (if is_ok r then after else before) → items ≡ after
@@ -49,20 +58,51 @@ module _ (keys : List ℕ) (eps eps_rec : ℕ) (levels : List (List Segment)) (q
             ap (λ (window : ℕ × ℕ × ℕ). window.0 + (k + 1)) is ∙ omega (arith, last, above.count)
       ]
 
-  -- all of them
-  pub AreWindows-all : (windows : List (ℕ × ℕ × ℕ)) → 0 < length keys → slice_index keys 0 ≤ q → HasWindowsTo keys eps eps_rec levels q 0 windows → AreWindows keys eps eps_rec levels q windows
-  AreWindows-all windows some first all = record {
-    none = λ below. elim below [ inl empty ↦ absurd (omega arith) | inr less ↦ absurd (omega arith) ];
-    some = λ key from. omega (arith, all.count);
-    order = all.order;
-    each = all.each;
-  }
+-- ---- there is one list of windows
 
-  -- none
-  pub AreWindows-none : (windows : List (ℕ × ℕ × ℕ)) → windows ≡ [] → IsBelowAll keys q → AreWindows keys eps eps_rec levels q windows
-  AreWindows-none windows empty below = record {
-    none = λ _. empty;
-    some = λ key from. elim below [ inl none ↦ absurd (omega arith) | inr less ↦ absurd (omega arith) ];
-    order = λ k d inside. absurd (omega (arith, ap length empty));
-    each = λ k d inside. absurd (omega (arith, ap length empty));
-  }
+module _ (keys : List ℕ) (eps eps_rec : ℕ) (levels : List (List Segment)) (order : IsNonDecreasing keys) (index : IsIndex keys eps eps_rec levels) where
+  IsWindowAt-unique : (i q low high low' high' : ℕ) → i < length levels → IsWindowAt keys eps eps_rec levels i q low high → IsWindowAt keys eps eps_rec levels i q low' high' →
+      (low ≡ low') × (high ≡ high')
+  IsWindowAt-unique i q low high low' high' inside first second =
+      let here = ascends keys eps eps_rec levels order index i (omega arith) in
+      let p = points_at keys levels i in
+      let bound = eps_at eps eps_rec i in
+      let to = length (xs_at keys levels i) in
+      let level = index.each i inside in
+      let place : first.place ≡ second.place = IsPredecessor-unique (xs_at keys levels i) q first.place second.place first.last second.last in
+      let from : second.segment.start ≤ first.place = omega (arith, place, second.from_start) in
+      let end : first.place < second.e = omega (arith, place, second.to_end) in
+      let same = HasRun-unique (IsLongest p bound to) (level_at levels i) 0 to first.place first.segment second.segment first.e second.e level.greedy first.run first.from_start first.to_end
+      second.run from end in
+      let within = HasRun-within (IsLongest p bound to) (level_at levels i) 0 to first.segment first.e level.greedy first.run in
+      let steep = HasRun-each (IsSteepSegment p bound) (level_at levels i) to first.segment first.e level.steep first.run in
+      let some : first.segment.start < first.e = omega (arith, first.from_start, first.to_end) in
+      let rising = line_of_pair-positive p bound first.segment.start first.e first.segment.a first.segment.b here.ascends some within.1 steep.pair in
+      let positive : 0 < first.segment.line.run = omega (arith, rising, ap (λ (l : Line). l.run) steep.line) in
+      IsWindow-unique first.segment.line (slice_index (ys_at keys levels i) first.segment.start) (slice_index (ys_at keys levels i) (first.e - 1)) bound q (extent_at keys levels i)
+      low high low' high' positive first.window (rw (same.0, same.1) second.window)
+
+  same_window : (v w : ℕ × ℕ × ℕ) → v.0 ≡ w.0 → v.1 ≡ w.1 → v.2 ≡ w.2 → v ≡ w
+  same_window v w level low high =
+      ap (λ (n : ℕ). (n, v.1, v.2)) level ∙ ap (λ (n : ℕ). (w.0, n, v.2)) low ∙ ap (λ (n : ℕ). (w.0, w.1, n)) high
+
+  pub AreWindows-unique : (q : ℕ) (windows others : List (ℕ × ℕ × ℕ)) → AreWindows keys eps eps_rec levels q windows → AreWindows keys eps eps_rec levels q others → windows ≡ others
+  AreWindows-unique q windows others first second = ext_get_or (0, 0, 0) windows others count each
+    where
+      count : length windows ≡ length others
+      count = elim (cases_lt 0 (length keys)) [
+        | inr none ↦ ap length (first.none (inl (omega arith)) ∙ sym (second.none (inl (omega arith))))
+        | inl some ↦ elim (cases_lt q (slice_index keys 0)) [
+          | inl below ↦ ap length (first.none (inr below) ∙ sym (second.none (inr below)))
+          | inr from ↦ first.some some from ∙ sym (second.some some from)
+        ]
+      ]
+
+      each : (k : ℕ) → k < length windows → slice_index_or windows k (0, 0, 0) ≡ slice_index_or others k (0, 0, 0)
+      each k inside =
+          let v = slice_index_or windows k (0, 0, 0) in
+          let w = slice_index_or others k (0, 0, 0) in
+          let level : v.0 ≡ w.0 = omega (arith, first.order k (0, 0, 0) inside, second.order k (0, 0, 0) (omega (arith, count))) in
+          let other : IsWindowAt keys eps eps_rec levels v.0 q w.1 w.2 = rw level (second.each k (0, 0, 0) (omega (arith, count))) in
+          let same = IsWindowAt-unique v.0 q v.1 v.2 w.1 w.2 (omega (arith, first.order k (0, 0, 0) inside)) (first.each k (0, 0, 0) inside) other in
+          same_window v w level same.0 same.1

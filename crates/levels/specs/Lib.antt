@@ -6,3 +6,10 @@ pub mod Stored
 pub mod Costs
 pub mod Lookups
 pub mod Heights
+pub use Rattle.exact_cross.specs.Points
+pub use Rattle.exact_cross.specs.Covers
+pub use Rattle.exact_cross.specs.Segments
+pub use Rattle.exact_cross.specs.Checked
+pub use Rattle.segmenter.specs.Segmentation
+pub use Rattle.window_search.specs.Searches
+pub use Rattle.window_search.specs.Windows

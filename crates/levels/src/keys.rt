@@ -1,5 +1,6 @@
 // The keys of a file, with the points that they stand for.
-ghost use Rattle.std.specs.Prelude.{◌≡◌, ◌+◌, ◌<◌, ◌≤◌, ◌^◌, length, slice_index, vec_len, IfOk, IsTrue, ◌↔◌};
+ghost use Rattle.std.specs.Prelude.{◌≡◌, ◌+◌, ◌<◌, ◌≤◌, ◌^◌, length};
+ghost use Rattle.std.specs.Prelude.{slice_index, vec_len, IfOk, IsTrue, ◌↔◌};
 ghost use Rattle.std.specs.List.Sorted.{IsNonDecreasing};
 ghost use Rattle.window_search.specs.Searches.{lb};
 ghost use Rattle.levels.specs.KeyPoints.{distinct_of, first_of, xs_of, ys_of};
@@ -37,7 +38,8 @@ impl Model for Keys {
 
     ghost view = { λ keys. keys.file.items };
 
-    ghost invariant = { λ keys. AreOfKeys keys.file.items keys.distinct.items keys.xs.items keys.ys.items keys.repeats };
+    ghost invariant = { λ keys. AreOfKeys keys.file.items keys.distinct.items keys.xs.items
+        keys.ys.items keys.repeats };
 }
 
 impl Keys {

@@ -5,7 +5,8 @@
 //! which leads to the first run, and at level 0, where 3 keys are below it.
 //!
 //! Main clauses: `index` and `cost` of [`Index::build_here`], `found` and `cost` of
-//! [`Index::lower_bound`], and the law [`one_index`]. The words of the clauses are in `specs/`.
+//! [`Index::lower_bound`], `windows` of [`Index::windows`], and the law [`one_index`]. The words of
+//! the clauses are in `specs/`.
 #![tactic(auto)]
 
 mod build;
@@ -18,6 +19,7 @@ mod windows;
 
 pub use index::{Index, one_index};
 pub use keys::Keys;
+pub use windows::one_list_of_windows;
 
 #[cfg(test)]
 mod tests;

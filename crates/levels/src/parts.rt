@@ -1,5 +1,6 @@
 // The distinct keys and the points of keys that repeat.
-ghost use Rattle.std.specs.Prelude.{◌≡◌, ◌+◌, ◌<◌, ◌≤◌, ◌^◌, ℕ, length, slice_index, IfOk, OnOk, IsTrue};
+ghost use Rattle.std.specs.Prelude.{◌≡◌, ◌+◌, ◌<◌, ◌≤◌, ◌^◌, ℕ};
+ghost use Rattle.std.specs.Prelude.{length, slice_index, IfOk, OnOk, IsTrue};
 ghost use Rattle.std.specs.List.Sorted.{IsNonDecreasing};
 ghost use Rattle.levels.specs.KeyPoints.{distinct_of, is_closed, xs_of, ys_of};
 ghost use Rattle.levels.specs.Groups.{HoldsUpTo, IsGroupStart, IsGroupEnd};

@@ -1,5 +1,6 @@
 //! Indexes worked out by hand: how many runs each level has, and positions of questions.
-ghost use Rattle.std.specs.Prelude.{◌≡◌, ◌+◌, ◌<◌, ◌≤◌, ◌^◌, length, vec_len, IsTrue};
+ghost use Rattle.std.specs.Prelude.{◌≡◌, ◌+◌, ◌<◌, ◌≤◌};
+ghost use Rattle.std.specs.Prelude.{◌^◌, length, vec_len, IsTrue};
 ghost use Rattle.std.specs.List.Sorted.{IsNonDecreasing};
 
 use crate::{Index, Keys};

@@ -1,7 +1,9 @@
 // The windows along a lookup.
-ghost use Rattle.std.specs.Prelude.{◌≡◌, ◌+◌, ◌<◌, ◌≤◌, ◌^◌, ℕ, All, IfOk, length};
+ghost use Rattle.std.specs.Prelude.{◌≡◌, ◌+◌, ◌<◌, ◌≤◌, ◌^◌};
+ghost use Rattle.std.specs.Prelude.{ℕ, List, All, IfOk, length};
 ghost use Rattle.std.specs.Prelude.{slice_index, vec_len, vec_capacity};
 ghost use Rattle.std.specs.List.Sorted.{IsNonDecreasing};
+ghost use Rattle.exact_cross.specs.declared.segment.Segment.{Segment};
 ghost use Rattle.window_search.specs.Searches.{IsPredecessor};
 ghost use Rattle.levels.specs.Indexes.{IsIndex, xs_at};
 ghost use Rattle.levels.specs.Lookups.{AreWindows, HoldsAnswers, HasWindowsTo, IsNarrow};
@@ -18,8 +20,8 @@ impl Index {
     /// place of the window there, from the last level down to level 0.
     ///
     /// Above level 0 a place is one of the level's list, and at level 0 a position in the file. A
-    /// window is that of the run whose points include the last one with an x at most `q`. It has at
-    /// most 2ε + 3 places, ε being the level's error bound, and holds what is looked for there. No
+    /// window is that of the run whose points include the last one with an x at most `q`. It has
+    /// at most 2ε + 3 places, ε being the level's bound, and holds what is looked for there. No
     /// window exactly where there is no key, or `q` is below the first one.
     ///
     /// # Errors
@@ -132,3 +134,11 @@ fn windows_from<L: Ledger>(index: &Index, q: u64, into: &mut Vec<(u32, u32, u32)
     let mut steps = Steps::<L>::new(blank);
     index.windows_down(q, into, &mut steps);
 }
+
+/// An index has one list of windows for a question: two lists that are it are equal.
+pub fn one_list_of_windows()
+    ensures { (keys : List ℕ) (eps eps_rec : ℕ) (levels : List (List Segment)) (q : ℕ)
+        (one two : List (ℕ × ℕ × ℕ)) → IsNonDecreasing keys →
+        IsIndex keys eps eps_rec levels → AreWindows keys eps eps_rec levels q one →
+        AreWindows keys eps eps_rec levels q two → one ≡ two }
+{}

@@ -3,7 +3,8 @@ use Rattle.std.proofs.Common.{◌≡◌, ◌<◌, ◌∙◌, sym, ap, length, ar
 use Rattle.levels.specs.declared.level.Level.{Level}
 use Rattle.levels.specs.Indexes.{level_at}
 use Rattle.levels.specs.Stored.{segments_of}
-use Rattle.levels.proofs.StoredLemmas.{level_at-kept, segments_of-count, least_level, checked_level}
+use Rattle.levels.proofs.StoredLemmas.{level_at-kept, segments_of-count}
+use Rattle.levels.proofs.IndexLemmas.{IsIndex-least, IsIndex-checked}
 use Rattle.levels.proofs.HeightLemmas.{long_level}
 use Rattle.levels.proofs.index.Index.level.Goals as goal
 
@@ -14,7 +15,7 @@ returns-clause-least c =
     let inside : c.args.i < length levels = omega (arith, segments_of-count levels, rw (← c.self.view_is) at c.requires) in
     let here : c.deref.result.now ≡ level_at (segments_of levels) c.args.i =
     c.deref.ensures.value ∙ ap (λ (l : Level). l.segments.items) c.index-level.ensures ∙ sym (level_at-kept levels c.args.i c.index-level.result.now inside) in
-    rw (← c.self.view_is, here) (least_level own.keys own.eps own.eps_rec levels c.self.invariant.first c.args.i inside)
+    rw (← c.self.view_is, here) (IsIndex-least own.keys own.eps own.eps_rec (segments_of levels) c.self.invariant.first.never_falls c.self.invariant.index c.args.i (omega (arith, inside, segments_of-count levels)))
 
 pub returns-clause-checked : goal.returns-clause-checked
 returns-clause-checked c =
@@ -23,7 +24,8 @@ returns-clause-checked c =
     let inside : c.args.i < length levels = omega (arith, segments_of-count levels, rw (← c.self.view_is) at c.requires) in
     let here : c.deref.result.now ≡ level_at (segments_of levels) c.args.i =
     c.deref.ensures.value ∙ ap (λ (l : Level). l.segments.items) c.index-level.ensures ∙ sym (level_at-kept levels c.args.i c.index-level.result.now inside) in
-    rw (← c.self.view_is, here) (checked_level own.keys own.eps own.eps_rec levels c.self.invariant.first c.args.i inside)
+    rw (← c.self.view_is, here) (IsIndex-checked own.keys own.eps own.eps_rec (segments_of levels) c.self.invariant.first.never_falls c.self.invariant.index c.self.invariant.first.few
+    c.self.invariant.first.bounded c.self.invariant.first.bounded_rec c.args.i (omega (arith, inside, segments_of-count levels)))
 
 pub returns-clause-long : goal.returns-clause-long
 returns-clause-long c =
