@@ -1,6 +1,6 @@
 -- What the crates above cite: what an index is by its levels, that there is one, and the windows along a lookup.
 pub use Rattle.levels.proofs.LevelLemmas.{xs_at-base, ys_at-base, xs_at-above, ys_at-above, xs_at-length, AscendsAt, IsIndex-unique}
-pub use Rattle.levels.proofs.PointOrder.{xs-rise, xs-few, xs-first, ys-length, ys-at, ys-never_fall}
+pub use Rattle.key_points.proofs.CallerLemmas.{xs-rise, xs-few, xs-first, ys-length, ys-at, ys-never_fall}
 pub use Rattle.levels.proofs.LookupLemmas.{ascends, extent_at-base, extent_at-above}
 pub use Rattle.levels.proofs.StoredLemmas.{eps_at-above}
 pub use Rattle.levels.proofs.IndexLemmas.{IsIndex-least, IsIndex-checked}

@@ -15,7 +15,7 @@ use Rattle.exact_cross.specs.Lines.{RationalLine, SomeLineFits}
 use Rattle.exact_cross.specs.Covers.{run_end, CutsInto, IsLongest}
 use Rattle.exact_cross.specs.Segments.{starts_of}
 use Rattle.exact_cross.proofs.CallerLemmas.{IsWithin-in, CutsInto-rises}
-use Rattle.levels.specs.KeyPoints.{xs_of}
+use Rattle.key_points.specs.KeyPoints.{xs_of}
 use Rattle.levels.specs.Indexes.{level_at, xs_at, points_at, eps_at, IsIndex}
 use Rattle.levels.specs.Heights.{least_places, HasLongRuns, IsLow}
 use Rattle.levels.proofs.SegmentLemmas.{two_places, IsLong, cuts_long, runs-count, starts_count}

@@ -14,9 +14,9 @@ use Rattle.exact_cross.specs.Segments.{starts_of, EachRun}
 use Rattle.exact_cross.proofs.CallerLemmas.{IsAscending-points_of, IsNonDecreasing-places, length-places, slice_index-places, slice_index-rises}
 use Rattle.segmenter.specs.Segmentation.{IsSegmentation}
 use Rattle.segmenter.proofs.Unique.{IsSegmentation-unique}
-use Rattle.levels.specs.KeyPoints.{xs_of, ys_of}
+use Rattle.key_points.specs.KeyPoints.{xs_of, ys_of}
 use Rattle.levels.specs.Indexes.{first_xs, level_at, xs_at, ys_at, points_at, eps_at, IsLevel, IsIndex}
-use Rattle.levels.proofs.PointOrder.{xs-rise, xs-few, ys-length, ys-never_fall, xs-first, ys-at}
+use Rattle.key_points.proofs.CallerLemmas.{xs-rise, xs-few, ys-length, ys-never_fall, xs-first, ys-at}
 use Rattle.levels.proofs.SegmentLemmas.{fewer_runs, first_xs-count, first_x_at, run_at}
 
 -- ---- a level's points

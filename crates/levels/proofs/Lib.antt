@@ -1,8 +1,3 @@
-pub mod DistinctLemmas
-pub mod GroupLemmas
-pub mod AloneLemmas
-pub mod Rows
-pub mod PointOrder
 pub mod SegmentLemmas
 pub mod LevelLemmas
 pub mod StoredLemmas

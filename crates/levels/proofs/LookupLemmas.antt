@@ -15,9 +15,9 @@ use Rattle.exact_cross.proofs.CallerLemmas.{slice_index-places, slice_index-rise
 use Rattle.window_search.specs.Searches.{lb, IsPredecessor}
 use Rattle.window_search.specs.Windows.{IsWindow, IsLineOf, IsLastAtMost, IsClose, IsNext}
 use Rattle.window_search.proofs.CallerLemmas.{predecessor_exists, lb-predecessor}
-use Rattle.levels.specs.KeyPoints.{xs_of}
+use Rattle.key_points.specs.KeyPoints.{xs_of}
 use Rattle.levels.specs.Indexes.{level_at, xs_at, ys_at, points_at, eps_at, IsIndex}
-use Rattle.levels.proofs.PointOrder.{xs-first, next_of_point, close_of_point}
+use Rattle.key_points.proofs.CallerLemmas.{xs-first, next_of_point, close_of_point}
 use Rattle.levels.specs.Lookups.{HasRun, extent_at, IsWindowAt}
 use Rattle.levels.proofs.SegmentLemmas.{first_x_at, run_at, HasRun-at, IsRun, end_at, fitted_runs, predecessor_in_run}
 use Rattle.levels.proofs.LevelLemmas.{xs_at-base, ys_at-base, xs_at-above, ys_at-above, xs_at-length, AscendsAt, ascends_at, heights_few, some_at}

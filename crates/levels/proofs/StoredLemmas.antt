@@ -14,7 +14,7 @@ use Rattle.exact_cross.specs.Covers.{IsLongest}
 use Rattle.exact_cross.specs.Segments.{IsSteepSegment}
 use Rattle.segmenter.specs.Segmentation.{IsSegmentation}
 use Rattle.levels.specs.declared.level.Level.{Level}
-use Rattle.levels.specs.KeyPoints.{xs_of, ys_of}
+use Rattle.key_points.specs.KeyPoints.{xs_of, ys_of}
 use Rattle.levels.specs.Indexes.{first_xs, level_at, xs_at, ys_at, points_at, eps_at, IsLevel, places_below}
 use Rattle.levels.specs.Stored.{segments_of, AreLevels, AreStored}
 use Rattle.levels.proofs.SegmentLemmas.{fewer_runs, run_at}

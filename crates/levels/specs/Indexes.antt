@@ -4,7 +4,7 @@ use Rattle.std.specs.Prelude.{◌≡◌, ◌≢◌, ◌==◌, if◌then◌else�
 use Rattle.exact_cross.specs.declared.segment.Segment.{Segment}
 use Rattle.exact_cross.specs.Points.{Points, points_of, places}
 use Rattle.segmenter.specs.Segmentation.{IsSegmentation}
-use Rattle.levels.specs.KeyPoints.{xs_of, ys_of}
+use Rattle.key_points.specs.KeyPoints.{xs_of, ys_of}
 
 -- an index: the keys of a file, the error bound of level 0, that of the levels above, and the segments of each level, the lowest first
 pub record PgmIndex : Type 0 where

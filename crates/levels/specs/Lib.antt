@@ -1,6 +1,3 @@
-pub mod KeyPoints
-pub mod Shown
-pub mod Groups
 pub mod Indexes
 pub mod Stored
 pub mod Costs
@@ -10,6 +7,7 @@ pub use Rattle.exact_cross.specs.Points
 pub use Rattle.exact_cross.specs.Covers
 pub use Rattle.exact_cross.specs.Segments
 pub use Rattle.exact_cross.specs.Checked
+pub use Rattle.key_points.specs.KeyPoints
 pub use Rattle.segmenter.specs.Segmentation
 pub use Rattle.window_search.specs.Searches
 pub use Rattle.window_search.specs.Windows

@@ -11,10 +11,10 @@ ghost use Rattle.levels.specs.Indexes.{places_below};
 ghost use Rattle.levels.specs.Stored.{AreLevels, AreStored, segments_of};
 
 use crate::index::{Index, list_at};
-use crate::keys::Keys;
 use crate::level::Level;
 use budget::{NoMemory, Steps};
 use exact_cross::{MAX_EPSILON, Segment};
+use key_points::Keys;
 use segmenter::segment_counted;
 use std::alloc::Global;
 use std::sync::ledger::Ledger;

@@ -4,13 +4,13 @@ ghost use Rattle.exact_cross.specs.declared.segment.Segment.{Segment};
 ghost use Rattle.exact_cross.specs.Checked.{IsLeastCover, AreChecked};
 ghost use Rattle.exact_cross.specs.Segments.{starts_of};
 ghost use Rattle.levels.specs.Indexes.{IsIndex, IsLevel, level_at, xs_at, ys_at, points_at, eps_at};
-ghost use Rattle.levels.specs.KeyPoints.{xs_of};
+ghost use Rattle.key_points.specs.KeyPoints.{xs_of};
 ghost use Rattle.levels.specs.Heights.{IsLow, HasLongRuns, least_places};
 ghost use Rattle.levels.specs.Stored.{AreLevels, AreStored, segments_of};
 
-use crate::keys::Keys;
 use crate::level::Level;
 use exact_cross::{MAX_EPSILON, Segment};
+use key_points::Keys;
 use std::marker::Model;
 
 /// The recursive PGM-index of the keys of a file. Seen as a record of the keys, the two error

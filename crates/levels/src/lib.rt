@@ -11,14 +11,12 @@
 
 mod build;
 mod index;
-mod keys;
 mod level;
 mod lookup;
-mod parts;
 mod windows;
 
 pub use index::{Index, one_index};
-pub use keys::Keys;
+pub use key_points::Keys;
 pub use windows::one_list_of_windows;
 
 #[cfg(test)]

@@ -162,28 +162,3 @@ fn windows_along_lookups(rt: HostRuntime) -> Result<(), Fail> {
     }
     Ok(())
 }
-
-/// How many keys are below each distinct one, and then how many there are.
-fn expect_firsts<R: Abort + AllocGlobal>(
-    rt: &R,
-    keys: &[u64],
-    firsts: &[u32],
-) -> Result<(), NoMemory> {
-    let keys = keys_of(rt, keys)?;
-    assert!(rt; firsts.len() < 1000);
-    assert_eq!(rt; firsts.len(), keys.distinct().len() + 1);
-    for (j, first) in firsts.iter().enumerate() {
-        assert!(rt; j <= keys.distinct().len());
-        assert_eq!(rt; keys.first(j as u32), *first);
-    }
-    Ok(())
-}
-
-#[test]
-fn first_positions(rt: HostRuntime) -> Result<(), Fail> {
-    expect_firsts(&rt, &[], &[0])?;
-    expect_firsts(&rt, &[0, 10, 11], &[0, 1, 2, 3])?;
-    expect_firsts(&rt, &[5, 5, 5, 9], &[0, 3, 4])?;
-    expect_firsts(&rt, &[0, 0, 1, u64::MAX, u64::MAX], &[0, 2, 3, 5])?;
-    Ok(())
-}

@@ -1,7 +1,7 @@
 -- Level 0 stands on the keys' points, and each other one on the first x of the runs of the last one.
 use Rattle.std.proofs.Common.{◌≡◌, ◌+◌, ◌-◌, length, sym, ap, subst, arith}
 use Rattle.std.specs.List.Sorted.{IsStrictlyIncreasing, IsNonDecreasing}
-use Rattle.levels.proofs.PointOrder.{xs-rise, xs-few, ys-length, ys-never_fall}
+use Rattle.key_points.proofs.CallerLemmas.{xs-rise, xs-few, ys-length, ys-never_fall}
 use Rattle.levels.proofs.StoredLemmas.{ascends_next, base_level, base_places, above_xs, above_ys, above_level, starts_inside, ascends_list}
 use Rattle.levels.proofs.build.next_level.Goals as goal
 

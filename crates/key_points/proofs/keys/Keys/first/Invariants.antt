@@ -1,5 +1,5 @@
 -- The counter's ledger is the new one.
-use Rattle.levels.proofs.keys.Keys.first.Given as goal
+use Rattle.key_points.proofs.keys.Keys.first.Given as goal
 
 abbrev pub ghosts-lower_of : goal.ghosts-lower_of
 ghosts-lower_of a = record { name = a.blank.name; parts = a.blank.parts }

@@ -1,8 +1,8 @@
 use Rattle.std.proofs.Common.{◌≡◌, ◌-◌, ◌<◌, ◌∙◌, length, slice_index, true, inl, sym, arith, eqb}
 use Rattle.std.proofs.lemmas.Bool.Decides.{nat_tests}
-use Rattle.levels.proofs.GroupLemmas.{is_closed-alone, is_closed-greatest, is_closed-above, is_closed-tested}
-use Rattle.levels.proofs.parts.is_closed_group.Goals.{then-end-at-eq1-via-then-end-at-eq1, then-end-at-eq1-via-else-end-at-eq1+then-file-at}
-use Rattle.levels.proofs.parts.is_closed_group.Goals as goal
+use Rattle.key_points.proofs.GroupLemmas.{is_closed-alone, is_closed-greatest, is_closed-above, is_closed-tested}
+use Rattle.key_points.proofs.parts.is_closed_group.Goals.{then-end-at-eq1-via-then-end-at-eq1, then-end-at-eq1-via-else-end-at-eq1+then-file-at}
+use Rattle.key_points.proofs.parts.is_closed_group.Goals as goal
 
 pub returns-then-end-at-eq1-clause-closed : goal.returns-then-end-at-eq1-clause-closed
 returns-then-end-at-eq1-clause-closed c =

@@ -1,7 +1,7 @@
 use Rattle.std.proofs.Common.{◌≤◌, ◌∙◌, length, ap, arith}
-use Rattle.levels.specs.KeyPoints.{distinct_of, ys_of}
-use Rattle.levels.proofs.AloneLemmas.{distinct_of-alone, xs_of-alone}
-use Rattle.levels.proofs.keys.Keys.of.Goals as goal
+use Rattle.key_points.specs.KeyPoints.{distinct_of, ys_of}
+use Rattle.key_points.proofs.AloneLemmas.{distinct_of-alone, xs_of-alone}
+use Rattle.key_points.proofs.keys.Keys.of.Goals as goal
 
 -- no key was lost
 pub invariant_of-result-2 : goal.invariant_of-result-2

@@ -2,8 +2,8 @@
 ghost use Rattle.std.specs.Prelude.{◌≡◌, ◌+◌, ◌<◌, ◌≤◌, ◌^◌, ℕ};
 ghost use Rattle.std.specs.Prelude.{length, slice_index, IfOk, OnOk, IsTrue};
 ghost use Rattle.std.specs.List.Sorted.{IsNonDecreasing};
-ghost use Rattle.levels.specs.KeyPoints.{distinct_of, is_closed, xs_of, ys_of};
-ghost use Rattle.levels.specs.Groups.{HoldsUpTo, IsGroupStart, IsGroupEnd};
+ghost use Rattle.key_points.specs.KeyPoints.{distinct_of, is_closed, xs_of, ys_of};
+ghost use Rattle.key_points.specs.Groups.{HoldsUpTo, IsGroupStart, IsGroupEnd};
 
 use budget::NoMemory;
 use std::alloc::Global;

@@ -7,7 +7,7 @@ use Rattle.std.proofs.lemmas.Bool.Decides.{nat_tests}
 use Rattle.std.proofs.lemmas.List.Sums.{sum_by-cons}
 use Rattle.std.specs.List.{dedup_from}
 use Rattle.window_search.specs.Searches.{lb}
-use Rattle.levels.specs.KeyPoints.{distinct_of, times}
+use Rattle.key_points.specs.KeyPoints.{distinct_of, times}
 
 from-same : (k : ℕ) (xs : List ℕ) (y : ℕ) → dedup_from eqb k ((xs ++ y ∷ []) ++ y ∷ []) ≡ dedup_from eqb k (xs ++ y ∷ [])
 from-same k [] y = grind (arith, nat_tests)

@@ -12,9 +12,9 @@ use Rattle.std.specs.List.Sorted.{IsNonDecreasing, IsStrictlyIncreasing}
 use Rattle.std.proofs.lemmas.List.Sums.{sum_by-cons}
 use Rattle.exact_cross.proofs.CallerLemmas.{slice_index-rises, IsNonDecreasing-from_neighbours}
 use Rattle.window_search.specs.Searches.{lb}
-use Rattle.levels.specs.KeyPoints.{times, is_closed, with_closing, xs_of, ys_of}
-use Rattle.levels.proofs.DistinctLemmas.{times-lb}
-use Rattle.levels.proofs.Rows.{IsIn, NeverFallsFrom, RisesFrom, NeverFallsFrom-in, IsStrictlyIncreasing-from, IsIn-place, IsIn-left, IsIn-right, IsIn-append}
+use Rattle.key_points.specs.KeyPoints.{times, is_closed, with_closing, xs_of, ys_of}
+use Rattle.key_points.proofs.DistinctLemmas.{times-lb}
+use Rattle.key_points.proofs.Rows.{IsIn, NeverFallsFrom, RisesFrom, NeverFallsFrom-in, IsStrictlyIncreasing-from, IsIn-place, IsIn-left, IsIn-right, IsIn-append}
 
 bool_cases : (b : Bool) → (b ≡ true) ⊎ (b ≡ false)
 bool_cases true = inl refl

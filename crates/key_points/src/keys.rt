@@ -3,7 +3,7 @@ ghost use Rattle.std.specs.Prelude.{◌≡◌, ◌+◌, ◌<◌, ◌≤◌, ◌^
 ghost use Rattle.std.specs.Prelude.{slice_index, vec_len, IfOk, IsTrue, ◌↔◌};
 ghost use Rattle.std.specs.List.Sorted.{IsNonDecreasing};
 ghost use Rattle.window_search.specs.Searches.{lb};
-ghost use Rattle.levels.specs.KeyPoints.{distinct_of, first_of, xs_of, ys_of};
+ghost use Rattle.key_points.specs.KeyPoints.{distinct_of, first_of, xs_of, ys_of};
 
 use crate::parts::{Parts, parts_of};
 use budget::{NoMemory, Steps};
@@ -32,7 +32,7 @@ pub struct Keys {
 
 impl Model for Keys {
     ghost use Rattle.std.specs.Prelude.{List, ℕ};
-    ghost use Rattle.levels.specs.Shown.{AreOfKeys};
+    ghost use Rattle.key_points.specs.Shown.{AreOfKeys};
 
     ghost Value = { List ℕ };
 

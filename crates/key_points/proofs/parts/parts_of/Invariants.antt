@@ -1,6 +1,6 @@
 use Rattle.std.proofs.Common.{◌<◌, ◌-◌, length}
-use Rattle.levels.specs.Groups.{HoldsUpTo, IsGroupStart}
-use Rattle.levels.proofs.parts.parts_of.Given as goal
+use Rattle.key_points.specs.Groups.{HoldsUpTo, IsGroupStart}
+use Rattle.key_points.proofs.parts.parts_of.Given as goal
 
 -- the groups so far, and the next one begins here
 abbrev pub invariant-loop-at : goal.invariant-loop-at

@@ -1,5 +1,5 @@
 use Rattle.std.proofs.Common.{◌≡◌, ◌<◌, ◌≤◌, ◌-◌, ℕ, length, slice_index}
-use Rattle.levels.proofs.parts.end_of.Given as goal
+use Rattle.key_points.proofs.parts.end_of.Given as goal
 
 -- the keys up to `end` are equal
 abbrev pub invariant-loop-end : goal.invariant-loop-end

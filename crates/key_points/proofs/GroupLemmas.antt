@@ -11,9 +11,9 @@ use Rattle.std.specs.List.{flat_map}
 use Rattle.std.specs.List.Sorted.{IsNonDecreasing}
 use Rattle.window_search.specs.Searches.{lb}
 use Rattle.window_search.proofs.CallerLemmas.{lb-is, IsLowerBound-lb}
-use Rattle.levels.specs.KeyPoints.{distinct_of, with_closing, times, is_closed}
-use Rattle.levels.specs.Groups.{IsGroupStart, IsGroupEnd, HoldsUpTo}
-use Rattle.levels.proofs.DistinctLemmas.{distinct_of-same, distinct_of-new, times-lb}
+use Rattle.key_points.specs.KeyPoints.{distinct_of, with_closing, times, is_closed}
+use Rattle.key_points.specs.Groups.{IsGroupStart, IsGroupEnd, HoldsUpTo}
+use Rattle.key_points.proofs.DistinctLemmas.{distinct_of-same, distinct_of-new, times-lb}
 
 -- the three tests of a closing point
 all_pass : (t key s : ℕ) → 1 < t → key < 18446744073709551615 → s ≡ 0 → (ltb 1 t && (ltb key 18446744073709551615 && eqb s 0)) ≡ true

@@ -1,8 +1,8 @@
 use Rattle.std.proofs.Common.{◌≡◌, ◌+◌, ◌++◌, ◌∷◌, [], ℕ, List, map, slice_index, sym, ap, ◌∙◌, append_assoc}
 use Rattle.window_search.specs.Searches.{lb}
-use Rattle.levels.specs.Groups.{HoldsUpTo}
-use Rattle.levels.proofs.GroupLemmas.{HoldsUpTo-alone, HoldsUpTo-closed}
-use Rattle.levels.proofs.parts.add_group.Goals as goal
+use Rattle.key_points.specs.Groups.{HoldsUpTo}
+use Rattle.key_points.proofs.GroupLemmas.{HoldsUpTo-alone, HoldsUpTo-closed}
+use Rattle.key_points.proofs.parts.add_group.Goals as goal
 
 -- the same lists
 moved : (keys : List ℕ) (end : ℕ) (distinct xs ys distinct' xs' ys' : List ℕ) → distinct' ≡ distinct → xs' ≡ xs → ys' ≡ ys →

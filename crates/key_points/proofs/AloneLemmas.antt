@@ -13,9 +13,9 @@ use Rattle.std.proofs.lemmas.Map.Keys.{IsStrictlyIncreasing-dedup}
 use Rattle.window_search.proofs.CallerLemmas.{lb-is}
 use Rattle.window_search.specs.Searches.{lb}
 use Rattle.exact_cross.proofs.CallerLemmas.{slice_index-rises}
-use Rattle.levels.specs.KeyPoints.{distinct_of, first_of, with_closing, is_closed, times, xs_of}
-use Rattle.levels.proofs.DistinctLemmas.{times-lb}
-use Rattle.levels.proofs.GroupLemmas.{first_fails}
+use Rattle.key_points.specs.KeyPoints.{distinct_of, first_of, with_closing, is_closed, times, xs_of}
+use Rattle.key_points.proofs.DistinctLemmas.{times-lb}
+use Rattle.key_points.proofs.GroupLemmas.{first_fails}
 
 from-short : (k : ℕ) (xs : List ℕ) → length (dedup_from eqb k xs) ≤ length xs + 1
 from-short k [] = omega arith

@@ -1,8 +1,8 @@
 -- Keys that don't repeat stand at their own number.
 use Rattle.std.proofs.Common.{◌≤◌, sym, ap, length, arith}
-use Rattle.levels.specs.KeyPoints.{distinct_of}
-use Rattle.levels.proofs.AloneLemmas.{first_of-alone}
-use Rattle.levels.proofs.keys.Keys.first.Goals as goal
+use Rattle.key_points.specs.KeyPoints.{distinct_of}
+use Rattle.key_points.proofs.AloneLemmas.{first_of-alone}
+use Rattle.key_points.proofs.keys.Keys.first.Goals as goal
 
 pub returns-then-not-self : goal.returns-then-not-self
 returns-then-not-self c =

@@ -2,7 +2,7 @@
 use Rattle.std.specs.Prelude.{◌≡◌, ℕ, ◌<◌, ◌≤◌, List, length, take, map, slice_index}
 use Rattle.std.specs.List.{flat_map}
 use Rattle.window_search.specs.Searches.{lb}
-use Rattle.levels.specs.KeyPoints.{distinct_of, with_closing}
+use Rattle.key_points.specs.KeyPoints.{distinct_of, with_closing}
 
 -- a group of equal keys begins here: all keys before are less
 pub record IsGroupStart (keys : List ℕ) (at : ℕ) : Type 0 where

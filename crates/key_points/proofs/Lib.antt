@@ -1,0 +1,6 @@
+pub mod DistinctLemmas
+pub mod GroupLemmas
+pub mod AloneLemmas
+pub mod Rows
+pub mod PointOrder
+pub mod CallerLemmas

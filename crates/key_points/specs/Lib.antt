@@ -1,0 +1,4 @@
+pub mod KeyPoints
+pub mod Shown
+pub mod Groups
+pub use Rattle.window_search.specs.Searches
