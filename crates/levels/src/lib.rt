@@ -13,6 +13,7 @@ mod build;
 mod index;
 mod level;
 mod lookup;
+mod positions;
 mod windows;
 
 pub use index::{Index, one_index};

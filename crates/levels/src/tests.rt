@@ -62,8 +62,18 @@ fn expect_index<R: Abort + AllocGlobal>(
         assert!(rt; level < index.levels() as usize);
         assert_eq!(rt; index.level(level as u32).len(), *count);
     }
+    assert!(rt; positions.len() < 1000);
+    let mut together = Vec::with_capacity(rt.alloc(), positions.len())?;
+    let mut qs = Vec::with_capacity(rt.alloc(), positions.len())?;
     for (q, position) in positions {
         assert_eq!(rt; index.position(*q), *position);
+        qs.push(*q)?;
+    }
+    assert_eq!(rt; qs.len(), positions.len());
+    index.positions(&qs, &mut together);
+    assert_eq!(rt; together.len(), positions.len());
+    for ((_, position), found) in positions.iter().zip(&together) {
+        assert_eq!(rt; *found, *position);
     }
     Ok(index)
 }
