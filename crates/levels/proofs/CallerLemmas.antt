@@ -7,3 +7,4 @@ pub use Rattle.levels.proofs.IndexLemmas.{IsIndex-least, IsIndex-checked}
 pub use Rattle.levels.proofs.HeightLemmas.{long_level, levels_low}
 pub use Rattle.levels.proofs.RunsApart.{HasRun-each, HasRun-within, HasRun-unique}
 pub use Rattle.levels.proofs.WindowLists.{AreWindows-unique}
+pub use Rattle.levels.proofs.WindowsExist.{AreWindows-some}

@@ -5,6 +5,7 @@ pub mod LookupLemmas
 pub mod CostLemmas
 pub mod RunsApart
 pub mod WindowLists
+pub mod WindowsExist
 pub mod HeightLemmas
 pub mod IndexLemmas
 pub mod CallerLemmas

@@ -18,7 +18,7 @@ mod windows;
 
 pub use index::{Index, one_index};
 pub use key_points::Keys;
-pub use windows::one_list_of_windows;
+pub use windows::{one_list_of_windows, some_windows};
 
 #[cfg(test)]
 mod tests;

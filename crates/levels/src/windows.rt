@@ -142,3 +142,10 @@ pub fn one_list_of_windows()
         IsIndex keys eps eps_rec levels → AreWindows keys eps eps_rec levels q one →
         AreWindows keys eps eps_rec levels q two → one ≡ two }
 {}
+
+/// A question has windows in each index: there is a list that is it.
+pub fn some_windows()
+    ensures { (keys : List ℕ) (eps eps_rec : ℕ) (levels : List (List Segment)) (q : ℕ) →
+        IsNonDecreasing keys → IsIndex keys eps eps_rec levels →
+        (windows : List (ℕ × ℕ × ℕ)) × AreWindows keys eps eps_rec levels q windows }
+{}
