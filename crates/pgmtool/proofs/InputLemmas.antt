@@ -4,7 +4,7 @@
 -- at most one reading of the first is defined, and of what goes on with it, so it is for both (`then_one`).
 use Rattle.std.proofs.Common.{◌≡◌, inl, inr, ℕ, ◌<◌, ◌≤◌, Result, Ok, Err, sym, subst, ◌∙◌}
 use Rattle.pgmtool.specs.declared.refusal.Refusal.{Refusal}
-use Rattle.pgmtool.specs.declared.refusal.Refusal.TheVariants.{ReadFault, Usage, TooMany, Short, Unsorted, Trailing, Wide}
+use Rattle.pgmtool.specs.declared.refusal.Refusal.TheVariants.{ReadFault}
 use Rattle.pgmtool.specs.declared.refusal.Stopped.{Stopped}
 use Rattle.pgmtool.specs.declared.refusal.Stopped.TheVariants.{NoMemory, Refused}
 use Rattle.pgmtool.specs.Inputs.{Reading, then, gives}
@@ -15,12 +15,7 @@ module _ {A B X Y : Type 0} (first : Reading A) (next : A → Reading B) (value_
   stops_both : (stopped : Stopped) → IsStopped first before after stopped → IsStopped (then first next) before after stopped
   stops_both NoMemory is = tt
   stops_both (Refused ReadFault) is = is
-  stops_both (Refused Usage) is = inl is
-  stops_both (Refused (TooMany count)) is = inl is
-  stops_both (Refused (Short got)) is = inl is
-  stops_both (Refused (Unsorted at key_before key)) is = inl is
-  stops_both (Refused (Trailing byte)) is = inl is
-  stops_both (Refused (Wide at value)) is = inl is
+  stops_both (Refused refusal) is = inl is
 
   pub then_stops : (stopped : Stopped) → Answers {B = X} first value_of before after (Err stopped) →
       Answers {B = Y} (then first next) made_of before after (Err stopped)
@@ -37,12 +32,7 @@ module _ {A B X Y : Type 0} (first : Reading A) (next : A → Reading B) (value_
       IsStopped (then first next) before after stopped
   stops_second x read NoMemory is = tt
   stops_second x read (Refused ReadFault) is = is
-  stops_second x read (Refused Usage) is = inr (x, read, is)
-  stops_second x read (Refused (TooMany count)) is = inr (x, read, is)
-  stops_second x read (Refused (Short got)) is = inr (x, read, is)
-  stops_second x read (Refused (Unsorted at key_before key)) is = inr (x, read, is)
-  stops_second x read (Refused (Trailing byte)) is = inr (x, read, is)
-  stops_second x read (Refused (Wide at value)) is = inr (x, read, is)
+  stops_second x read (Refused refusal) is = inr (x, read, is)
 
   -- the count had not risen when the first was read
   pub then_goes_on : (middle : ℕ) (value : X) (r : Result Y Stopped) → Answers {B = X} first value_of before middle (Ok value) →

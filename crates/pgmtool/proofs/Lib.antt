@@ -1,7 +1,10 @@
-pub mod ErrorBounds
-pub mod DistinctKeys
 pub mod RunLines
+pub mod LevelTexts
+pub mod AnswerTexts
 pub mod WritingLemmas
+pub mod TakenFiles
 pub mod InputLemmas
 pub mod KeyInputs
+pub mod ScriptInputs
+pub mod OneReading
 pub mod OutcomeLemmas

@@ -1,14 +1,21 @@
 -- What the files define for a request: its task, or the refusal that the first bad input gives.
-use Rattle.std.specs.Prelude.{◌≡◌, ◌≢◌, ◌⊎◌, ℕ, List, Result, Ok, Err, Some}
+use Rattle.std.specs.Prelude.{◌≡◌, ◌≢◌, ◌⊎◌, ℕ, ◌<◌, ◌≤◌, Bool, not, List, length, filter_map, All, Option, Result, Ok, Err, None, Some}
 use Rattle.sosd_reader.specs.declared.fault.KeyFault.{KeyFault}
 use Rattle.sosd_reader.specs.declared.fault.KeyFault.TheVariants as reader
 use Rattle.sosd_reader.specs.KeyFileFaults.{ReadsAs}
+use Rattle.sosd_reader.specs.KeyFiles.{key_width}
+use Rattle.pgm_script.specs.declared.fault.ScriptFault.TheVariants as script
+use Rattle.pgm_script.specs.declared.script.ScriptKind.{ScriptKind}
+use Rattle.pgm_script.specs.declared.script.ScriptLine.{ScriptLine}
+use Rattle.pgm_script.specs.Scripts.{IsLineOf, ReadsAs as ReadsScript}
+use Rattle.command_line.specs.Requests.{Building, Request}
+use Rattle.command_line.specs.Requests.Request.{build, explain, query}
 use Rattle.pgmtool.specs.declared.refusal.Refusal.{Refusal}
-use Rattle.pgmtool.specs.declared.refusal.Refusal.TheVariants.{ReadFault}
+use Rattle.pgmtool.specs.declared.refusal.Refusal.TheVariants.{ReadFault, TooLong, Script}
+use Rattle.pgmtool.specs.declared.inputs.TheConstants.{SCRIPT_LIMIT}
 use Rattle.pgmtool.specs.Files.{Files, HoldsOfFile, IsMissing, IsReadable}
 use Rattle.pgmtool.specs.Refusals.{refusal_of}
-use Rattle.pgmtool.specs.Requests.{Request}
-use Rattle.pgmtool.specs.Requests.Request.{explain}
+use Rattle.pgmtool.specs.Tasks.{Bounds}
 use Rattle.pgmtool.specs.Tasks as tasks
 
 -- what files define: a value, or a refusal
@@ -20,11 +27,29 @@ abbrev pub IsOfKeys : KeyFault → Type 0
 IsOfKeys fault = (at value : ℕ) → fault ≢ reader.Wide at value
 
 -- the keys of the file of this name, or why it has none: it isn't there, or its bytes have a fault
-abbrev pub reads_keys : Files → List ℕ → Reading (List ℕ)
-reads_keys files name (Ok keys) = IsReadable keys × HoldsOfFile files name (λ bytes. ReadsAs 8 bytes (Ok keys))
-reads_keys files name (Err ReadFault) = IsMissing files name
-reads_keys files name (Err refusal) =
-    (fault : KeyFault) × (refusal_of fault ≡ Some refusal) × IsOfKeys fault × HoldsOfFile files name (λ bytes. ReadsAs 8 bytes (Err fault))
+abbrev pub reads_keys : Bool → Files → List ℕ → Reading (List ℕ)
+reads_keys wide files name (Ok keys) = IsReadable keys × HoldsOfFile files name (λ bytes. ReadsAs (key_width wide) bytes (Ok keys))
+reads_keys wide files name (Err ReadFault) = IsMissing files name
+reads_keys wide files name (Err refusal) = (fault : KeyFault) × (refusal_of fault ≡ Some refusal) × IsOfKeys fault
+    × HoldsOfFile files name (λ bytes. ReadsAs (key_width wide) bytes (Err fault))
+
+-- the script of the file of this name, or why it has none: it isn't there, it is too long, or a line has something wrong with it
+abbrev pub reads_script : ScriptKind → Files → List ℕ → Reading (List ScriptLine)
+reads_script kind files name (Ok lines) = All (IsLineOf kind) lines
+    × HoldsOfFile files name (λ bytes. (length bytes ≤ SCRIPT_LIMIT) × ReadsScript kind bytes (Ok lines))
+reads_script kind files name (Err ReadFault) = IsMissing files name
+reads_script kind files name (Err TooLong) = HoldsOfFile files name (λ bytes. SCRIPT_LIMIT < length bytes)
+reads_script kind files name (Err (Script line why)) =
+    HoldsOfFile files name (λ bytes. (length bytes ≤ SCRIPT_LIMIT) × ReadsScript kind bytes (Err (script.At line why)))
+reads_script kind files name (Err refusal) = ⊥
+
+-- the questions of a script, in order
+abbrev pub question_in : ScriptLine → Option ℕ
+question_in (ScriptLine.Find question) = Some question
+question_in line = None
+
+abbrev pub questions_in : List ScriptLine → List ℕ
+questions_in lines = filter_map question_in lines
 
 -- one input, and then what goes on with it: the first refusal is that of both
 abbrev pub then : {A B : Type 0} → Reading A → (A → Reading B) → Reading B
@@ -35,6 +60,17 @@ then first next (Err refusal) = first (Err refusal) ⊎ ((x : _) × first (Ok x)
 abbrev pub gives : {A : Type 0} → A → Reading A
 gives x reading = reading ≡ Ok x
 
+-- the keys of an index
+abbrev pub reads_index : Files → Building → Reading (List ℕ)
+reads_index files building = reads_keys (not building.narrow) files building.file
+
+abbrev pub bounds_in : Building → Bounds
+bounds_in building = record { eps = building.eps; eps_rec = building.eps_rec }
+
 -- the inputs of each request, in turn
 abbrev pub reads : Files → Request → Reading tasks.Task
-reads files (explain file eps) = then (reads_keys files file) (λ keys. gives (tasks.Task.explain keys eps))
+reads files (build building) = then (reads_index files building) (λ keys. gives (tasks.Task.build keys (bounds_in building)))
+reads files (explain building) = then (reads_index files building) (λ keys. gives (tasks.Task.explain keys (bounds_in building)))
+reads files (query building name windows) = then (reads_index files building) (λ keys.
+    then (reads_script ScriptKind.Find files name) (λ lines.
+    gives (tasks.Task.query keys (bounds_in building) (questions_in lines) windows)))

@@ -1,6 +1,6 @@
+pub use Rattle.command_line.specs.Words.{AreRefused, AreTaken, AskFor}
+pub use Rattle.command_line.specs.Requests.{Request, first_file}
 pub mod Statuses
-pub mod Requests
-pub mod Words
 pub mod Files
 pub mod Refusals
 pub mod Tasks

@@ -1,22 +1,22 @@
 -- What the words and the files define: a text, or a refusal.
-use Rattle.std.specs.Prelude.{◌≡◌, ◌⊎◌, ℕ, List, None, Some, Result, Ok, Err}
+use Rattle.std.specs.Prelude.{◌≡◌, ◌⊎◌, ℕ, List, Result, Ok, Err}
 use Rattle.edge.specs.Risen.{HasRisen}
+use Rattle.command_line.specs.Requests.{Request}
+use Rattle.command_line.specs.Words.{AreRefused, AskFor}
 use Rattle.pgmtool.specs.declared.refusal.Refusal.{Refusal}
 use Rattle.pgmtool.specs.declared.refusal.Refusal.TheVariants.{Usage, ReadFault}
 use Rattle.pgmtool.specs.declared.status.Status.{Status}
 use Rattle.pgmtool.specs.declared.status.Status.TheVariants.{Done, WriteFault}
 use Rattle.pgmtool.specs.Files.{Files}
 use Rattle.pgmtool.specs.Refusals.{status_of}
-use Rattle.pgmtool.specs.Requests.{Request}
 use Rattle.pgmtool.specs.Tasks.{Task}
-use Rattle.pgmtool.specs.Words.{request_of}
 use Rattle.pgmtool.specs.Inputs.{reads}
 use Rattle.pgmtool.specs.Commands.{IsText}
 
 -- what there is to do, or why there is nothing: the words are judged first, then each input in turn
 pub data Defines (files : Files) (words : List (List ℕ)) : Result Task Refusal → Type 0 where
-  no_command : request_of words ≡ None → Defines files words (Err Usage)
-  asked : (request : Request) (reading : Result Task Refusal) → request_of words ≡ Some request →
+  no_command : AreRefused words → Defines files words (Err Usage)
+  asked : (request : Request) (reading : Result Task Refusal) → AskFor words request →
       reads files request reading → Defines files words reading
 
 -- a text, or a refusal

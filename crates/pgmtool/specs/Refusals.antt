@@ -2,8 +2,12 @@
 use Rattle.std.specs.Prelude.{ℕ, List, [], ◌∷◌, Option, Some, None, codes, decimal}
 use Rattle.sosd_reader.specs.declared.fault.KeyFault.{KeyFault}
 use Rattle.sosd_reader.specs.declared.fault.KeyFault.TheVariants as reader
+use Rattle.pgm_script.specs.declared.fault.ScriptFault.{ScriptFault}
+use Rattle.pgm_script.specs.declared.fault.ScriptFault.TheVariants as script
+use Rattle.pgm_script.specs.declared.fault.Why.{Why}
+use Rattle.pgm_script.specs.declared.fault.Why.TheVariants.{NotUtf8, Word, Number, Missing, Extra}
 use Rattle.pgmtool.specs.declared.refusal.Refusal.{Refusal}
-use Rattle.pgmtool.specs.declared.refusal.Refusal.TheVariants.{Usage, ReadFault, TooMany, Short, Unsorted, Trailing, Wide}
+use Rattle.pgmtool.specs.declared.refusal.Refusal.TheVariants.{Usage, ReadFault, TooMany, Short, Unsorted, Trailing, Wide, TooLong, Script}
 use Rattle.pgmtool.specs.declared.status.Status.{Status}
 use Rattle.pgmtool.specs.declared.status.Status.TheVariants as ends
 use Rattle.written.specs.TextLines.{text_line}
@@ -12,7 +16,17 @@ use Rattle.written.specs.TextLines.{text_line}
 abbrev pub status_of : Refusal → Status
 status_of Usage = ends.Usage
 status_of ReadFault = ends.ReadFault
+status_of TooLong = ends.BadScript
+status_of (Script line why) = ends.BadScript
 status_of refusal = ends.BadKeys
+
+-- what is wrong with a line of a script, in a word
+abbrev pub why_word : Why → List ℕ
+why_word NotUtf8 = codes "utf8"
+why_word Word = codes "word"
+why_word Number = codes "number"
+why_word Missing = codes "missing"
+why_word Extra = codes "extra"
 
 -- the one text line that tells a refusal
 abbrev pub refusal_line : Refusal → List ℕ
@@ -23,6 +37,8 @@ refusal_line (Short got) = text_line (codes "fault" ∷ codes "keys" ∷ codes "
 refusal_line (Unsorted at before key) =
     text_line (codes "fault" ∷ codes "keys" ∷ codes "unsorted" ∷ decimal at ∷ decimal before ∷ decimal key ∷ [])
 refusal_line (Trailing byte) = text_line (codes "fault" ∷ codes "keys" ∷ codes "trailing" ∷ decimal byte ∷ [])
+refusal_line TooLong = text_line (codes "fault" ∷ codes "script" ∷ codes "too" ∷ codes "long" ∷ [])
+refusal_line (Script line why) = text_line (codes "fault" ∷ codes "script" ∷ decimal line ∷ why_word why ∷ [])
 refusal_line (Wide at value) = text_line (codes "fault" ∷ codes "keys" ∷ codes "wide" ∷ decimal at ∷ decimal value ∷ [])
 
 -- the refusal that tells a fault of a file's bytes; want of memory is no fault of theirs
@@ -34,3 +50,10 @@ refusal_of (reader.Unsorted at before key) = Some (Unsorted at before key)
 refusal_of (reader.Trailing byte) = Some (Trailing byte)
 refusal_of (reader.Wide at value) = Some (Wide at value)
 refusal_of reader.NoMemory = None
+
+-- the refusal that tells why a script wasn't read
+abbrev pub refusal_of_script : ScriptFault → Option Refusal
+refusal_of_script script.ReadFault = Some ReadFault
+refusal_of_script (script.TooLong got) = Some TooLong
+refusal_of_script (script.At line why) = Some (Script line why)
+refusal_of_script script.NoMemory = None

@@ -6,7 +6,8 @@ use Rattle.pgmtool.specs.declared.refusal.Refusal.{Refusal}
 use Rattle.pgmtool.specs.declared.refusal.Refusal.TheVariants.{ReadFault}
 use Rattle.pgmtool.specs.declared.refusal.Stopped.{Stopped}
 use Rattle.pgmtool.specs.declared.refusal.Stopped.TheVariants.{NoMemory, Refused}
-use Rattle.pgmtool.specs.Refusals.{refusal_of}
+use Rattle.pgm_script.specs.declared.fault.ScriptFault.{ScriptFault}
+use Rattle.pgmtool.specs.Refusals.{refusal_of, refusal_of_script}
 use Rattle.pgmtool.specs.Inputs.{Reading}
 
 -- want of memory, or the refusal that tells the fault
@@ -16,6 +17,9 @@ stop_of_refusal (Some refusal) = Refused refusal
 
 abbrev pub IsStopOf : KeyFault → Stopped → Type 0
 IsStopOf fault stopped = stopped ≡ stop_of_refusal (refusal_of fault)
+
+abbrev pub IsStopOfScript : ScriptFault → Stopped → Type 0
+IsStopOfScript fault stopped = stopped ≡ stop_of_refusal (refusal_of_script fault)
 
 -- why a call stopped: want of memory is free, ReadFault comes where the count rose, and else the files define it
 abbrev pub IsStopped : {A : Type 0} → Reading A → (before after : ℕ) → Stopped → Type 0

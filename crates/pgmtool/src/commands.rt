@@ -3,7 +3,10 @@ ghost use Rattle.written.specs.Writing.{WritesText};
 ghost use Rattle.pgmtool.specs.Tasks.{task_of};
 ghost use Rattle.pgmtool.specs.Commands.{IsText};
 
+mod build;
 mod explain;
+mod indexing;
+mod query;
 
 use crate::task::Task;
 use edge::Sink;
@@ -15,6 +18,13 @@ pub fn write<S: Sink>(alloc: Global, task: Task, out: &mut S) -> Result<(), Unfi
     ensures { WritesText S.Sink out.old result out.new (IsText (task_of task)) }
 {
     match task {
-        Task::Explain { keys, options } => explain::write(alloc, keys, options, out),
+        Task::Build { keys, bounds } => build::write(alloc, keys, bounds, out),
+        Task::Explain { keys, bounds } => explain::write(alloc, keys, bounds, out),
+        Task::Query {
+            keys,
+            bounds,
+            questions,
+            windows,
+        } => query::write(alloc, keys, bounds, &questions, windows, out),
     }
 }

@@ -1,17 +1,23 @@
 // Reading the inputs of a request, in order.
-ghost use Rattle.std.specs.Prelude.{◌≡◌, Err};
+ghost use Rattle.std.specs.Prelude.{◌≡◌, ◌++◌, ◌∷◌, [], Err, IfOk, OnOk};
+ghost use Rattle.pgm_script.specs.Scripts.{IsKind, IsLineOf};
+ghost use Rattle.command_line.specs.Requests.{asked_of, first_file, built_of};
 ghost use Rattle.pgmtool.specs.Files.{IsMissing};
-ghost use Rattle.pgmtool.specs.Requests.{asked_of, first_file};
-ghost use Rattle.pgmtool.specs.Tasks.{task_of};
-ghost use Rattle.pgmtool.specs.Inputs.{reads, reads_keys};
+ghost use Rattle.pgmtool.specs.Tasks.{bounds_of, task_of};
+ghost use Rattle.pgmtool.specs.Inputs.{reads, reads_index, reads_keys, reads_script, bounds_in};
+ghost use Rattle.pgmtool.specs.Inputs.{questions_in};
 ghost use Rattle.pgmtool.specs.Stops.{Answers};
 
 use crate::refusal::{Refusal, Stopped};
-use crate::request::Request;
-use crate::task::{SortedKeys, Task};
+use crate::task::{Bounds, SortedKeys, Task};
+use command_line::{Building, Request};
 use edge::Shelf;
+use pgm_script::{ScriptKind, ScriptLine, parse, read_text};
 use sosd_reader::read_keys;
-use std::alloc::Global;
+use std::alloc::{AllocError, Global};
+
+/// How many bytes a script has at most.
+pub const SCRIPT_LIMIT: u64 = 67_108_864;
 
 /// Reads the inputs of the request in turn, up to the first that is none.
 ///
@@ -27,28 +33,125 @@ pub fn read<F: Shelf>(alloc: Global, files: &mut F, request: Request<'_>) -> Res
         → result ≡ Err (Stopped.Refused Refusal.ReadFault) }
 {
     match request {
-        Request::Explain { file, options } => {
-            match sorted_keys(alloc, files, file) {
-                Ok(keys) => Ok(Task::Explain { keys, options }),
-                Err(stopped) => Err(stopped),
-            }
+        Request::Build { building } => {
+            let keys = index_keys(alloc, files, building)?;
+            let bounds = bounds_in(building);
+            Ok(Task::Build { keys, bounds })
+        }
+        Request::Explain { building } => {
+            let keys = index_keys(alloc, files, building)?;
+            let bounds = bounds_in(building);
+            Ok(Task::Explain { keys, bounds })
+        }
+        Request::Query {
+            building,
+            script,
+            windows,
+        } => {
+            let keys = index_keys(alloc, files, building)?;
+            let lines = script_lines(alloc, files, script, ScriptKind::Find)?;
+            let questions = questions_in(alloc, &lines)?;
+            let bounds = bounds_in(building);
+            Ok(Task::Query {
+                keys,
+                bounds,
+                questions,
+                windows,
+            })
         }
     }
 }
 
+fn bounds_in(building: Building<'_>) -> Bounds
+    ensures { bounds_of result ≡ bounds_in (built_of building.entry) }
+{
+    Bounds {
+        eps: building.eps,
+        eps_rec: building.eps_rec,
+    }
+}
+
+// The keys that an index is built of.
+fn index_keys<F: Shelf>(
+    alloc: Global,
+    files: &mut F,
+    building: Building<'_>,
+) -> Result<SortedKeys, Stopped>
+    ensures answer { Answers (reads_index (F.files files.old) (built_of building.entry))
+        (λ sorted. sorted.keys.items) (F.faults files.old) (F.faults files.new) result }
+    ensures missing { IsMissing (F.files files.old) building.entry.file.now
+        → result ≡ Err (Stopped.Refused Refusal.ReadFault) }
+    ensures files { F.files files.new ≡ F.files files.old }
+{
+    sorted_keys(alloc, files, building.file, !building.narrow)
+}
+
 // The keys of the key file of this name.
-fn sorted_keys<F: Shelf>(alloc: Global, files: &mut F, name: &str) -> Result<SortedKeys, Stopped>
-    ensures answer { Answers (reads_keys (F.files files.old) name.now) (λ sorted. sorted.keys.items)
-        (F.faults files.old) (F.faults files.new) result }
-    ensures missing { IsMissing (F.files files.old) name.now → result ≡ Err
-        (Stopped.Refused Refusal.ReadFault) }
+fn sorted_keys<F: Shelf>(
+    alloc: Global,
+    files: &mut F,
+    name: &str,
+    wide: bool,
+) -> Result<SortedKeys, Stopped>
+    ensures answer { Answers (reads_keys wide (F.files files.old) name.now)
+        (λ sorted. sorted.keys.items) (F.faults files.old) (F.faults files.new) result }
+    ensures missing { IsMissing (F.files files.old) name.now
+        → result ≡ Err (Stopped.Refused Refusal.ReadFault) }
+    ensures files { F.files files.new ≡ F.files files.old }
 {
     match files.take_file(name) {
         Ok(()) => {}
         Err(_) => return Err(Stopped::Refused(Refusal::ReadFault)),
     }
-    match read_keys(alloc, files, true) {
+    match read_keys(alloc, files, wide) {
         Ok(keys) => Ok(SortedKeys { keys }),
         Err(fault) => Err(Stopped::from(fault)),
     }
+}
+
+// The lines of the script of this name.
+fn script_lines<F: Shelf>(
+    alloc: Global,
+    files: &mut F,
+    name: &str,
+    kind: ScriptKind,
+) -> Result<Vec<ScriptLine>, Stopped>
+    requires { IsKind kind }
+    ensures answer { Answers (reads_script kind (F.files files.old) name.now)
+        (λ lines. lines.items) (F.faults files.old) (F.faults files.new) result }
+    ensures files { F.files files.new ≡ F.files files.old }
+{
+    match files.take_file(name) {
+        Ok(()) => {}
+        Err(_) => return Err(Stopped::Refused(Refusal::ReadFault)),
+    }
+    let text = match read_text(alloc, files, SCRIPT_LIMIT) {
+        Ok(text) => text,
+        Err(fault) => return Err(Stopped::from(fault)),
+    };
+    match parse(alloc, kind, &text) {
+        Ok(lines) => Ok(lines),
+        Err(fault) => Err(Stopped::from(fault)),
+    }
+}
+
+// The questions of a script.
+fn questions_in(alloc: Global, lines: &[ScriptLine]) -> Result<Vec<u64>, AllocError>
+    ensures { IfOk result (λ questions. questions.items ≡ questions_in lines.now) }
+{
+    let mut questions = Vec::with_capacity(alloc, lines.len())?;
+    for i in 0..lines.len() {
+        push_question(&mut questions, &lines[i])?;
+    }
+    Ok(questions)
+}
+
+fn push_question(questions: &mut Vec<u64>, line: &ScriptLine) -> Result<(), AllocError>
+    ensures { OnOk result
+        (questions.new.items ≡ questions.old.items ++ questions_in (line.now ∷ [])) }
+{
+    if let ScriptLine::Find(question) = line {
+        questions.push(*question)?;
+    }
+    Ok(())
 }

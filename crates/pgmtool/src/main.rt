@@ -17,13 +17,11 @@
 mod commands;
 mod inputs;
 mod refusal;
-mod request;
 mod run;
 mod status;
 mod task;
 #[cfg(test)]
 mod tests;
-mod words;
 
 use edge::{FileShelf, OpenGate, OutSink};
 pub use run::run;

@@ -1,11 +1,13 @@
 // Refusals: why there is no text, and the one text line that says so.
 ghost use Rattle.std.specs.Prelude.{◌≡◌, ◌∷◌, ◌+◌, ◌++◌, ◌≤◌, [], length, decimal, MatchOption};
 ghost use Rattle.written.specs.Writing.{WritesUntilFault};
-ghost use Rattle.pgmtool.specs.Refusals.{refusal_line, refusal_of, status_of};
+ghost use Rattle.pgmtool.specs.Refusals.{refusal_line, status_of, why_word};
 
 use crate::Status;
 use edge::Sink;
+use pgm_script::{ScriptFault, Why};
 use sosd_reader::KeyFault;
+use std::alloc::AllocError;
 use written::{LINE_ROOM, TextLine, hand_over};
 
 /// Why there is no text.
@@ -25,6 +27,10 @@ pub enum Refusal {
     Trailing { byte: u8 },
     /// A coordinate is out of the range of its dimension. No key file has this fault.
     Wide { at: u64, value: u32 },
+    /// A script has more bytes than it may have.
+    TooLong,
+    /// A line of a script has something wrong with it.
+    Script { line: u64, why: Why },
 }
 
 /// Why a request's inputs weren't read.
@@ -49,6 +55,7 @@ impl Refusal {
             | Refusal::Unsorted { .. }
             | Refusal::Trailing { .. }
             | Refusal::Wide { .. } => Status::BadKeys,
+            Refusal::TooLong | Refusal::Script { .. } => Status::BadScript,
         }
     }
 }
@@ -84,6 +91,11 @@ fn fill_line(line: &mut TextLine, refusal: Refusal)
             push_kind(line, b" keys wide", at);
             line.push_number(value);
         }
+        Refusal::TooLong => line.push(b" script too long"),
+        Refusal::Script { line: number, why } => {
+            push_kind(line, b" script", number);
+            push_why(line, why);
+        }
     }
     line.push(b"\n");
 }
@@ -96,6 +108,21 @@ fn push_kind(line: &mut TextLine, kind: &[u8], number: u64)
 {
     line.push(kind);
     line.push_number(number);
+}
+
+// Adds what is wrong with a line.
+fn push_why(line: &mut TextLine, why: Why)
+    requires { length line.old + 8 ≤ LINE_ROOM }
+    ensures text { line.new ≡ line.old ++ 32 ∷ why_word why }
+    ensures room { length line.new ≤ length line.old + 8 }
+{
+    match why {
+        Why::NotUtf8 => line.push(b" utf8"),
+        Why::Word => line.push(b" word"),
+        Why::Number => line.push(b" number"),
+        Why::Missing => line.push(b" missing"),
+        Why::Extra => line.push(b" extra"),
+    }
 }
 
 impl From<KeyFault> for Stopped {
@@ -115,5 +142,30 @@ impl From<KeyFault> for Stopped {
             KeyFault::Trailing { byte } => Stopped::Refused(Refusal::Trailing { byte }),
             KeyFault::Wide { at, value } => Stopped::Refused(Refusal::Wide { at, value }),
         }
+    }
+}
+
+impl From<ScriptFault> for Stopped {
+    ghost use Rattle.pgmtool.specs.Stops.{IsStopOfScript};
+
+    ghost from_gives = { IsStopOfScript };
+
+    fn from(fault: ScriptFault) -> Self {
+        match fault {
+            ScriptFault::NoMemory => Stopped::NoMemory,
+            ScriptFault::ReadFault => Stopped::Refused(Refusal::ReadFault),
+            ScriptFault::TooLong { .. } => Stopped::Refused(Refusal::TooLong),
+            ScriptFault::At { line, why } => Stopped::Refused(Refusal::Script { line, why }),
+        }
+    }
+}
+
+impl From<AllocError> for Stopped {
+    ghost use Rattle.pgmtool.specs.declared.refusal.Stopped.TheVariants.{NoMemory};
+
+    ghost from_gives = { λ _ stopped. stopped ≡ NoMemory };
+
+    fn from(_: AllocError) -> Self {
+        Stopped::NoMemory
     }
 }

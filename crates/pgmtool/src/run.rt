@@ -1,14 +1,14 @@
 // The one call that the program makes.
-ghost use Rattle.std.specs.Prelude.{◌≡◌, ◌⊎◌, ◌↔◌, ◌<◌, ◌∷◌, [], ℕ, List, map, None, Some, Result, IsSome};
+ghost use Rattle.std.specs.Prelude.{◌≡◌, ◌⊎◌, ◌<◌, ◌∷◌, [], ℕ, List, map, Result, IsSome};
 ghost use Rattle.std.specs.String.{string_bytes};
 ghost use Rattle.edge.specs.Risen.{HasRisen};
 ghost use Rattle.written.specs.Writing.{Writes, BreaksOff, WritesUntilFault};
 ghost use Rattle.pgmtool.specs.declared.refusal.Refusal.{Refusal};
 ghost use Rattle.pgmtool.specs.Files.{IsMissing};
 ghost use Rattle.pgmtool.specs.Refusals.{refusal_line, status_of};
-ghost use Rattle.pgmtool.specs.Requests.{Request, first_file};
+ghost use Rattle.command_line.specs.Requests.{Request, first_file};
 ghost use Rattle.pgmtool.specs.Tasks.{Task};
-ghost use Rattle.pgmtool.specs.Words.{request_of};
+ghost use Rattle.command_line.specs.Words.{AreRefused, AskFor};
 ghost use Rattle.pgmtool.specs.Outcomes.{Defines, IsOutcome, IsCause, EndsAs};
 ghost use Rattle.pgmtool.specs.Outcomes.Outcome.{text};
 
@@ -16,7 +16,7 @@ use crate::Status;
 use crate::commands::write;
 use crate::inputs::read;
 use crate::refusal::{Refusal, Stopped, refuse};
-use crate::words::requested;
+use command_line::{NoRequest, requested};
 use edge::{Gate, Shelf, Sink};
 use written::Unfinished;
 
@@ -62,19 +62,25 @@ pub fn run<R: AllocGlobal, F: Shelf, S: Sink, G: Gate>(
         → Defines (F.files files.old) (map string_bytes words.now) defined
         → EndsAs defined result ⊎ (result ≡ Status.NoMemory) ⊎ (result ≡ Status.ReadFault) }
 
-    // ReadFault: wherever a call on the files failed, and where the first file is told not to be
-    // there.
+    // ReadFault: wherever a call on the files failed, and, where memory doesn't run out, where the
+    // first file is told not to be there.
     ensures read_faulted { F.faults files.old < F.faults files.new → result ≡ Status.ReadFault }
-    ensures missing { (request : Request) → request_of (map string_bytes words.now) ≡ Some request
-        → IsMissing (F.files files.old) (first_file request) → result ≡ Status.ReadFault }
+    ensures missing { (request : Request) → AskFor (map string_bytes words.now) request
+        → IsMissing (F.files files.old) (first_file request)
+        → (result ≡ Status.ReadFault) ⊎ (result ≡ Status.NoMemory) }
 
-    // Usage: exactly where the words are no command, and then no file was touched.
-    ensures usage { (result ≡ Status.Usage) ↔ (request_of (map string_bytes words.now) ≡ None) }
+    // Usage: only where the words are refused, and there unless memory ran out. Then no file was
+    // touched.
+    ensures usage { result ≡ Status.Usage → AreRefused (map string_bytes words.now) }
+    ensures refused_words { AreRefused (map string_bytes words.now)
+        → (result ≡ Status.Usage) ⊎ (result ≡ Status.NoMemory) }
     ensures usage_reads_nothing { result ≡ Status.Usage → files.new ≡ files.old }
 {
     let _ = gate;
-    let Some(request) = requested(words) else {
-        return refuse(out, Refusal::Usage);
+    let request = match requested(rt.alloc(), words) {
+        Ok(request) => request,
+        Err(NoRequest::Usage) => return refuse(out, Refusal::Usage),
+        Err(NoRequest::NoMemory) => return Status::NoMemory,
     };
     match read(rt.alloc(), files, request) {
         Ok(task) => match write(rt.alloc(), task, out) {

@@ -1,8 +1,7 @@
 // What there is to do when all inputs are read.
-ghost use Rattle.std.specs.Prelude.{◌<◌, ◌^◌, vec_len};
+ghost use Rattle.std.specs.Prelude.{◌<◌, ◌≤◌, ◌^◌, vec_len};
 ghost use Rattle.std.specs.List.Sorted.{IsNonDecreasing};
-
-use crate::request::BuildOptions;
+ghost use Rattle.exact_cross.specs.declared.TheConstants.{MAX_EPSILON};
 
 /// The keys of a file: they never fall, and are fewer than 2^32.
 #[derive(Drop)]
@@ -12,12 +11,35 @@ pub struct SortedKeys {
     pub ghost few: { vec_len keys < 2 ^ 32 },
 }
 
+/// The error bounds of an index, in ranks.
+#[derive(Clone, Copy, Debug)]
+pub struct Bounds {
+    /// That of level 0.
+    pub eps: u32,
+    /// That of the levels above.
+    pub eps_rec: u32,
+    pub ghost bounded: { eps ≤ MAX_EPSILON },
+    pub ghost bounded_above: { eps_rec ≤ MAX_EPSILON },
+}
+
 /// A command, with its inputs and its options.
 #[derive(Drop)]
 pub enum Task {
-    /// Write the segments of these keys.
+    /// Write how many keys and levels there are, and of each level how many runs.
+    Build {
+        keys: SortedKeys,
+        bounds: Bounds,
+    },
+    /// Write the same, and each run.
     Explain {
         keys: SortedKeys,
-        options: BuildOptions,
+        bounds: Bounds,
+    },
+    /// Write the position of each question's key, and, where asked for, the windows searched.
+    Query {
+        keys: SortedKeys,
+        bounds: Bounds,
+        questions: Vec<u64>,
+        windows: bool,
     },
 }

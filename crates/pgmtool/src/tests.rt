@@ -5,7 +5,9 @@ use std::fs;
 use std::process::Abort;
 use std::test::Fail;
 
+mod build;
 mod explain;
+mod query;
 mod refusals;
 
 // A device of the tests: the call that fails, 0 for none, and the most bytes that one call moves.
@@ -25,11 +27,13 @@ const ONE_BYTE: Device = Device {
     most: 1,
 };
 
-// A run of the program: its words after the program's name, and the bytes of the file `keys`.
+// A run of the program: its words after the program's name, and the bytes of the files `keys` and
+// `script`.
 #[derive(Clone, Copy)]
 struct Given<'a> {
     words: &'a [&'a str],
     keys: &'a [u8],
+    script: &'a [u8],
     reading: Device,
     writing: Device,
 }
@@ -46,6 +50,10 @@ fn outcome<R: AllocGlobal>(rt: &R, given: Given<'_>) -> Result<(Status, Vec<u8>)
         String::from_str(rt.alloc(), "keys")?,
         given.keys.to_vec(rt.alloc())?,
     ))?;
+    files.push((
+        String::from_str(rt.alloc(), "script")?,
+        given.script.to_vec(rt.alloc())?,
+    ))?;
     let mut shelf = MemShelf::new(
         files,
         vec![in rt.alloc(); given.reading.failing]?,
@@ -61,17 +69,44 @@ fn outcome<R: AllocGlobal>(rt: &R, given: Given<'_>) -> Result<(Status, Vec<u8>)
     Ok((status, sink.bytes().to_vec(rt.alloc())?))
 }
 
-// Fails with the row's name.
+// Fails with the row's name. The text is given line by line.
 fn check<R: AllocGlobal + Abort>(
     rt: &R,
     name: &str,
     given: Given<'_>,
     status: Status,
-    text: &str,
+    lines: &[&str],
 ) -> Result<(), Fail> {
     let found = outcome(rt, given)?;
+    let mut text = Vec::new(rt.alloc());
+    for line in lines {
+        text.extend_from_slice(line.as_bytes())?;
+        text.push(b'\n')?;
+    }
     assert_eq!(rt; found.0, status, "{name}");
-    assert_eq!(rt; found.1.as_slice(), text.as_bytes(), "{name}");
+    assert_eq!(rt; found.1.as_slice(), text.as_slice(), "{name}");
+    Ok(())
+}
+
+// What is written by whole devices and by such that move a byte at a time.
+fn check_text<'a, R: AllocGlobal + Abort>(
+    rt: &R,
+    name: &str,
+    words: &'a [&'a str],
+    keys: &'a [u8],
+    script: &'a [u8],
+    lines: &[&str],
+) -> Result<(), Fail> {
+    for device in [WHOLE, ONE_BYTE] {
+        let given = Given {
+            words,
+            keys,
+            script,
+            reading: device,
+            writing: device,
+        };
+        check(rt, name, given, Status::Done, lines)?;
+    }
     Ok(())
 }
 

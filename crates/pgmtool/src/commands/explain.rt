@@ -1,88 +1,109 @@
 // The command `explain`.
-ghost use Rattle.std.specs.Prelude.{◌≡◌, ◌∷◌, ◌<◌, ◌≤◌, ◌^◌, ◌+◌, ◌++◌, [], length, drop, codes, decimal, IfOk, OnOk, OnErr};
+ghost use Rattle.std.specs.Prelude.{◌≡◌, ◌∷◌, ◌<◌, ◌≤◌, ◌^◌, ◌+◌, ◌++◌, ℕ, length, drop, codes, decimal};
+ghost use Rattle.std.specs.Prelude.{OnOk, OnErr};
 ghost use Rattle.std.specs.Fmt.{signed_decimal};
-ghost use Rattle.std.specs.List.Sorted.{IsStrictlyIncreasing, IsNonDecreasing};
+ghost use Rattle.std.specs.List.{flat_map};
+ghost use Rattle.std.specs.List.Sorted.{IsNonDecreasing};
 ghost use Rattle.exact_cross.specs.Points.{places};
 ghost use Rattle.exact_cross.specs.Covers.{run_end};
 ghost use Rattle.exact_cross.specs.Segments.{starts_of};
+ghost use Rattle.levels.specs.Indexes.{IsIndex};
 ghost use Rattle.written.specs.Writing.{Writes, BreaksOff, WritesText};
-ghost use Rattle.pgmtool.specs.Commands.Explain.{IsExplained, ExplainsLevel, level_line, ending, run_line, run_lines};
+ghost use Rattle.pgmtool.specs.Tasks.{bounds_of};
+ghost use Rattle.pgmtool.specs.Commands.Indexing.{tells_levels};
+ghost use Rattle.pgmtool.specs.Commands.Explain.{IsExplained, level_lines, ending};
+ghost use Rattle.pgmtool.specs.Commands.Explain.{run_line, run_lines};
 
-use crate::request::BuildOptions;
-use crate::task::SortedKeys;
-use budget::NoMemory;
+use crate::commands::indexing::{fill_level_line, index_of, write_keys};
+use crate::task::{Bounds, SortedKeys};
 use edge::{Failed, Sink};
-use exact_cross::{Line, MAX_EPSILON, Segment, Side, Witness};
-use segmenter::segment;
+use exact_cross::{Line, Segment, Side, Witness};
+use levels::Index;
 use std::alloc::Global;
 use written::{LINE_ROOM, TextLine, Unfinished, hand_over};
 
-/// Writes level 0 of the keys.
+/// Writes the index of the keys: how many keys and levels, and each level with its runs.
 pub fn write<S: Sink>(
     alloc: Global,
     sorted: SortedKeys,
-    options: BuildOptions,
+    bounds: Bounds,
     out: &mut S,
 ) -> Result<(), Unfinished>
-    ensures { WritesText S.Sink out.old result out.new (IsExplained sorted.keys.items options.eps) }
+    ensures { WritesText S.Sink out.old result out.new
+        (IsExplained sorted.keys.items (bounds_of bounds)) }
 {
-    let SortedKeys { mut keys } = sorted;
-    keys.dedup();
-    write_distinct(alloc, &keys, options.eps, out)
+    let index = index_of(alloc, sorted, bounds)?;
+    match write_index(out, &index, bounds) {
+        Ok(()) => Ok(()),
+        Err(_) => Err(Unfinished::WriteFault),
+    }
 }
 
-// Writes level 0 of distinct keys.
-fn write_distinct<S: Sink>(
-    alloc: Global,
-    keys: &[u64],
-    eps: u32,
-    out: &mut S,
-) -> Result<(), Unfinished>
-    requires rising { IsStrictlyIncreasing keys.now }
-    requires few { length keys.now < 2 ^ 32 }
-    requires bounded { eps ≤ MAX_EPSILON }
-    ensures { WritesText S.Sink out.old result out.new (ExplainsLevel keys.now eps) }
+// Writes the text line of the keys, and what is told of the levels.
+fn write_index<S: Sink>(out: &mut S, index: &Index, bounds: Bounds) -> Result<(), Failed>
+    requires never_falls { IsNonDecreasing index.now.keys }
+    requires few { length index.now.keys < 2 ^ 32 }
+    requires index { IsIndex index.now.keys bounds.eps bounds.eps_rec index.now.levels }
+    requires eps { index.now.eps ≡ bounds.eps }
+    requires eps_rec { index.now.eps_rec ≡ bounds.eps_rec }
+    ensures ok { OnOk result (Writes S.Sink out.old out.new (tells_levels index.now.keys
+        index.now.levels (level_lines index.now.keys (bounds_of bounds) index.now.levels))) }
+    ensures err { OnErr result (BreaksOff S.Sink out.old out.new (tells_levels index.now.keys
+        index.now.levels (level_lines index.now.keys (bounds_of bounds) index.now.levels))) }
 {
-    if keys.is_empty() {
-        return Ok(());
+    let mut line = TextLine::new();
+    write_keys(out, &mut line, index)?;
+    write_levels(out, &mut line, index, bounds)
+}
+
+// Writes the text lines of each level.
+fn write_levels<S: Sink>(
+    out: &mut S,
+    line: &mut TextLine,
+    index: &Index,
+    bounds: Bounds,
+) -> Result<(), Failed>
+    requires never_falls { IsNonDecreasing index.now.keys }
+    requires few { length index.now.keys < 2 ^ 32 }
+    requires index { IsIndex index.now.keys bounds.eps bounds.eps_rec index.now.levels }
+    requires eps { index.now.eps ≡ bounds.eps }
+    requires eps_rec { index.now.eps_rec ≡ bounds.eps_rec }
+    ensures ok { OnOk result (Writes S.Sink out.old out.new
+        (flat_map (level_lines index.now.keys (bounds_of bounds) index.now.levels)
+        (places (length index.now.levels)))) }
+    ensures err { OnErr result (BreaksOff S.Sink out.old out.new
+        (flat_map (level_lines index.now.keys (bounds_of bounds) index.now.levels)
+        (places (length index.now.levels)))) }
+{
+    for i in 0..index.levels() {
+        write_level(out, line, index, bounds, i)?;
     }
-    let len = keys.len() as u32;
-    let ranks = ranks_of(alloc, len)?;
-    let segments = segment(alloc, keys, &ranks, eps, 0, len)?;
-    write_level(out, 0, len, eps, &segments)?;
     Ok(())
 }
 
-// The ranks of so many keys, from 0 on.
-fn ranks_of(alloc: Global, len: u32) -> Result<Vec<u32>, NoMemory>
-    ensures ranks { IfOk result (λ ranks. ranks.items ≡ places len) }
-    ensures len { IfOk result (λ ranks. length ranks.items ≡ len) }
-    ensures never_falls { IfOk result (λ ranks. IsNonDecreasing ranks.items) }
-{
-    let mut ranks = Vec::with_capacity(alloc, len as usize)?;
-    for rank in 0..len {
-        ranks.push(rank)?;
-    }
-    Ok(ranks)
-}
-
-// Writes the text lines of a level of `len` keys, which has these segments.
+// Writes the text lines of level `i`.
 fn write_level<S: Sink>(
     out: &mut S,
-    level: u32,
-    len: u32,
-    eps: u32,
-    segments: &[Segment],
+    line: &mut TextLine,
+    index: &Index,
+    bounds: Bounds,
+    i: u32,
 ) -> Result<(), Failed>
+    requires there { i < length index.now.levels }
+    requires never_falls { IsNonDecreasing index.now.keys }
+    requires few { length index.now.keys < 2 ^ 32 }
+    requires index { IsIndex index.now.keys bounds.eps bounds.eps_rec index.now.levels }
+    requires eps { index.now.eps ≡ bounds.eps }
+    requires eps_rec { index.now.eps_rec ≡ bounds.eps_rec }
     ensures ok { OnOk result (Writes S.Sink out.old out.new
-        (level_line level len eps (length segments.now) ∷ run_lines segments.now len)) }
+        (level_lines index.now.keys (bounds_of bounds) index.now.levels i)) }
     ensures err { OnErr result (BreaksOff S.Sink out.old out.new
-        (level_line level len eps (length segments.now) ∷ run_lines segments.now len)) }
+        (level_lines index.now.keys (bounds_of bounds) index.now.levels i)) }
 {
-    let mut line = TextLine::new();
-    fill_level_line(&mut line, level, len, eps, segments.len());
+    fill_level_line(line, index, bounds, i);
     hand_over(out, line.as_bytes())?;
-    write_runs(out, &mut line, segments, len)
+    let len = index.list(i).len() as u32;
+    write_runs(out, line, index.level(i), len)
 }
 
 // Writes a text line for each run, the last of which ends at `to`.
@@ -112,21 +133,6 @@ fn start_at(segments: &[Segment], place: usize, to: u32) -> u32
     } else {
         to
     }
-}
-
-fn fill_level_line(line: &mut TextLine, level: u32, len: u32, eps: u32, runs: usize)
-    ensures { line.new ≡ level_line level len eps runs }
-{
-    line.clear();
-    line.push(b"level");
-    line.push_number(level);
-    line.push(b" list");
-    line.push_number(len);
-    line.push(b" eps");
-    line.push_number(eps);
-    line.push(b" runs");
-    line.push_number(runs);
-    line.push(b"\n");
 }
 
 fn fill_run_line(line: &mut TextLine, segment: &Segment, end: u32)

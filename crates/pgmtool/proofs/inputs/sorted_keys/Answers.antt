@@ -5,7 +5,8 @@ use Rattle.pgmtool.specs.declared.refusal.Stopped.{Stopped}
 use Rattle.pgmtool.specs.Refusals.{refusal_of}
 use Rattle.pgmtool.specs.Stops.{IsStopped, stop_of_refusal}
 use Rattle.pgmtool.specs.Inputs.{reads_keys}
-use Rattle.pgmtool.proofs.KeyInputs.{taken_holds, taken_is_there, keys_stopped, no_error, is_error, the_error}
+use Rattle.pgmtool.proofs.KeyInputs.{keys_stopped}
+use Rattle.pgmtool.proofs.TakenFiles.{taken_holds, taken_is_there, no_error, is_error, the_error}
 use Rattle.pgmtool.proofs.inputs.sorted_keys.Goals as goal
 
 pub returns-in-Ok-read_keys : goal.returns-in-Ok-read_keys
@@ -26,6 +27,7 @@ returns-in-Ok-read_keys g c =
         never_falls = omega (arith, c.in-Ok.ensures.cause.ok, read.faults);
       };
       missing = λ is. absurd (taken_is_there (g.F.Shelf.files c.args.files.now) c.args.name.now _ c.in-Ok.ensures.taken is);
+      files = read.files ∙ c.in-Ok.ensures.files;
     }
 
 pub returns-in-Err-read_keys : goal.returns-in-Err-read_keys
@@ -36,9 +38,9 @@ returns-in-Err-read_keys g c =
       answer = record {
         ok = tt;
         unfaulted = tt;
-        stopped = subst (λ (s : Stopped). IsStopped (reads_keys (g.F.Shelf.files c.args.files.now) c.args.name.now)
+        stopped = subst (λ (s : Stopped). IsStopped (reads_keys c.args.wide (g.F.Shelf.files c.args.files.now) c.args.name.now)
             (g.F.Shelf.faults c.args.files.now) (g.F.Shelf.faults c.read_keys.new.shelf) s) (sym c.from.ensures)
-            (keys_stopped (g.F.Shelf.files c.args.files.now) c.args.name.now _ c.in-Err-read_keys.fault _ _ c.in-Ok.ensures.taken read.fault
+            (keys_stopped c.args.wide (g.F.Shelf.files c.args.files.now) c.args.name.now _ c.in-Err-read_keys.fault _ _ c.in-Ok.ensures.taken read.fault
             (λ at value is. read.not_wide at value (ap Err is))
             (λ is. subst (λ (n : ℕ). HasRisen n (g.F.Shelf.faults c.read_keys.new.shelf)) same (read.read_fault (is_error _ _ is))));
         faulted = λ rose. ap Err (c.from.ensures ∙ ap (λ (f : KeyFault). stop_of_refusal (refusal_of f))
@@ -46,4 +48,5 @@ returns-in-Err-read_keys g c =
         never_falls = omega (arith, same, read.faults);
       };
       missing = λ is. absurd (taken_is_there (g.F.Shelf.files c.args.files.now) c.args.name.now _ c.in-Ok.ensures.taken is);
+      files = read.files ∙ c.in-Ok.ensures.files;
     }
