@@ -19,7 +19,7 @@ ghost use Rattle.exact_cross.specs.Cuts.{HasItsCut};
 ghost use Rattle.exact_cross.specs.Checked.{IsLeastCover, AreChecked};
 ghost use Rattle.segmenter.specs.Segmentation.{IsSegmentation};
 
-mod run;
+pub mod run;
 
 use budget::{NoMemory, Steps};
 use exact_cross::{MAX_EPSILON, Segment};

@@ -12,14 +12,20 @@ use exact_cross::{MAX_EPSILON, Segment, Witness};
 use hulls::{Hulls, Offer};
 use std::sync::ledger::Ledger;
 
-/// A segment and the end of its run.
+/// A segment and the end of its run, a place.
 #[derive(Clone, Copy)]
 pub struct Run {
     pub segment: Segment,
     pub end: u32,
 }
 
-/// The longest run from `start` that some line fits, `to` at the furthest.
+/// The longest run from `start` that some line fits, `to` at the furthest, with its segment.
+///
+/// This is for a caller that goes from run to run by itself: the greedy segments are those of the
+/// longest runs, each from the end of the one before it. The segment has the run's steep pair, and
+/// its cut unless the run ends at `to`. The hulls begin anew with the error bound that they were
+/// made with, and have room for the places `start..to`. It takes at most 12 steps for each place of
+/// the run, and no memory.
 pub fn longest_run<L: Ledger>(
     hulls: &mut Hulls,
     xs: &[u64],
