@@ -1,0 +1,4 @@
+pub mod Begun
+pub mod CutLemmas
+pub mod DrawLemmas
+pub mod PlaceLemmas

@@ -1,0 +1,12 @@
+-- Points have one segmentation.
+use Rattle.std.proofs.Common.{length}
+use Rattle.std.proofs.lemmas.Result.{IfOk-weaker}
+use Rattle.exact_cross.specs.Points.{points_of}
+use Rattle.segmenter.proofs.Unique.{IsSegmentation-unique}
+use Rattle.piece_join.proofs.pieces.segment_in_pieces.Goals as goal
+
+pub returns-clause-one_list : goal.returns-clause-one_list
+returns-clause-one_list g c =
+    let xs = c.args.xs.now in
+    let p = points_of xs c.args.ys.now in
+    IfOk-weaker c.joined.result _ _ (λ segments own others whole. IsSegmentation-unique p c.args.eps 0 (length xs) segments.items others own whole) c.joined.ensures

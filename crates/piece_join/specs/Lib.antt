@@ -1,0 +1,4 @@
+pub mod Cuttings
+pub mod Joined
+pub mod Pieces
+pub mod Worked

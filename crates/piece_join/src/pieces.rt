@@ -1,0 +1,191 @@
+// Segmentation by pieces.
+ghost use Rattle.std.specs.List.Sorted.{IsStrictlyIncreasing, IsNonDecreasing};
+ghost use Rattle.std.specs.Prelude.{◌≡◌, ℕ, ◌+◌, ◌*◌, ◌<◌, ◌≤◌, ◌^◌, List, length, vec_len};
+ghost use Rattle.std.specs.Prelude.{All, IfOk};
+ghost use Rattle.exact_cross.specs.declared.segment.Segment.{Segment};
+ghost use Rattle.exact_cross.specs.Points.{points_of};
+ghost use Rattle.segmenter.specs.Segmentation.{IsSegmentation};
+ghost use Rattle.claims.specs.Claims.{IsFresh, times};
+ghost use Rattle.piece_join.specs.Cuttings.{AreCuts};
+ghost use Rattle.piece_join.specs.declared.work.Work.{Work};
+ghost use Rattle.piece_join.specs.Worked.{IsWorked, IsPlaced, ArePlaced, numbers_of};
+
+use crate::joining::go_on;
+use crate::piece::Piece;
+use crate::work::Work;
+use crate::worker::{Worked, work_on};
+use budget::{NoMemory, Steps};
+use claims::{Claims, Seat};
+use edge::Gate;
+use exact_cross::{MAX_EPSILON, Segment};
+use hulls::Hulls;
+use std::alloc::Global;
+use std::marker::Brand;
+use std::sync::ledger::{Blank, Ledger};
+use std::thread;
+use std::thread::Threads;
+
+/// The segments of all points, made piece by piece by several workers: the same list as one thread
+/// makes, for all cuts, numbers of workers and gates.
+///
+/// The places are cut into pieces before each place of `cuts`, which rise strictly from 1 to the
+/// last place and are 65,535 at most. Each of the `workers`, 1 to 64, draws the number of the next
+/// piece and segments it until there are none left, and then the pieces are joined. Worker threads
+/// are joined before the call returns; where one can't be started the caller does its work. The
+/// gate is passed at `PieceBegun` before each piece and at `PieceDone` after it. The call returns
+/// only if the gate does.
+///
+/// A joined run is fitted again from its start where it is the last one of its piece, or begins at
+/// no start of its piece: in all no place is fitted more than twice.
+///
+/// # Errors
+///
+/// `NoMemory` alone. A worker that finds none draws no more pieces, and the others go on to the end.
+///
+/// Source: Ferragina and Vinciguerra, PVLDB 13(8), 2020, section 3.1.
+pub fn segment_in_pieces<R: Threads + Sync, G: Gate>(
+    rt: &R,
+    alloc: Global,
+    xs: &[u64],
+    ys: &[u32],
+    eps: u32,
+    cuts: &[u32],
+    workers: u32,
+    gate: &G,
+) -> Result<Vec<Segment>, NoMemory>
+    requires same_length { length ys.now ≡ length xs.now }
+    requires rising { IsStrictlyIncreasing xs.now }
+    requires never_falls { IsNonDecreasing ys.now }
+    requires few { length xs.now < 2 ^ 32 }
+    requires bounded { eps ≤ MAX_EPSILON }
+    requires cuts { AreCuts (length xs.now) cuts.now }
+    requires few_cuts { length cuts.now ≤ 65535 }
+    requires staffed { 1 ≤ workers }
+    requires few_workers { workers ≤ 64 }
+    ensures segmentation { IfOk result (λ segments.
+        IsSegmentation (points_of xs.now ys.now) eps 0 (length xs.now) segments.items) }
+    // It is the list that one thread makes of all points.
+    ensures one_list { IfOk result (λ segments. (others : List Segment) →
+        IsSegmentation (points_of xs.now ys.now) eps 0 (length xs.now) others →
+        segments.items ≡ others) }
+{
+    let work = Work { xs, ys, eps, cuts };
+    let (claims, seats) = Claims::new(alloc, work.pieces(), workers)?;
+    let done = all_done(rt, alloc, &work, &claims, gate, seats)?;
+    let parts = placed(alloc, &work, claims, done)?;
+    joined::<Brand>(alloc, &work, &parts, Blank::new(1))
+}
+
+/// What all workers leave.
+fn all_done<'a, R: Threads + Sync, G: Gate>(
+    rt: &R,
+    alloc: Global,
+    work: &'a Work<'a>,
+    claims: &Claims,
+    gate: &G,
+    seats: Vec<Seat>,
+) -> Result<Vec<Worked<'a>>, NoMemory>
+    requires fresh { All (IsFresh claims.now.origin) seats.items }
+    requires pieces { claims.now.origin.pieces ≡ length work.now.cuts.now + 1 }
+    ensures count { IfOk result (λ done. vec_len done ≡ vec_len seats) }
+    ensures each { IfOk result (λ done. All (IsWorked work.now claims.now.origin) done.items) }
+{
+    let job = |seat: Seat| -> Worked
+        requires fresh { IsFresh claims.now.origin seat }
+        requires pieces { claims.now.origin.pieces ≡ length work.now.cuts.now + 1 }
+        ensures { IsWorked work.entry.now claims.entry.now.origin result }
+    { work_on(alloc, work, claims, gate, seat) };
+    thread::map_vec(rt, seats, &job)
+}
+
+/// The segments of each piece, in order.
+///
+/// With all seats back the claims are closed: each number was drawn once, so each piece is there.
+fn placed(
+    alloc: Global,
+    work: &Work,
+    claims: Claims,
+    done: Vec<Worked>,
+) -> Result<Vec<Vec<Segment>>, NoMemory>
+    requires staffed { 1 ≤ claims.workers }
+    requires count { vec_len done ≡ claims.workers }
+    requires pieces { claims.origin.pieces ≡ length work.now.cuts.now + 1 }
+    requires each { All (IsWorked work.now claims.origin) done.items }
+    ensures { IfOk result (λ parts. ArePlaced work.now parts.items) }
+{
+    let mut parts = empty_parts(alloc, work.pieces())?;
+    let mut seats = Vec::with_capacity(alloc, done.len())?;
+    let mut done = done;
+    while let Some(worked) = done.pop() {
+        let Worked { seat, pieces } = worked;
+        place_all(&mut parts, pieces?);
+        seats.push(seat)?;
+    }
+    claims.close(seats);
+    Ok(parts)
+}
+
+/// Room for so many pieces.
+fn empty_parts(alloc: Global, count: u32) -> Result<Vec<Vec<Segment>>, NoMemory>
+    ensures { IfOk result (λ parts. vec_len parts ≡ count) }
+{
+    let mut parts = Vec::with_capacity(alloc, count as usize)?;
+    for _number in 0..count {
+        parts.push(Vec::new(alloc))?;
+    }
+    Ok(parts)
+}
+
+/// Puts each of a worker's pieces at the place of its number.
+fn place_all(parts: &mut Vec<Vec<Segment>>, pieces: Vec<Piece>)
+    requires { All (λ piece. length piece.of.cuts.now < vec_len parts.old) pieces.items }
+    ensures len { vec_len parts.new ≡ vec_len parts.old }
+    ensures kept { (work : Work) (i : ℕ) → All (λ piece. piece.of ≡ work) pieces.entry.items →
+        IsPlaced work parts.old.items i → IsPlaced work parts.new.items i }
+    ensures placed { (work : Work) (i : ℕ) → All (λ piece. piece.of ≡ work) pieces.entry.items →
+        0 < times i (numbers_of pieces.entry.items) → IsPlaced work parts.new.items i }
+{
+    let mut pieces = pieces;
+    while let Some(piece) = pieces.pop() {
+        let (number, segments) = piece.into_parts();
+        parts[number as usize] = segments;
+    }
+}
+
+/// The segments of all points, from those of each piece.
+fn joined<L: Ledger>(
+    alloc: Global,
+    work: &Work,
+    parts: &[Vec<Segment>],
+    blank: Blank,
+) -> Result<Vec<Segment>, NoMemory>
+    requires placed { ArePlaced work.now parts.now }
+    requires name { blank.name ≡ L.name }
+    requires parts { blank.parts ≡ L.parts }
+    requires one { blank.parts ≡ 1 }
+    ensures { IfOk result (λ segments. IsSegmentation (points_of work.now.xs.now work.now.ys.now)
+        work.now.eps 0 (length work.now.xs.now) segments.items) }
+{
+    let mut steps = Steps::<L>::new(blank);
+    let to = work.len();
+    let mut whole = Vec::with_capacity(alloc, count_of(parts))?;
+    let mut hulls = Hulls::new(alloc, work.eps, to)?;
+    let mut at = 0;
+    for number in 0..work.pieces() {
+        let piece = &parts[number as usize];
+        let end = work.edge(number + 1);
+        at = go_on(
+            &mut hulls, work.xs, work.ys, &mut whole, at, piece, end, to, &mut steps,
+        )?;
+    }
+    Ok(whole)
+}
+
+/// How many segments the pieces have together. All points have no more.
+fn count_of(parts: &[Vec<Segment>]) -> usize {
+    let mut count = 0usize;
+    for part in parts {
+        count = count.saturating_add(part.len());
+    }
+    count
+}
