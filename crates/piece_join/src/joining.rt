@@ -132,7 +132,8 @@ pub fn go_on<L: Ledger>(
     requires end { end ≤ to }
     requires within { to ≤ length xs.now }
     requires room { to ≤ room_of hulls.old }
-    requires begun { IsBegun (points_of xs.now ys.now) (bound_of hulls.old) 0 to at joined.old.items }
+    requires begun { IsBegun (points_of xs.now ys.now)
+        (bound_of hulls.old) 0 to at joined.old.items }
     requires piece { (from : ℕ) ×
         IsSegmentation (points_of xs.now ys.now) (bound_of hulls.old) from end piece.now }
     ensures begun { IfOk result (λ place. IsBegun (points_of xs.now ys.now)
@@ -225,7 +226,8 @@ fn add_run<L: Ledger>(
     requires at { at < to }
     requires within { to ≤ length xs.now }
     requires room { to ≤ room_of hulls.old }
-    requires begun { IsBegun (points_of xs.now ys.now) (bound_of hulls.old) 0 to at joined.old.items }
+    requires begun { IsBegun (points_of xs.now ys.now)
+        (bound_of hulls.old) 0 to at joined.old.items }
     ensures begun { IfOk result (λ place. IsBegun (points_of xs.now ys.now)
         (bound_of hulls.old) 0 to place joined.new.items) }
     ensures further { IfOk result (λ place. at < place) }

@@ -4,8 +4,8 @@
 //! Each piece is segmented as if a run began at its edge, which may be wrong. So joining goes on
 //! from the last run that is known to be right until a run ends where the next piece speculated a
 //! start; from there on the piece's runs are the right ones, since from one start there is one run.
-//! Of the keys 0, 1, 2, 10 with `ε = 0`, cut at the place 1, the right piece has the starts 1 and 3.
-//! The run from 0 goes on to the place 3, meets the second of them, and the starts are 0 and 3.
+//! Of the keys 0, 1, 2, 10 with `ε = 0`, cut at the place 1, the right piece has the starts 1 and
+//! 3. The run from 0 goes on to the place 3, meets the second of them, and the starts are 0 and 3.
 //!
 //! Main clauses: `segmentation` and `one_list` of [`segment_in_pieces`] and [`join`]. The words of
 //! the clauses are those of `exact_cross` and `segmenter`, and in `specs/Cuttings.antt`.

@@ -40,7 +40,8 @@ use std::thread::Threads;
 ///
 /// # Errors
 ///
-/// `NoMemory` alone. A worker that finds none draws no more pieces, and the others go on to the end.
+/// `NoMemory` alone. A worker that finds none draws no more pieces, and the others go on to the
+/// end.
 ///
 /// Source: Ferragina and Vinciguerra, PVLDB 13(8), 2020, section 3.1.
 pub fn segment_in_pieces<R: Threads + Sync, G: Gate>(
@@ -140,9 +141,11 @@ fn empty_parts(alloc: Global, count: u32) -> Result<Vec<Vec<Segment>>, NoMemory>
 fn place_all(parts: &mut Vec<Vec<Segment>>, pieces: Vec<Piece>)
     requires { All (λ piece. length piece.of.cuts.now < vec_len parts.old) pieces.items }
     ensures len { vec_len parts.new ≡ vec_len parts.old }
-    ensures kept { (work : Work) (i : ℕ) → All (λ piece. piece.of ≡ work) pieces.entry.items →
+    ensures kept { (work : Work) (i : ℕ) →
+        All (λ piece. piece.of ≡ work) pieces.entry.items →
         IsPlaced work parts.old.items i → IsPlaced work parts.new.items i }
-    ensures placed { (work : Work) (i : ℕ) → All (λ piece. piece.of ≡ work) pieces.entry.items →
+    ensures placed { (work : Work) (i : ℕ) →
+        All (λ piece. piece.of ≡ work) pieces.entry.items →
         0 < times i (numbers_of pieces.entry.items) → IsPlaced work parts.new.items i }
 {
     let mut pieces = pieces;
