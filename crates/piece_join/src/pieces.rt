@@ -33,7 +33,7 @@ use std::thread::Threads;
 /// piece and segments it until there are none left, and then the pieces are joined. Worker threads
 /// are joined before the call returns; where one can't be started the caller does its work. The
 /// gate is passed at `PieceBegun` before each piece and at `PieceDone` after it. The call returns
-/// only if the gate does.
+/// only if the gate does. No more workers are started than there are pieces.
 ///
 /// A joined run is fitted again from its start where it is the last one of its piece, or begins at
 /// no start of its piece: in all no place is fitted more than twice.
@@ -71,7 +71,9 @@ pub fn segment_in_pieces<R: Threads + Sync, G: Gate>(
         segments.items ≡ others) }
 {
     let work = Work { xs, ys, eps, cuts };
-    let (claims, seats) = Claims::new(alloc, work.pieces(), workers)?;
+    // A worker without a piece would only be started and told that there is none.
+    let seated = workers.min(work.pieces());
+    let (claims, seats) = Claims::new(alloc, work.pieces(), seated)?;
     let done = all_done(rt, alloc, &work, &claims, gate, seats)?;
     let parts = placed(alloc, &work, claims, done)?;
     joined::<Brand>(alloc, &work, &parts, Blank::new(1))
