@@ -1,0 +1,5 @@
+pub mod Counting
+pub mod InsideTest
+pub mod LookedLemmas
+pub mod CodeLists
+pub mod CallerLemmas

@@ -1,0 +1,215 @@
+-- Which places are looked at, and which codes stand between.
+--
+-- Main results: a place is looked at after a code inside (`looked_behind`) and at the lower bound of a code inside (`looked_at_bound`);
+-- none is behind a code above the high corner's (`none_past`), behind the last code inside (`none_left`) or before the next one
+-- (`none_between`). A code inside stands at a place that is looked at (`looked_here`), so what lies between are codes outside.
+use Rattle.std.proofs.Common.{◌≡◌, ℕ, zero, suc, ◌+◌, ◌-◌, ◌<◌, ◌≤◌, ⊎_elim, List, [], ◌∷◌, length, drop, slice_index, sym, ap, ◌∙◌, subst, arith}
+use Rattle.std.specs.Prelude.{All}
+use Rattle.std.specs.List.Sorted.{IsNonDecreasing}
+use Rattle.std.proofs.lemmas.Bool.{cases_lt, cases_eq, cond-true, cond-false}
+use Rattle.std.proofs.lemmas.List.{drop_more, drop_all}
+use Rattle.zorder.specs.declared.regions.Region.{Region}
+use Rattle.zorder.specs.Codes.{IsCode, code}
+use Rattle.zorder.specs.Regions.{IsRegion, IsInside}
+use Rattle.zorder.proofs.CallerLemmas.{inside_between}
+use Rattle.bigmin.specs.NextInBox.{IsNextInBox, HasNoNext}
+use Rattle.window_search.specs.Searches.{lb}
+use Rattle.window_search.proofs.CallerLemmas.{IsLowerBound-lb, lb-is}
+use Rattle.boxes.specs.BoxAnswers.{is_inside, codes_inside, IsLookedAt}
+use Rattle.boxes.specs.Walks.{HasWalked}
+use Rattle.boxes.proofs.Counting.{count_none, count_skip, count_more}
+use Rattle.boxes.proofs.InsideTest.{inside_passes, outside_fails}
+
+-- sorted codes of as many coordinates as the region has
+pub record AreOfRegion (region : Region) (codes : List ℕ) : Type 0 where
+  pub order : IsNonDecreasing codes
+  pub each : All (λ z. IsCode region.d z) codes
+
+pub of_region : (region : Region) (codes shown : List ℕ) (d : ℕ) → shown ≡ codes → region.d ≡ d → IsNonDecreasing shown → All (λ z. IsCode d z) shown →
+    AreOfRegion region codes
+of_region region codes shown d same dims order each = record {
+  order = subst IsNonDecreasing same order;
+  each = subst (λ (xs : List ℕ). All (λ z. IsCode region.d z) xs) same (subst (λ (n : ℕ). All (λ z. IsCode n z) shown) (sym dims) each);
+}
+
+module _ (region : Region) (codes : List ℕ) (of : AreOfRegion region codes) where
+  -- a code inside is looked at
+  pub looked_here : (j : ℕ) → j < length codes → IsInside region (slice_index codes j) → IsLookedAt region codes j
+  looked_here j within inside = record {
+    z = slice_index codes j;
+    code = of.each j 0 within;
+    inside = inside;
+    to = omega arith;
+    from = λ some. of.order (j - 1) j 0 (omega arith) within;
+  }
+
+  -- and the place behind it
+  pub looked_behind : (j : ℕ) → j + 1 < length codes → IsInside region (slice_index codes j) → IsLookedAt region codes (j + 1)
+  looked_behind j within inside = record {
+    z = slice_index codes j;
+    code = of.each j 0 (omega arith);
+    inside = inside;
+    to = of.order j (j + 1) 0 (omega arith) within;
+    from = λ some. let same : j + 1 - 1 ≡ j = omega arith in omega (arith, ap (slice_index codes) same);
+  }
+
+  -- and the lower bound of any code inside
+  pub looked_at_bound : (z : ℕ) → IsCode region.d z → IsInside region z → lb codes z < length codes → IsLookedAt region codes (lb codes z)
+  looked_at_bound z small inside within =
+      let bound = IsLowerBound-lb codes z of.order in record {
+        z = z;
+        code = small;
+        inside = inside;
+        to = bound.from (lb codes z) (omega arith) within;
+        from = λ some. omega (arith, bound.before (lb codes z - 1) (omega arith));
+      }
+
+  -- the lower bound of a code above another lies behind it
+  pub bound_beyond : (at z : ℕ) → at < length codes → slice_index codes at < z → at < lb codes z
+  bound_beyond at z within below =
+      let bound = IsLowerBound-lb codes z of.order in
+      ⊎_elim (λ beyond. beyond) (λ not_beyond. absurd (omega (arith, bound.from at not_beyond within))) (cases_lt at (lb codes z))
+
+  -- what is looked at behind a code rests on a code inside that is not below it
+  behind : (at j : ℕ) → at < j → j < length codes → (looked : IsLookedAt region codes j) → slice_index codes at ≤ looked.z
+  behind at j after within looked = omega (arith, of.order at (j - 1) 0 (omega arith) (omega arith), looked.from (omega arith))
+
+  -- and above it, if it is outside
+  above : (at j : ℕ) → at < j → j < length codes → (IsInside region (slice_index codes at) → ⊥) → (looked : IsLookedAt region codes j)
+      → slice_index codes at < looked.z
+  above at j after within outside looked =
+      let least = behind at j after within looked in
+      ⊎_elim (λ same. absurd (outside (subst (IsInside region) (sym same) looked.inside))) (λ differ. omega (arith, differ)) (cases_eq (slice_index codes at) looked.z)
+
+  -- behind a code above the high corner's no place is looked at
+  pub none_past : IsRegion region → (at : ℕ) → code region.d region.high < slice_index codes at
+      → (j : ℕ) → at < j → j < length codes → IsLookedAt region codes j → ⊥
+  none_past is at past j after within looked =
+      absurd (omega (arith, behind at j after within looked, (inside_between region looked.z is looked.code looked.inside).1))
+
+  -- nor behind a code outside above which none is inside
+  pub none_left : (at : ℕ) → HasNoNext region (slice_index codes at) → (IsInside region (slice_index codes at) → ⊥)
+      → (j : ℕ) → at < j → j < length codes → IsLookedAt region codes j → ⊥
+  none_left at none outside j after within looked = none looked.z looked.code (above at j after within outside looked) looked.inside
+
+  -- nor before the lower bound of the next code inside
+  pub none_between : (at next : ℕ) → IsNextInBox region (slice_index codes at) next → (IsInside region (slice_index codes at) → ⊥)
+      → (j : ℕ) → at < j → j < lb codes next → IsLookedAt region codes j → ⊥
+  none_between at next is outside j after before looked =
+      let bound = IsLowerBound-lb codes next of.order in
+      let least = is.least looked.z looked.code (above at j after (omega (arith, bound.within)) outside looked) looked.inside in
+      omega (arith, least, bound.before j before, looked.to)
+
+  -- a code inside at the front of what is left
+  pub inside_front : (i : ℕ) → i < length codes → IsInside region (slice_index codes i)
+      → codes_inside region (drop i codes) ≡ slice_index codes i ∷ codes_inside region (drop (i + 1) codes)
+  inside_front i within inside =
+      let z = slice_index codes i in
+      ap (codes_inside region) (drop_more codes i 0 within)
+      ∙ cond-true (is_inside region z) (z ∷ codes_inside region (drop (i + 1) codes)) (codes_inside region (drop (i + 1) codes)) (inside_passes region z inside)
+
+  -- and a code outside there
+  outside_front : (i : ℕ) → i < length codes → (IsInside region (slice_index codes i) → ⊥)
+      → codes_inside region (drop i codes) ≡ codes_inside region (drop (i + 1) codes)
+  outside_front i within outside =
+      let z = slice_index codes i in
+      ap (codes_inside region) (drop_more codes i 0 within)
+      ∙ cond-false (is_inside region z) (z ∷ codes_inside region (drop (i + 1) codes)) (codes_inside region (drop (i + 1) codes)) (outside_fails region z outside)
+
+  -- codes outside, as many as there may be
+  outside_fronts : (i count : ℕ) → i + count ≤ length codes → ((k : ℕ) → i ≤ k → k < i + count → IsInside region (slice_index codes k) → ⊥)
+      → codes_inside region (drop i codes) ≡ codes_inside region (drop (i + count) codes)
+  outside_fronts i zero within none = let same : i ≡ i + zero = omega arith in ap (λ (k : ℕ). codes_inside region (drop k codes)) same
+  outside_fronts i (suc count) within none =
+      let same : i + 1 + count ≡ i + suc count = omega arith in
+      outside_front i (omega arith) (none i (omega arith) (omega arith))
+      ∙ outside_fronts (i + 1) count (omega arith) (λ k from to. none k (omega arith) (omega arith))
+      ∙ ap (λ (k : ℕ). codes_inside region (drop k codes)) same
+
+  pub outside_skipped : (i j : ℕ) → i ≤ j → j ≤ length codes → ((k : ℕ) → i ≤ k → k < j → IsInside region (slice_index codes k) → ⊥)
+      → codes_inside region (drop i codes) ≡ codes_inside region (drop j codes)
+  outside_skipped i j up within none =
+      let same : i + (j - i) ≡ j = omega arith in
+      outside_fronts i (j - i) (omega arith) (λ k from to. none k from (omega arith))
+      ∙ ap (λ (k : ℕ). codes_inside region (drop k codes)) same
+
+  pub none_at_end : (i : ℕ) → length codes ≤ i → codes_inside region (drop i codes) ≡ []
+  none_at_end i past = ap (codes_inside region) (drop_all i codes past)
+
+  -- a walk begins at the lower bound of the low corner's code
+  pub walk_begins : IsRegion region → IsInside region (code region.d region.low) → IsCode region.d (code region.d region.low)
+      → HasWalked region codes (lb codes (code region.d region.low)) 0
+  walk_begins is inside small =
+      let low = code region.d region.low in
+      let bound = IsLowerBound-lb codes low of.order in record {
+        within = bound.within;
+        few = omega arith;
+        counted = count_skip (IsLookedAt region codes) 0 (lb codes low) 0 (omega arith)
+            (λ j from to looked. absurd (omega (arith, bound.before j to, looked.to, (inside_between region looked.z is looked.code looked.inside).0)))
+            (count_none (IsLookedAt region codes));
+        due = looked_at_bound low small inside;
+      }
+
+  pub begins_with_all : IsRegion region
+      → codes_inside region (drop (lb codes (code region.d region.low)) codes) ≡ codes_inside region codes
+  begins_with_all is =
+      let low = code region.d region.low in
+      let bound = IsLowerBound-lb codes low of.order in
+      sym (outside_skipped 0 (lb codes low) (omega arith) bound.within
+      (λ k from to inside. absurd (omega (arith, bound.before k to, (inside_between region (slice_index codes k) is (of.each k 0 (omega (arith, bound.within))) inside).0))))
+
+  -- over an empty region it is at its end at once
+  pub walk_of_none : ((z : ℕ) → IsInside region z → ⊥) → HasWalked region codes (length codes) 0
+  walk_of_none none = record {
+    within = omega arith;
+    few = omega arith;
+    counted = count_skip (IsLookedAt region codes) 0 (length codes) 0 (omega arith) (λ j from to looked. none looked.z looked.inside) (count_none (IsLookedAt region codes));
+    due = λ within. absurd (omega arith);
+  }
+
+  pub none_of_none : ((z : ℕ) → IsInside region z → ⊥) → codes_inside region (drop (length codes) codes) ≡ codes_inside region codes
+  none_of_none none = sym (outside_skipped 0 (length codes) (omega arith) (omega arith) (λ k from to inside. none (slice_index codes k) inside))
+
+  -- it goes on behind a code inside
+  pub walk_on : (at looked : ℕ) → at < length codes → HasWalked region codes at looked → IsInside region (slice_index codes at)
+      → HasWalked region codes (at + 1) (looked + 1)
+  walk_on at looked within walked inside = record {
+    within = omega arith;
+    few = omega (arith, walked.few);
+    counted = count_more (IsLookedAt region codes) at looked (walked.due within) walked.counted;
+    due = λ more. looked_behind at more inside;
+  }
+
+  -- and from a code outside over places that aren't looked at
+  pub walk_over : (at looked next : ℕ) → at < next → next ≤ length codes → HasWalked region codes at looked
+      → ((j : ℕ) → at < j → j < next → IsLookedAt region codes j → ⊥) → (next < length codes → IsLookedAt region codes next)
+      → HasWalked region codes next (looked + 1)
+  walk_over at looked next onwards within walked skipped due = record {
+    within = within;
+    few = omega (arith, walked.few);
+    counted = count_skip (IsLookedAt region codes) (at + 1) next (looked + 1) (omega arith) (λ j from to. skipped j (omega arith) to)
+        (count_more (IsLookedAt region codes) at looked (walked.due (omega arith)) walked.counted);
+    due = due;
+  }
+
+  -- in which no code is inside
+  pub none_inside_over : (at next : ℕ) → at < next → next ≤ length codes → (IsInside region (slice_index codes at) → ⊥)
+      → ((j : ℕ) → at < j → j < next → IsLookedAt region codes j → ⊥)
+      → codes_inside region (drop at codes) ≡ codes_inside region (drop next codes)
+  none_inside_over at next onwards within outside skipped =
+      outside_skipped at next (omega arith) within
+      (λ k from to inside. ⊎_elim (λ after. skipped k after to (looked_here k (omega arith) inside))
+      (λ here. let same : k ≡ at = omega arith in outside (subst (λ (i : ℕ). IsInside region (slice_index codes i)) same inside)) (cases_lt at k))
+
+-- the place of a code that isn't below another, behind one that is, is the lower bound
+pub bound_between : (shown codes : List ℕ) (z place : ℕ) → shown ≡ codes → IsNonDecreasing shown → place < length shown → slice_index shown (place - 1) < z →
+    z ≤ slice_index shown place → place ≡ lb codes z
+bound_between shown codes z place same order within below above =
+    sym (lb-is shown z place (omega arith) (λ k before. omega (arith, order k (place - 1) 0 (omega arith) (omega arith), below))
+    (λ k from inside. omega (arith, order place k 0 from inside, above))) ∙ ap (λ (xs : List ℕ). lb xs z) same
+
+-- and where all codes are below it, the end is
+pub bound_at_end : (shown codes : List ℕ) (z : ℕ) → shown ≡ codes → IsNonDecreasing shown → slice_index shown (length shown - 1) < z → length shown ≡ lb codes z
+bound_at_end shown codes z same order below =
+    sym (lb-is shown z (length shown) (omega arith) (λ k before. omega (arith, order k (length shown - 1) 0 (omega arith) (omega arith), below))
+    (λ k from inside. absurd (omega arith))) ∙ ap (λ (xs : List ℕ). lb xs z) same

@@ -1,0 +1,108 @@
+// Points, by their sorted codes and an index over them.
+ghost use Rattle.std.specs.Prelude.{◌≡◌, ◌+◌, ◌*◌, ◌<◌, ◌≤◌, ◌^◌, length, All, IfOk};
+ghost use Rattle.std.specs.List.Sorted.{IsNonDecreasing};
+ghost use Rattle.zorder.specs.Codes.{IsCode, IsDimension};
+ghost use Rattle.zorder.specs.Points.{ArePoints};
+ghost use Rattle.window_search.specs.Searches.{lb};
+ghost use Rattle.boxes.specs.PointCodes.{AreSortedCodes};
+
+use crate::codes::sorted_codes;
+use budget::{NoMemory, Steps};
+use levels::{Index, Keys};
+use std::alloc::Global;
+use std::marker::{Brand, Model};
+use std::sync::ledger::{Blank, Ledger};
+use std::thread::Threads;
+
+/// The error bound of the index's level 0, in places.
+const EPSILON: u32 = 64;
+
+/// The error bound of the levels above, in places of their lists.
+const EPSILON_ABOVE: u32 = 4;
+
+/// Points of two, three or four coordinates, kept for the search of boxes. Seen as a record of
+/// their number of coordinates and of their codes, sorted, each as often as there are points with
+/// it.
+///
+/// 1. The codes never fall, and are fewer than 2^32.
+/// 2. They stand once, as the keys of an index.
+#[derive(Drop)]
+pub struct Boxes {
+    d: u32,
+    index: Index,
+}
+
+impl Model for Boxes {
+    ghost use Rattle.boxes.specs.PointCodes.{PointCodes, AreCodes};
+
+    ghost Value = { PointCodes };
+
+    ghost view = { λ boxes. record { dims = boxes.d; codes = boxes.index.keys } };
+
+    ghost invariant = { λ boxes. AreCodes boxes.d boxes.index.keys };
+}
+
+impl Boxes {
+    /// The points whose coordinates are given, all those of the first point, then those of the
+    /// second, and so on.
+    ///
+    /// `d` is how many coordinates a point has, from 2 to 4; there are fewer than 2^32 points, and
+    /// each coordinate is in the range of `d`. The codes are sorted by threads; where none can be
+    /// started the caller sorts.
+    ///
+    /// # Errors
+    ///
+    /// `NoMemory` alone.
+    pub fn build(
+        rt: &(impl Threads + Sync),
+        alloc: Global,
+        d: u32,
+        points: &[u32],
+    ) -> Result<Boxes, NoMemory>
+        requires dimension { IsDimension d }
+        requires points { ArePoints d points.now }
+        ensures dims { IfOk result (λ boxes. boxes.dims ≡ d) }
+        ensures codes { IfOk result (λ boxes. AreSortedCodes d points.now boxes.codes) }
+    {
+        let codes = sorted_codes(rt, alloc, d, points)?;
+        let keys = Keys::of(alloc, codes)?;
+        let index = indexed::<Brand>(alloc, keys, Blank::new(1))?;
+        Ok(Boxes { d, index })
+    }
+
+    /// How many coordinates each point has, from 2 to 4. Takes no memory.
+    pub fn dims(&self) -> u32
+        ensures dims { result ≡ self.now.dims }
+        ensures dimension { IsDimension result }
+    {
+        self.d
+    }
+
+    /// The codes of the points, sorted, each as often as there are points with it. Takes no memory.
+    pub fn codes(&self) -> &[u64]
+        ensures codes { result.now ≡ self.now.codes }
+        ensures never_falls { IsNonDecreasing result.now }
+        ensures few { length result.now < 2 ^ 32 }
+        ensures each { All (λ z. IsCode self.now.dims z) result.now }
+    {
+        self.index.keys().file()
+    }
+
+    /// The lower bound of a code: how many of the codes are below it.
+    pub(crate) fn lower_bound(&self, code: u64) -> usize
+        ensures { result ≡ lb self.now.codes code }
+    {
+        self.index.position(code) as usize
+    }
+}
+
+/// The index of codes, built with a counter of its own.
+fn indexed<L: Ledger>(alloc: Global, keys: Keys, blank: Blank) -> Result<Index, NoMemory>
+    requires name { blank.name ≡ L.name }
+    requires parts { blank.parts ≡ L.parts }
+    requires one { blank.parts ≡ 1 }
+    ensures { IfOk result (λ index. index.keys ≡ keys) }
+{
+    let mut steps = Steps::<L>::new(blank);
+    Index::build_here(alloc, keys, EPSILON, EPSILON_ABOVE, &mut steps)
+}
