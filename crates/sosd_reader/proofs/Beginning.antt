@@ -1,15 +1,15 @@
 -- A file that begins with a count and numbers, by the words of a reading.
 use Rattle.std.proofs.Common.{◌≡◌, ℕ, zero, suc, ◌+◌, ◌-◌, ◌*◌, ◌^◌, ◌<◌, ◌≤◌, List, [], ◌∷◌, ◌++◌, length, drop, get_or, sym, ap, ◌∙◌, subst, append_assoc, length-append, arith, All, mul-le-mul_left, mul-add, mul-one, mul-suc, ⊎_elim}
 use Rattle.std.specs.List.{flat_map}
-use Rattle.std.specs.List.Sorted.{IsNonDecreasing}
 use Rattle.std.proofs.Math.Seq.{drop-append-add}
 use Rattle.std.proofs.lemmas.Bool.{cases_lt}
 use Rattle.std.proofs.lemmas.List.{append-nil}
 use Rattle.std.proofs.lemmas.List.Elements.{All-tail}
 use Rattle.byteorder.specs.Endian.{little_bytes, little_number}
 use Rattle.byteorder.specs.Numbers.{little_number-reads_back, length-bytes_low_first}
-use Rattle.sosd_reader.specs.KeyFiles.{IsKeyFileOf}
-use Rattle.sosd_reader.specs.KeyFileFaults.{count_in, key_in, IsWhole, NoneFalls, HasCount}
+use Rattle.sosd_reader.specs.NumberFiles.{Kind, number_width, AllFollow, IsFileOf}
+use Rattle.sosd_reader.specs.FileFaults.{count_in, number_in, IsWhole, NoneFails, HasCount}
+use Rattle.sosd_reader.proofs.KindLemmas.{follows-same}
 use Rattle.sosd_reader.proofs.Fronts.{length-numbers}
 
 -- the count, numbers, and what is over
@@ -59,9 +59,10 @@ number-at width (x ∷ xs) over (suc j) fits there =
     ∙ ap (little_number width) (drop-number width j x (F ++ over))
     ∙ number-at width xs over j (All-tail (λ number. number < 256 ^ width) x xs fits) (omega arith)
 
-pub key-at : (width count : ℕ) (numbers over bytes : List ℕ) (j : ℕ) → BeginsWith width count numbers over bytes → j < length numbers →
-    key_in width bytes j ≡ get_or numbers j 0
-key-at width count numbers over bytes j begins there =
+pub number-in : (kind : Kind) (count : ℕ) (numbers over bytes : List ℕ) (j : ℕ) → BeginsWith (number_width kind) count numbers over bytes → j < length numbers →
+    number_in kind bytes j ≡ get_or numbers j 0
+number-in kind count numbers over bytes j begins there =
+    let width = number_width kind in
     let R = flat_map (little_bytes width) numbers ++ over in
     let place : 8 + width * j ≡ length (little_bytes 8 count) + width * j = omega (arith, length-bytes_low_first 0 8 count) in
     ap (λ (w : List ℕ). little_number width (drop (8 + width * j) w)) begins.written
@@ -69,33 +70,31 @@ key-at width count numbers over bytes j begins there =
     ∙ ap (little_number width) (drop-append-add (little_bytes 8 count) R (width * j))
     ∙ number-at width numbers over j begins.each_fits there
 
-ordered : (a b x y : ℕ) → a ≡ x → b ≡ y → x ≤ y → a ≤ b
-ordered a b x y p q h = omega arith
-
--- where all keys below n that are whole are among the numbers, the order is theirs
-pub none-falls : (width count : ℕ) (numbers over bytes : List ℕ) (n : ℕ) → BeginsWith width count numbers over bytes → IsNonDecreasing numbers →
-    ((j : ℕ) → j < n → IsWhole width bytes j → j < length numbers) → NoneFalls width bytes n
-none-falls width count numbers over bytes n begins sorted among = λ j later below whole.
+-- where all numbers below n that are whole are among these, they follow as these do
+pub none-fails : (kind : Kind) (count : ℕ) (numbers over bytes : List ℕ) (n : ℕ) → BeginsWith (number_width kind) count numbers over bytes → AllFollow kind numbers →
+    ((j : ℕ) → j < n → IsWhole kind bytes j → j < length numbers) → NoneFails kind bytes n
+none-fails kind count numbers over bytes n begins follow among = λ j below whole.
     let there = among j below whole in
-    ordered _ _ _ _
-    (key-at width count numbers over bytes (j - 1) begins (omega arith))
-    (key-at width count numbers over bytes j begins there)
-    (sorted (j - 1) j 0 (omega arith) there)
+    follows-same kind _ _ _ _
+    (number-in kind count numbers over bytes (j - 1) begins (omega arith))
+    (number-in kind count numbers over bytes j begins there)
+    (follow j there)
 
--- where less than a number is over, each key that is whole is among the numbers
-pub whole-among : (width count : ℕ) (numbers over bytes : List ℕ) (j : ℕ) → BeginsWith width count numbers over bytes → length over < width →
-    IsWhole width bytes j → j < length numbers
-whole-among width count numbers over bytes j begins short whole =
+-- where less than a number is over, each number that is whole is among these
+pub whole-among : (kind : Kind) (count : ℕ) (numbers over bytes : List ℕ) (j : ℕ) → BeginsWith (number_width kind) count numbers over bytes → length over < number_width kind →
+    IsWhole kind bytes j → j < length numbers
+whole-among kind count numbers over bytes j begins short whole =
+    let width = number_width kind in
     let all = length-is width count numbers over bytes begins in
     let n = length numbers in
     ⊎_elim (λ less. less)
     (λ more. let up : n + 1 ≤ j + 1 = omega arith in let big = mul-le-mul_left width up in let one = mul-add width n 1 in let unit = mul-one width in absurd (omega arith))
     (cases_lt j n)
 
--- a key file is its count and its keys
-pub file-begins : (width : ℕ) (keys bytes : List ℕ) → IsKeyFileOf width keys bytes → BeginsWith width (length keys) keys [] bytes
-file-begins width keys bytes file = record {
-  written = file.written ∙ ap (λ (w : List ℕ). little_bytes 8 (length keys) ++ w) (sym (append-nil (flat_map (little_bytes width) keys)));
-  few = file.keys_fit.few;
-  each_fits = file.keys_fit.each_fits;
+-- a file is its count and its numbers
+pub file-begins : (kind : Kind) (numbers bytes : List ℕ) → (file : IsFileOf kind numbers bytes) → BeginsWith (number_width kind) file.count numbers [] bytes
+file-begins kind numbers bytes file = record {
+  written = file.written ∙ ap (λ (w : List ℕ). little_bytes 8 file.count ++ w) (sym (append-nil (flat_map (little_bytes (number_width kind)) numbers)));
+  few = file.are.few;
+  each_fits = file.are.each_fits;
 }

@@ -1,5 +1,6 @@
 pub mod Numbers
 pub mod Widths
+pub mod KindLemmas
 pub mod Steps
 pub mod Fronts
 pub mod Beginning

@@ -1,24 +1,24 @@
--- The numbers of bytes, added to keys one after the other.
-use Rattle.std.proofs.Common.{◌≡◌, ℕ, ◌+◌, ◌-◌, ◌*◌, ◌^◌, ◌<◌, ◌≤◌, List, [], ◌∷◌, ◌++◌, length, take, drop, get_or, sym, ap, ◌∙◌, subst, append_assoc, mul-add, mul-one, arith, All}
+-- The numbers of bytes, added to a list one after the other.
+use Rattle.std.proofs.Common.{◌≡◌, ℕ, ◌+◌, ◌-◌, ◌*◌, ◌^◌, ◌<◌, ◌≤◌, List, [], ◌∷◌, ◌++◌, length, take, drop, get_or, sym, ap, ◌∙◌, subst, append_assoc, mul-add, mul-one, arith, All, ⊎_elim}
 use Rattle.std.specs.List.{flat_map}
-use Rattle.std.specs.List.Sorted.{IsNonDecreasing}
-use Rattle.std.proofs.lemmas.List.{append-nil, take-append-drop, length-drop, get_or_push, get_or_default, length_push}
+use Rattle.std.proofs.lemmas.Bool.{cases_lt}
+use Rattle.std.proofs.lemmas.List.{append-nil, take-append-drop, length-drop, nil_from_length}
 use Rattle.std.proofs.lemmas.List.Concat.{flat_map-append}
 use Rattle.std.proofs.lemmas.List.Elements.{All-push}
-use Rattle.std.proofs.lemmas.List.Sorted.{IsNonDecreasingBy-push}
 use Rattle.byteorder.specs.Endian.{little_bytes}
-use Rattle.sosd_reader.specs.declared.fault.KeyFault.TheVariants.{Unsorted}
-use Rattle.sosd_reader.specs.Reading.{GoesOn, StopsAs}
+use Rattle.sosd_reader.specs.NumberFiles.{Kind, number_width, Follows, Fails, AllFollow}
+use Rattle.sosd_reader.specs.NumberFiles.Kind.{of_keys}
+use Rattle.sosd_reader.specs.Reading.{GoesOn, FailsNext}
+use Rattle.sosd_reader.proofs.KindLemmas.{follow-push, last-before}
 use Rattle.std.proofs.Math.Seq.{take-add}
 
--- the first i numbers were added, and the last key is `before`, or 0 where there is none
-pub record IsUnderWay (width : ℕ) (front bytes : List ℕ) (i : ℕ) (keys : List ℕ) (before : ℕ) : Type 0 where
+-- the first i numbers were added, and each may follow
+pub record IsUnderWay (kind : Kind) (front bytes : List ℕ) (i : ℕ) (list : List ℕ) : Type 0 where
   pub numbers : List ℕ
-  pub added : keys ≡ front ++ numbers
-  pub stand : take (width * i) bytes ≡ flat_map (little_bytes width) numbers
-  pub each_fits : All (λ number. number < 256 ^ width) numbers
-  pub never_falls : IsNonDecreasing keys
-  pub last : before ≡ get_or keys (length keys - 1) 0
+  pub added : list ≡ front ++ numbers
+  pub stand : take (number_width kind * i) bytes ≡ flat_map (little_bytes (number_width kind)) numbers
+  pub each_fits : All (λ number. number < 256 ^ number_width kind) numbers
+  pub all_follow : AllFollow kind list
 
 -- the number at this place
 stand-more : (width i : ℕ) (bytes numbers : List ℕ) (key : ℕ) → little_bytes width key ≡ take width (drop (width * i) bytes) →
@@ -32,48 +32,73 @@ stand-more width i bytes numbers key is stand =
     ∙ ap (λ (w : List ℕ). flat_map (little_bytes width) numbers ++ w) (sym is ∙ sym (append-nil (little_bytes width key)))
     ∙ sym (flat_map-append (little_bytes width) numbers (key ∷ []))
 
-last_below : (keys : List ℕ) (before key : ℕ) → before ≡ get_or keys (length keys - 1) 0 → before ≤ key →
-    (d : ℕ) → 0 < length keys → get_or keys (length keys - 1) d ≤ key
-last_below keys before key last up d some = omega (arith, get_or_default keys (length keys - 1) d 0 (omega arith))
-
-pub under_way_push : (width : ℕ) (front bytes : List ℕ) (i : ℕ) (keys : List ℕ) (before key : ℕ) → IsUnderWay width front bytes i keys before →
-    key < 256 ^ width → little_bytes width key ≡ take width (drop (width * i) bytes) → before ≤ key →
-    IsUnderWay width front bytes (i + 1) (keys ++ key ∷ []) key
-under_way_push width front bytes i keys before key so_far small is up = record {
-  numbers = so_far.numbers ++ key ∷ [];
-  added = ap (λ (w : List ℕ). w ++ key ∷ []) so_far.added ∙ append_assoc front so_far.numbers (key ∷ []);
-  stand = stand-more width i bytes so_far.numbers key is so_far.stand;
-  each_fits = All-push (λ number. number < 256 ^ width) so_far.numbers key so_far.each_fits small;
-  never_falls = IsNonDecreasingBy-push (λ (x : ℕ). x) keys key so_far.never_falls (last_below keys before key so_far.last up);
-  last = sym (get_or_push keys key 0 (length (keys ++ key ∷ []) - 1) (omega (arith, length_push keys key)));
+pub under_way_none : (kind : Kind) (front bytes : List ℕ) → AllFollow kind front → IsUnderWay kind front bytes 0 front
+under_way_none kind front bytes follow = record {
+  numbers = [];
+  added = sym (append-nil front);
+  stand = let nothing : number_width kind * 0 ≡ 0 = omega arith in ap (λ (n : ℕ). take n bytes) nothing;
+  each_fits = λ k d below. absurd (omega arith);
+  all_follow = follow;
 }
 
-pub under_way_falls : (width n : ℕ) (front bytes : List ℕ) (i : ℕ) (keys : List ℕ) (at before key : ℕ) → IsUnderWay width front bytes i keys before →
-    i < n → length keys ≡ length front + i → at ≡ length keys → key < 256 ^ width → little_bytes width key ≡ take width (drop (width * i) bytes) → key < before →
-    StopsAs width n front bytes (Unsorted at before key)
-under_way_falls width n front bytes i keys at before key so_far within len place small is down =
+pub under_way_push : (kind : Kind) (front bytes : List ℕ) (i : ℕ) (list : List ℕ) (number : ℕ) → IsUnderWay kind front bytes i list →
+    number < 256 ^ number_width kind → little_bytes (number_width kind) number ≡ take (number_width kind) (drop (number_width kind * i) bytes) →
+    Follows kind (get_or (list ++ number ∷ []) (length list - 1) 0) number → IsUnderWay kind front bytes (i + 1) (list ++ number ∷ [])
+under_way_push kind front bytes i list number so_far small is follows = record {
+  numbers = so_far.numbers ++ number ∷ [];
+  added = ap (λ (w : List ℕ). w ++ number ∷ []) so_far.added ∙ append_assoc front so_far.numbers (number ∷ []);
+  stand = stand-more (number_width kind) i bytes so_far.numbers number is so_far.stand;
+  each_fits = All-push (λ each. each < 256 ^ number_width kind) so_far.numbers number so_far.each_fits small;
+  all_follow = follow-push kind list number so_far.all_follow follows;
+}
+
+pub under_way_fails : (kind : Kind) (n : ℕ) (front bytes : List ℕ) (i : ℕ) (list : List ℕ) (at before number : ℕ) → IsUnderWay kind front bytes i list →
+    i < n → length list ≡ length front + i → at ≡ length list → number < 256 ^ number_width kind →
+    little_bytes (number_width kind) number ≡ take (number_width kind) (drop (number_width kind * i) bytes) →
+    before ≡ get_or (list ++ number ∷ []) (length list - 1) 0 → Fails kind before number → FailsNext kind n front bytes at before number
+under_way_fails kind n front bytes i list at before number so_far within len place small is last fails =
+    let width = number_width kind in
     let numbers = so_far.numbers in
-    let same = so_far.added in (
-      record {
-        numbers = numbers;
-        over = drop (width * (i + 1)) bytes;
-        stand = sym (take-append-drop (width * (i + 1)) bytes) ∙ ap (λ (w : List ℕ). w ++ drop (width * (i + 1)) bytes) (stand-more width i bytes numbers key is so_far.stand);
-        each_fits = All-push (λ number. number < 256 ^ width) numbers key so_far.each_fits small;
-        never_falls = subst IsNonDecreasing same so_far.never_falls;
-        place = place ∙ ap length same;
-        last = so_far.last ∙ ap (λ (k : ℕ). get_or keys (k - 1) 0) (sym place) ∙ ap (λ (w : List ℕ). get_or w (at - 1) 0) same;
-        falls = down;
-      },
-      omega arith,
-    )
+    let same = so_far.added in
+    record {
+      numbers = numbers;
+      over = drop (width * (i + 1)) bytes;
+      stand = sym (take-append-drop (width * (i + 1)) bytes) ∙ ap (λ (w : List ℕ). w ++ drop (width * (i + 1)) bytes) (stand-more width i bytes numbers number is so_far.stand);
+      each_fits = All-push (λ each. each < 256 ^ width) numbers number so_far.each_fits small;
+      all_follow = subst (AllFollow kind) same so_far.all_follow;
+      place = place ∙ ap length same;
+      before_is = last ∙ ap (λ (k : ℕ). get_or (list ++ number ∷ []) (k - 1) 0) (sym place) ∙ ap (λ (w : List ℕ). get_or (w ++ number ∷ []) (at - 1) 0) same;
+      fails = fails;
+      within = omega arith;
+    }
 
-pub under_way_end : (width : ℕ) (front bytes : List ℕ) (i : ℕ) (keys : List ℕ) (before : ℕ) → IsUnderWay width front bytes i keys before →
-    0 < width → length bytes < width * i + width → GoesOn width front bytes keys
-under_way_end width front bytes i keys before so_far some end = record {
+pub under_way_end : (kind : Kind) (front bytes : List ℕ) (i : ℕ) (list : List ℕ) → IsUnderWay kind front bytes i list →
+    0 < number_width kind → length bytes < number_width kind * i + number_width kind → GoesOn (number_width kind) front bytes list
+under_way_end kind front bytes i list so_far some end = record {
   numbers = so_far.numbers;
-  over = drop (width * i) bytes;
+  over = drop (number_width kind * i) bytes;
   added = so_far.added;
-  stand = sym (take-append-drop (width * i) bytes) ∙ ap (λ (w : List ℕ). w ++ drop (width * i) bytes) so_far.stand;
+  stand = sym (take-append-drop (number_width kind * i) bytes) ∙ ap (λ (w : List ℕ). w ++ drop (number_width kind * i) bytes) so_far.stand;
   each_fits = so_far.each_fits;
-  whole = omega (arith, length-drop (width * i) bytes);
+  whole = omega (arith, length-drop (number_width kind * i) bytes);
 }
+
+-- a key that isn't below the last one, or 0 where there is none, follows; and where it is below, there is one
+pub key-follows : (width : ℕ) (list : List ℕ) (last key : ℕ) → last ≡ get_or list (length list - 1) 0 → last ≤ key →
+    Follows (of_keys width) (get_or (list ++ key ∷ []) (length list - 1) 0) key
+key-follows width list last key is up =
+    ⊎_elim
+    (λ some. omega (arith, last-before list key some))
+    (λ none. let empty : list ≡ [] = nil_from_length list (omega arith) in
+    subst (λ (w : List ℕ). get_or (w ++ key ∷ []) (length w - 1) 0 ≤ key) (sym empty) (omega arith))
+    (cases_lt 0 (length list))
+
+pub key-falls : (list : List ℕ) (last key : ℕ) → last ≡ get_or list (length list - 1) 0 → key < last →
+    last ≡ get_or (list ++ key ∷ []) (length list - 1) 0
+key-falls list last key is down =
+    ⊎_elim
+    (λ some. omega (arith, last-before list key some))
+    (λ none. let empty : list ≡ [] = nil_from_length list (omega arith) in
+    let P : List ℕ → Type 0 = λ w. last ≡ get_or w (length w - 1) 0 in
+    let nothing : last ≡ get_or [] 0 0 = subst P empty is in absurd (omega arith))
+    (cases_lt 0 (length list))

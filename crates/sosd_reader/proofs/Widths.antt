@@ -1,13 +1,9 @@
--- Products and quotients by the width of a key.
+-- Products and quotients by the width of a number.
 use Rattle.std.proofs.Common.{◌≡◌, ℕ, ◌+◌, ◌*◌, ◌/◌, ◌^◌, ◌<◌, ◌≤◌, List, length, take, get_or, ap, ◌∙◌, subst, sym, arith, mul-le-mul_left, mul-add, mul-one, ⊎_elim}
 use Rattle.std.proofs.lemmas.Bool.{cases_lt}
 use Rattle.byteorder.specs.Endian.{little_bytes, little_number}
 use Rattle.byteorder.specs.Numbers.{little_from-lt}
-use Rattle.sosd_reader.specs.KeyFiles.{IsWidth}
 use Rattle.sosd_reader.proofs.Numbers.{little_bytes-little_number}
-
-pub width-some : (width : ℕ) → IsWidth width → 0 < width
-width-some width is = ⊎_elim (λ four. omega (arith, four)) (λ eight. omega (arith, eight)) is
 
 -- what is over of whole numbers is less than one
 pub over-last : (width n : ℕ) → 0 < width → n < width * (n / width) + width

@@ -1,22 +1,22 @@
 // Reading a key file.
-ghost use Rattle.std.specs.Prelude.{◌≡◌, ◌≢◌, ◌⊎◌, ◌<◌, ◌≤◌, ◌^◌, ◌+◌, ◌*◌, ◌/◌, ◌++◌, [], ℕ, List, Result, All, length, take, vec_len, vec_capacity, IfOk, IfErr, OnOk, IfSome, MatchResult, IsErrOf};
-ghost use Rattle.std.specs.List.{flat_map};
+ghost use Rattle.std.specs.Prelude.{◌≡◌, ◌≢◌, ◌⊎◌, ◌<◌, ◌≤◌, ◌^◌, ◌+◌, ◌/◌, ℕ, List, Result};
+ghost use Rattle.std.specs.Prelude.{All, length, take, vec_len, vec_capacity};
+ghost use Rattle.std.specs.Prelude.{IfOk, IfErr, OnOk, IfSome, MatchResult, IsErrOf};
 ghost use Rattle.std.specs.List.Sorted.{IsNonDecreasing};
 ghost use Rattle.byteorder.specs.Endian.{little_bytes};
 ghost use Rattle.edge.specs.Risen.{HasRisen, StaysQuiet};
 ghost use Rattle.edge.specs.Shelf.{TakesAtMost, IsEmptied};
-ghost use Rattle.sosd_reader.specs.KeyFiles.{IsKeyFileOf, IsWidth, key_width};
+ghost use Rattle.sosd_reader.specs.NumberFiles.{IsKind, AllFollow};
+ghost use Rattle.sosd_reader.specs.NumberFiles.Kind.{of_keys};
+ghost use Rattle.sosd_reader.specs.KeyFiles.{key_width};
 ghost use Rattle.sosd_reader.specs.KeyFileFaults.{ReadsAs, ReadingsAreOne, reach};
-ghost use Rattle.edge.specs.Reading.{HasRead};
-ghost use Rattle.sosd_reader.specs.Reading.{GoesOn, ReadsNumbers, StopsAs, HasFault, HasReadCause, Leaves};
+ghost use Rattle.sosd_reader.specs.Reading.{GoesOn, StopsAs};
 
 use crate::KeyFault;
-use byteorder::{ByteOrder, LittleEndian};
-use edge::{Shelf, fill, next_byte};
-use std::alloc::Global;
-
-/// How many numbers a chunk has at most: so far memory is taken ahead of the bytes.
-const CHUNK: usize = 65_536;
+use crate::number_list::{NumberList, first_u32, first_u64};
+use crate::reading::read_file;
+use edge::Shelf;
+use std::alloc::{AllocError, Global};
 
 /// Any bytes have exactly one reading as a key file, with keys of 8 bytes and with keys of 4. It
 /// does nothing.
@@ -54,7 +54,8 @@ pub fn read_keys<F: Shelf>(alloc: Global, shelf: &mut F, wide: bool) -> Result<V
         (λ keys. IfSome (F.rest shelf.old)
         (λ bytes. ReadsAs (key_width wide) bytes (Ok keys.items))) }
     ensures fault { IfErr result (λ fault. IfSome (F.rest shelf.old) (λ bytes.
-        (fault ≡ KeyFault.ReadFault) ⊎ (fault ≡ KeyFault.NoMemory) ⊎ ReadsAs (key_width wide) bytes (Err fault))) }
+        (fault ≡ KeyFault.ReadFault) ⊎ (fault ≡ KeyFault.NoMemory)
+        ⊎ ReadsAs (key_width wide) bytes (Err fault))) }
     ensures wherever { IfSome (F.rest shelf.old)
         (λ bytes. (reading : Result (List ℕ) KeyFault) → ReadsAs (key_width wide) bytes reading →
         StaysQuiet (F.faults shelf.old) (F.faults shelf.new) →
@@ -80,145 +81,72 @@ pub fn read_keys<F: Shelf>(alloc: Global, shelf: &mut F, wide: bool) -> Result<V
     ensures nothing_left { IsErrOf result KeyFault.ReadFault → IsEmptied (F.rest shelf.old)
         (F.rest shelf.new) }
 {
-    let width = width_of(wide);
-    read_file(alloc, shelf, width)
+    let mut list = KeyList {
+        keys: Vec::new(alloc),
+        wide,
+    };
+    match read_file(alloc, shelf, &mut list) {
+        Ok(()) => {
+            let KeyList { keys, wide: _ } = list;
+            Ok(keys)
+        }
+        Err(fault) => Err(fault),
+    }
+}
+
+/// Keys that never fall, of 8 bytes where they are wide, and else of 4.
+#[derive(Drop)]
+struct KeyList {
+    keys: Vec<u64>,
+    wide: bool,
+}
+
+impl NumberList for KeyList {
+    ghost kind = { λ list. of_keys (key_width list.wide) };
+
+    ghost list = { λ list. list.keys.items };
+
+    ghost room = { λ list. vec_capacity list.keys };
+
+    fn width(&self) -> usize {
+        width_of(self.wide)
+    }
+
+    fn each(&self) -> usize {
+        1
+    }
+
+    fn len(&self) -> usize {
+        self.keys.len()
+    }
+
+    fn reserve(&mut self, more: usize) -> Result<(), AllocError> {
+        self.keys.reserve_exact(more)
+    }
+
+    fn take_in(&mut self, bytes: &[u8]) -> Result<(), KeyFault> {
+        push_keys(width_of(self.wide), &mut self.keys, bytes)
+    }
 }
 
 // How many bytes a key has.
 fn width_of(wide: bool) -> usize
     ensures value { result ≡ key_width wide }
-    ensures width { IsWidth result }
+    ensures kind { IsKind (of_keys result) }
 {
     if wide { 8 } else { 4 }
 }
 
-// The keys of the taken file: the count, the numbers, and nothing after them.
-fn read_file<F: Shelf>(alloc: Global, shelf: &mut F, width: usize) -> Result<Vec<u64>, KeyFault>
-    requires { IsWidth width }
-    ensures keys { IfOk result (λ keys. IfSome (F.rest shelf.old) (IsKeyFileOf width keys.items)) }
-    ensures fault { IfErr result
-        (HasFault (λ bytes fault. ReadsAs width bytes (Err fault)) (F.rest shelf.old)) }
-    ensures never_falls { IfOk result (λ keys. IsNonDecreasing keys.items) }
-    ensures few { IfOk result (λ keys. vec_len keys < 2 ^ 32) }
-    ensures each_fits { IfOk result (λ keys. All (λ key. key < 256 ^ width) keys.items) }
-    ensures cause { HasReadCause (F.faults shelf.old) (F.faults shelf.new) result }
-    ensures files { F.files shelf.new ≡ F.files shelf.old }
-    ensures taken { IfSome (F.rest shelf.old)
-        (λ bytes. Leaves (reach width bytes) (F.rest shelf.old) (F.rest shelf.new) result) }
-{
-    let count = read_count(shelf)?;
-    let keys = read_list(alloc, shelf, width, count)?;
-    let after = next_byte(shelf)?;
-    if let Some(byte) = after {
-        return Err(KeyFault::Trailing { byte });
-    }
-    Ok(keys)
-}
-
-// How many keys there are, by the first eight bytes. Their width plays no part.
-fn read_count<F: Shelf>(shelf: &mut F) -> Result<u32, KeyFault>
-    ensures count { IfOk result
-        (λ count. HasRead (F.rest shelf.old) (little_bytes 8 count) (F.rest shelf.new)) }
-    ensures fault { (width : ℕ) → IfErr result
-        (HasFault (λ bytes fault. ReadsAs width bytes (Err fault)) (F.rest shelf.old)) }
-    ensures cause { HasReadCause (F.faults shelf.old) (F.faults shelf.new) result }
-    ensures files { F.files shelf.new ≡ F.files shelf.old }
-    ensures taken { Leaves 8 (F.rest shelf.old) (F.rest shelf.new) result }
-{
-    let mut header = [0; 8];
-    let got = fill(shelf, &mut header)?;
-    if got < 8 {
-        return Err(KeyFault::Short { got: got as u64 });
-    }
-    let count = first_number(8, &header);
-    if count > u32::MAX as u64 {
-        return Err(KeyFault::TooMany { count });
-    }
-    Ok(count as u32)
-}
-
-// The next `count` keys, by chunks, for each of which memory is taken before it is read.
-fn read_list<F: Shelf>(
-    alloc: Global,
-    shelf: &mut F,
-    width: usize,
-    count: u32,
-) -> Result<Vec<u64>, KeyFault>
-    requires { IsWidth width }
-    ensures keys { IfOk result
-        (λ keys. HasRead (F.rest shelf.old) (flat_map (little_bytes width) keys.items)
-        (F.rest shelf.new)) }
-    ensures count { IfOk result (λ keys. vec_len keys ≡ count) }
-    ensures never_falls { IfOk result (λ keys. IsNonDecreasing keys.items) }
-    ensures each_fits { IfOk result (λ keys. All (λ key. key < 256 ^ width) keys.items) }
-    ensures fault { IfErr result (HasFault (StopsAs width count []) (F.rest shelf.old)) }
-    ensures cause { HasReadCause (F.faults shelf.old) (F.faults shelf.new) result }
-    ensures files { F.files shelf.new ≡ F.files shelf.old }
-    ensures taken { Leaves (width * count) (F.rest shelf.old) (F.rest shelf.new) result }
-{
-    let count = count as usize;
-    let mut keys = Vec::new(alloc);
-    let mut bytes = vec![in alloc; 0; width * count.min(CHUNK)]?;
-    while keys.len() < count {
-        let next = (count - keys.len()).min(CHUNK);
-        read_chunk(shelf, width, next, &mut keys, &mut bytes[..width * next])?;
-    }
-    Ok(keys)
-}
-
-// Adds the next keys, as many as these bytes have room for: takes their memory, reads, judges the
-// whole numbers in order, and then whether all were there. The file has a count of eight bytes
-// before all keys.
-fn read_chunk<F: Shelf>(
-    shelf: &mut F,
-    width: usize,
-    room: usize,
-    keys: &mut Vec<u64>,
-    bytes: &mut [u8],
-) -> Result<(), KeyFault>
-    requires width { IsWidth width }
-    requires room { length bytes.old ≡ width * room }
-    requires few { vec_len keys.old + room < 2 ^ 32 }
-    requires never_falls { IsNonDecreasing keys.old.items }
-    ensures keys { OnOk result
-        (ReadsNumbers width (F.rest shelf.old) keys.old.items keys.new.items (F.rest shelf.new)) }
-    ensures len { OnOk result (vec_len keys.new ≡ vec_len keys.old + room) }
-    ensures never_falls { OnOk result (IsNonDecreasing keys.new.items) }
-    ensures fault { IfErr result (HasFault (StopsAs width room keys.old.items) (F.rest shelf.old)) }
-    ensures cause { HasReadCause (F.faults shelf.old) (F.faults shelf.new) result }
-    ensures files { F.files shelf.new ≡ F.files shelf.old }
-    ensures taken { Leaves (width * room) (F.rest shelf.old) (F.rest shelf.new) result }
-{
-    let before = bytes_before(width, keys.len());
-    keys.reserve_exact(room)?;
-    let got = fill(shelf, bytes)?;
-    push_keys(width, keys, &bytes[..got])?;
-    if got < bytes.len() {
-        let got = before + got as u64;
-        return Err(KeyFault::Short { got });
-    }
-    Ok(())
-}
-
-// How many bytes the count and this many keys have.
-fn bytes_before(width: usize, keys: usize) -> u64
-    requires width { IsWidth width }
-    requires few { keys < 2 ^ 32 }
-    ensures { result ≡ 8 + width * keys }
-{
-    8 + (width * keys) as u64
-}
-
 // Adds the whole numbers of these bytes, and stops at one that is below the key before it.
 fn push_keys(width: usize, keys: &mut Vec<u64>, bytes: &[u8]) -> Result<(), KeyFault>
-    requires width { IsWidth width }
-    requires never_falls { IsNonDecreasing keys.old.items }
+    requires kind { IsKind (of_keys width) }
+    requires all_follow { AllFollow (of_keys width) keys.old.items }
     requires room { vec_len keys.old + length bytes.now / width ≤ vec_capacity keys.old }
     ensures keys { OnOk result (GoesOn width keys.old.items bytes.now keys.new.items) }
     ensures len { OnOk result (vec_len keys.new ≡ vec_len keys.old + length bytes.now / width) }
-    ensures never_falls { OnOk result (IsNonDecreasing keys.new.items) }
+    ensures all_follow { OnOk result (AllFollow (of_keys width) keys.new.items) }
     ensures fault { IfErr result
-        (StopsAs width (length bytes.now / width) keys.old.items bytes.now) }
+        (StopsAs (of_keys width) (length bytes.now / width) keys.old.items bytes.now) }
 {
     let mut before = keys.last().copied().unwrap_or(0);
     for i in 0..bytes.len() / width {
@@ -236,14 +164,14 @@ fn push_keys(width: usize, keys: &mut Vec<u64>, bytes: &[u8]) -> Result<(), KeyF
 // The number whose bytes are the first ones, as many as it is wide, the lowest first.
 #[inline]
 fn first_number(width: usize, bytes: &[u8]) -> u64
-    requires width { IsWidth width }
+    requires kind { IsKind (of_keys width) }
     requires whole { width ≤ length bytes.now }
     ensures bytes { little_bytes width result ≡ take width bytes.now }
     ensures small { result < 256 ^ width }
 {
     if width == 8 {
-        LittleEndian::read_u64(bytes)
+        first_u64(bytes)
     } else {
-        u64::from(LittleEndian::read_u32(bytes))
+        u64::from(first_u32(bytes))
     }
 }

@@ -1,7 +1,7 @@
-// Worked key files, read from a shelf in memory.
+// Worked key files and point files, read from a shelf in memory.
 ghost use Rattle.std.specs.Prelude.{◌≤◌};
 
-use crate::{KeyFault, read_keys};
+use crate::{KeyFault, read_keys, read_points};
 use edge::{MemShelf, Shelf};
 use std::test::Fail;
 
@@ -223,6 +223,126 @@ fn three_chunks(rt: HostRuntime) -> Result<(), Fail> {
     assert_eq!(rt; read.len(), 131_073);
     for (rank, key) in read.iter().enumerate() {
         assert_eq!(rt; *key, rank as u64);
+    }
+    Ok(())
+}
+
+// Point files, with their dimension and coordinates.
+const POINT_FILES: [(u32, &[u8], &[u32]); 4] = [
+    (2, b"\0\0\0\0\0\0\0\0", &[]),
+    (
+        2,
+        b"\x02\0\0\0\0\0\0\0\x02\0\0\0\0\0\0\0\x01\0\0\0\x03\0\0\0",
+        &[2, 0, 1, 3],
+    ),
+    (
+        2,
+        b"\x01\0\0\0\0\0\0\0\xff\xff\xff\xff\x04\x03\x02\x01",
+        &[4_294_967_295, 0x0102_0304],
+    ),
+    (
+        4,
+        b"\x01\0\0\0\0\0\0\0\xff\xff\0\0\x07\0\0\0\0\0\0\0\x01\0\0\0",
+        &[65_535, 7, 0, 1],
+    ),
+];
+
+// Bytes that are the file of no points of the dimension, each with its fault.
+const FAULTY_POINTS: [(&str, u32, &[u8], KeyFault); 8] = [
+    ("no byte", 2, b"", KeyFault::Short { got: 0 }),
+    (
+        "2^32 points",
+        4,
+        b"\0\0\0\0\x01\0\0\0",
+        KeyFault::TooMany {
+            count: 4_294_967_296,
+        },
+    ),
+    (
+        "the point (2097152, 0, 0)",
+        3,
+        b"\x01\0\0\0\0\0\0\0\0\0\x20\0\0\0\0\0\0\0\0\0",
+        KeyFault::Wide {
+            at: 0,
+            value: 2_097_152,
+        },
+    ),
+    (
+        "the coordinates 0 and 2097152 of two points",
+        3,
+        b"\x02\0\0\0\0\0\0\0\0\0\0\0\0\0\x20\0",
+        KeyFault::Wide {
+            at: 1,
+            value: 2_097_152,
+        },
+    ),
+    (
+        "the coordinate 65536",
+        4,
+        b"\x01\0\0\0\0\0\0\0\0\0\0\0\0\0\0\0\0\0\0\0\0\0\x01\0\xff",
+        KeyFault::Wide {
+            at: 3,
+            value: 65_536,
+        },
+    ),
+    (
+        "a point and a half",
+        2,
+        b"\x02\0\0\0\0\0\0\0\x02\0\0\0\0\0\0\0\x01\0\0\0",
+        KeyFault::Short { got: 20 },
+    ),
+    (
+        "two coordinates of three",
+        3,
+        b"\x01\0\0\0\0\0\0\0\x02\0\0\0\0\0\0\0",
+        KeyFault::Short { got: 16 },
+    ),
+    (
+        "a byte past the point (7, 9)",
+        2,
+        b"\x01\0\0\0\0\0\0\0\x07\0\0\0\x09\0\0\0\xff",
+        KeyFault::Trailing { byte: 255 },
+    ),
+];
+
+#[test]
+fn point_files(rt: HostRuntime) -> Result<(), Fail> {
+    for (d, bytes, points) in POINT_FILES {
+        assert!(rt; d == 2 || d == 4);
+        let mut shelf = shelf_of(&rt, bytes, &[], 1000)?;
+        let read = read_points(rt.alloc(), &mut shelf, d)?;
+        assert_eq!(rt; read.as_slice(), points);
+    }
+    Ok(())
+}
+
+#[test]
+fn faulty_points(rt: HostRuntime) -> Result<(), Fail> {
+    for (name, d, bytes, fault) in FAULTY_POINTS {
+        assert!(rt; d == 2 || d == 3 || d == 4);
+        let mut shelf = shelf_of(&rt, bytes, &[], 5)?;
+        let read = read_points(rt.alloc(), &mut shelf, d);
+        assert_eq!(rt; read.err(), Some(fault), "{name}");
+    }
+    let mut shelf = shelf_of(&rt, POINT_FILES[1].1, &[3], 1000)?;
+    let read = read_points(rt.alloc(), &mut shelf, 2);
+    assert_eq!(rt; read.err(), Some(KeyFault::ReadFault));
+    Ok(())
+}
+
+// 30,000 points of three coordinates, of which one stands in two chunks.
+#[test]
+fn points_in_two_chunks(rt: HostRuntime) -> Result<(), Fail> {
+    let mut bytes = Vec::new(rt.alloc());
+    bytes.extend_from_slice(&30_000_u64.to_le_bytes())?;
+    for value in 0..90_000_u32 {
+        bytes.extend_from_slice(&value.to_le_bytes())?;
+    }
+    let mut shelf = shelf_of(&rt, bytes.as_slice(), &[], usize::MAX)?;
+    let read = read_points(rt.alloc(), &mut shelf, 3)?;
+    assert_eq!(rt; read.len(), 90_000);
+    for (place, value) in read.iter().enumerate() {
+        assert_eq!(rt; *value as usize, place);
     }
     Ok(())
 }

@@ -1,27 +1,44 @@
-use Rattle.std.proofs.Common.{◌≡◌, ◌*◌, ◌/◌, length, take, drop, refl, ap, ◌∙◌, arith, [], ◌∷◌}
-use Rattle.std.proofs.lemmas.List.{take_rest}
+use Rattle.std.proofs.Common.{rules, ◌≡◌, ℕ, ◌*◌, ◌-◌, ◌/◌, List, length, take, drop, slice_index, refl, sym, ap, ◌∙◌, subst, arith, [], ◌∷◌}
+use Rattle.std.proofs.lemmas.List.{take_rest, get_or_push, length_push}
 use Rattle.std.proofs.lemmas.Slice.{pushed}
 use Rattle.byteorder.specs.Endian.{little_bytes}
-use Rattle.sosd_reader.proofs.Widths.{width-some, over-last}
-use Rattle.sosd_reader.proofs.Pushing.{under_way_push, under_way_falls, under_way_end}
+use Rattle.sosd_reader.specs.NumberFiles.Kind.{of_keys}
+use Rattle.sosd_reader.proofs.Widths.{over-last}
+use Rattle.sosd_reader.proofs.KindLemmas.{width-some}
+use Rattle.sosd_reader.proofs.Pushing.{under_way_none, under_way_push, under_way_fails, under_way_end, key-follows, key-falls}
 use Rattle.sosd_reader.proofs.keys.push_keys.Goals as goal
 
 pub returns-then-key-before-clause-fault : goal.returns-then-key-before-clause-fault
 returns-then-key-before-clause-fault c =
     let bytes = c.args.bytes.now in
     let w = c.args.width in
-    let is : little_bytes w c.first_number-key.result ≡ take w (drop (w * c.loop-i.i) bytes) = c.first_number-key.ensures.bytes ∙ ap (take w) (take_rest bytes (w * c.loop-i.i)) in
-    under_way_falls w (length bytes / w) _ bytes _ _ _ _ _ c.loop-i.invariant.under_way (omega arith) (omega (arith, c.loop-i.invariant.len)) (omega arith) c.first_number-key.ensures.small is c.if-key-before.true
+    let is : little_bytes w c.first_number-key.result ≡ take w (drop (w * c.loop-i.i) bytes) = c.first_number-key.ensures.bytes ∙ ap (take w) (take_rest bytes (w * c.loop-i.i)) in (
+      tt,
+      under_way_fails (of_keys w) (length bytes / w) _ bytes _ _ _ _ _ c.loop-i.invariant.under_way (omega arith) (omega (arith, c.loop-i.invariant.len)) (omega arith) c.first_number-key.ensures.small is
+          (key-falls c.loop-i.keys.items _ _ c.loop-i.invariant.last c.if-key-before.true) c.if-key-before.true,
+    )
+
+pub loop-i-init : goal.loop-i-init
+loop-i-init c = record {
+  under_way = under_way_none (of_keys c.args.width) c.args.keys.now.items c.args.bytes.now c.requires.all_follow;
+  last = search rules;
+  len = omega arith;
+  room = c.requires.room;
+}
 
 pub loop-i-preserved : goal.loop-i-preserved
 loop-i-preserved c =
     let bytes = c.args.bytes.now in
     let w = c.args.width in
-    let is : little_bytes w c.first_number-key.result ≡ take w (drop (w * c.loop-i.i) bytes) = c.first_number-key.ensures.bytes ∙ ap (take w) (take_rest bytes (w * c.loop-i.i)) in
-    let items = pushed (c.first_number-key.result ∷ []) refl c.unwrap.ensures c.push.ensures.items in
+    let key = c.first_number-key.result in
+    let keys = c.loop-i.keys.items in
+    let is : little_bytes w key ≡ take w (drop (w * c.loop-i.i) bytes) = c.first_number-key.ensures.bytes ∙ ap (take w) (take_rest bytes (w * c.loop-i.i)) in
+    let items = pushed (key ∷ []) refl c.unwrap.ensures c.push.ensures.items in
     let len = rw c.unwrap.ensures at c.push.ensures.len in
     record {
-      under_way = rw items (under_way_push w _ bytes _ _ _ _ c.loop-i.invariant.under_way c.first_number-key.ensures.small is c.if-key-before.false);
+      under_way = rw items (under_way_push (of_keys w) _ bytes _ _ key c.loop-i.invariant.under_way c.first_number-key.ensures.small is
+          (key-follows w keys _ key c.loop-i.invariant.last c.if-key-before.false));
+      last = subst (λ (xs : List ℕ). key ≡ slice_index xs (length xs - 1)) (sym items) (sym (get_or_push keys key 0 _ (omega (arith, length_push keys key))));
       len = omega (arith, len, c.loop-i.invariant.len);
       room = omega arith;
     }
@@ -30,7 +47,7 @@ pub returns-clause-keys : goal.returns-clause-keys
 returns-clause-keys c =
     let w = c.args.width in
     let n = length c.args.bytes.now in
-    let some = width-some w c.requires.width in
+    let some = width-some (of_keys w) c.requires.kind in
     let last : c.loop-i.i ≡ n / w = omega arith in
     let place : w * c.loop-i.i ≡ w * (n / w) = ap (λ k. w * k) last in
-    under_way_end w _ _ _ _ _ c.loop-i.invariant.under_way some (omega (arith, over-last w n some, place))
+    under_way_end (of_keys w) _ _ _ _ c.loop-i.invariant.under_way some (omega (arith, over-last w n some, place))
