@@ -2,4 +2,5 @@ pub mod Counting
 pub mod InsideTest
 pub mod LookedLemmas
 pub mod CodeLists
+pub mod OneCount
 pub mod CallerLemmas

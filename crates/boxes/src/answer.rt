@@ -1,6 +1,8 @@
 // What a region asks for: counted, filled in, or as a whole.
-ghost use Rattle.std.specs.Prelude.{◌≡◌, ◌≤◌, length, vec_len, vec_capacity, IfOk};
+ghost use Rattle.std.specs.Prelude.{◌≡◌, ◌≤◌, ℕ, List, length, vec_len, vec_capacity, IfOk};
+ghost use Rattle.zorder.specs.declared.regions.Region.{Region};
 ghost use Rattle.zorder.specs.Regions.{IsRegion};
+ghost use Rattle.boxes.specs.PointCodes.{AreSortedCodes};
 ghost use Rattle.boxes.specs.BoxAnswers.{codes_inside, IsLooked};
 
 use crate::{Boxes, Found};
@@ -72,3 +74,12 @@ impl Boxes {
         walk.looked
     }
 }
+
+/// Points have one list of sorted codes, and a region asks those for one number of places that are
+/// looked at. It does nothing.
+pub fn one_answer()
+    ensures codes { (d : ℕ) (points one two : List ℕ) → AreSortedCodes d points one
+        → AreSortedCodes d points two → one ≡ two }
+    ensures looked { (region : Region) (codes : List ℕ) (one two : ℕ) → IsLooked region codes one
+        → IsLooked region codes two → one ≡ two }
+{}

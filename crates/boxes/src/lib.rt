@@ -20,6 +20,7 @@ mod codes;
 mod found;
 mod walk;
 
+pub use answer::one_answer;
 pub use boxes::Boxes;
 pub use found::Found;
 
