@@ -15,6 +15,8 @@ use Rattle.exact_cross.proofs.CallerLemmas.{IsAscending-points_of, IsNonDecreasi
 use Rattle.segmenter.specs.Segmentation.{IsSegmentation}
 use Rattle.segmenter.proofs.Unique.{IsSegmentation-unique}
 use Rattle.key_points.specs.KeyPoints.{xs_of, ys_of}
+use Rattle.levels.specs.declared.model.RunModel.{RunModel}
+use Rattle.levels.specs.Models.{AreModels}
 use Rattle.levels.specs.Indexes.{first_xs, level_at, xs_at, ys_at, points_at, eps_at, IsLevel, IsIndex}
 use Rattle.key_points.proofs.CallerLemmas.{xs-rise, xs-few, ys-length, ys-never_fall, xs-first, ys-at}
 use Rattle.levels.proofs.SegmentLemmas.{fewer_runs, first_xs-count, first_x_at, run_at}
@@ -141,6 +143,15 @@ IsLevel-in keys eps eps_rec levels others i segments below here level =
     subst (λ (segments : List Segment). IsSegmentation (points_at keys others i) (eps_at eps eps_rec i) 0 (length (xs_at keys others i)) segments) here
     (subst (λ (ys : List ℕ). IsSegmentation (points_of (xs_at keys others i) ys) (eps_at eps eps_rec i) 0 (length (xs_at keys others i)) segments) (ys_at-same keys levels others i below)
     (subst (λ (xs : List ℕ). IsSegmentation (points_of xs (ys_at keys levels i)) (eps_at eps eps_rec i) 0 (length xs) segments) (xs_at-same keys levels others i below) level))
+
+-- and models of that segmentation are models beside them
+pub AreModels-in : (keys : List ℕ) (levels others : List (List Segment)) (i eps : ℕ) (segments : List Segment) (models : List RunModel) →
+    ((k : ℕ) → k < i → level_at levels k ≡ level_at others k) → segments ≡ level_at others i →
+    AreModels (points_at keys levels i) eps (length (xs_at keys levels i)) segments models → AreModels (points_at keys others i) eps (length (xs_at keys others i)) (level_at others i) models
+AreModels-in keys levels others i eps segments models below here own =
+    subst (λ (segments : List Segment). AreModels (points_at keys others i) eps (length (xs_at keys others i)) segments models) here
+    (subst (λ (ys : List ℕ). AreModels (points_of (xs_at keys others i) ys) eps (length (xs_at keys others i)) segments models) (ys_at-same keys levels others i below)
+    (subst (λ (xs : List ℕ). AreModels (points_of xs (ys_at keys levels i)) eps (length xs) segments models) (xs_at-same keys levels others i below) own))
 
 -- ---- there is one index
 

@@ -6,6 +6,9 @@ pub mod CostLemmas
 pub mod RunsApart
 pub mod WindowLists
 pub mod WindowsExist
+pub mod ModelLemmas
+pub mod ModelRuns
+pub mod ModelLookup
 pub mod HeightLemmas
 pub mod IndexLemmas
 pub mod CallerLemmas

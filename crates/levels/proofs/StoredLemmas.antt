@@ -14,11 +14,13 @@ use Rattle.exact_cross.specs.Covers.{IsLongest}
 use Rattle.exact_cross.specs.Segments.{IsSteepSegment}
 use Rattle.segmenter.specs.Segmentation.{IsSegmentation}
 use Rattle.levels.specs.declared.level.Level.{Level}
+use Rattle.levels.specs.declared.model.RunModel.{RunModel}
+use Rattle.levels.specs.Models.{AreModels}
 use Rattle.key_points.specs.KeyPoints.{xs_of, ys_of}
 use Rattle.levels.specs.Indexes.{first_xs, level_at, xs_at, ys_at, points_at, eps_at, IsLevel, places_below}
 use Rattle.levels.specs.Stored.{segments_of, AreLevels, AreStored}
 use Rattle.levels.proofs.SegmentLemmas.{fewer_runs, run_at}
-use Rattle.levels.proofs.LevelLemmas.{xs_at-base, ys_at-base, xs_at-above, ys_at-above, AscendsAt, ascends_at, some_at, xs_at-same, ys_at-same, xs_at-length, IsLevel-in}
+use Rattle.levels.proofs.LevelLemmas.{xs_at-base, ys_at-base, xs_at-above, ys_at-above, AscendsAt, ascends_at, some_at, xs_at-same, ys_at-same, xs_at-length, IsLevel-in, AreModels-in}
 
 pub segments_of-count : (levels : List Level) → length (segments_of levels) ≡ length levels
 segments_of-count levels = length-map levels (λ (level : Level). level.segments.items)
@@ -40,16 +42,18 @@ level_at-last levels more i last = sym (ap (level_at (levels ++ more ∷ [])) la
 pub AreLevels-push : (keys : List ℕ) (eps eps_rec : ℕ) (levels : List Level) (level : Level) → AreLevels keys eps eps_rec levels →
     ((i : ℕ) → i + 1 ≡ length levels → length (level_at (segments_of levels) i) ≢ 1) →
     IsSegmentation (points_at keys (segments_of levels) (length levels)) (eps_at eps eps_rec (length levels)) 0 (length (xs_at keys (segments_of levels) (length levels))) level.segments.items →
+    AreModels (points_at keys (segments_of levels) (length levels)) (eps_at eps eps_rec (length levels)) (length (xs_at keys (segments_of levels) (length levels))) level.segments.items level.models.items →
     (0 < length levels → level.xs.items ≡ xs_at keys (segments_of levels) (length levels)) →
     (0 < length levels → level.ys.items ≡ ys_at keys (segments_of levels) (length levels)) →
     AreLevels keys eps eps_rec (levels ++ level ∷ [])
-AreLevels-push keys eps eps_rec levels level so_far unfinished here xs ys = record {
+AreLevels-push keys eps eps_rec levels level so_far unfinished here own_models xs ys = record {
   never_falls = so_far.never_falls;
   few = so_far.few;
   bounded = so_far.bounded;
   bounded_rec = so_far.bounded_rec;
   each = λ i inside. rw (segments_of-push levels level) (each i (omega (arith, count, inside)));
   others = λ i inside. rw (segments_of-push levels level) (others i (omega (arith, count, inside)));
+  models = λ i d inside. rw (segments_of-push levels level) (models i d (omega (arith, count, inside)));
   kept = λ i d above inside. rw (segments_of-push levels level) (kept i d above (omega (arith, count, inside)));
 }
   where
@@ -83,6 +87,29 @@ AreLevels-push keys eps eps_rec levels level so_far unfinished here xs ys = reco
           | inl before ↦ so_far.others i before (ap length is ∙ one)
           | inr last ↦ unfinished i (omega arith) (ap length is ∙ one)
         ]
+
+    models : (i : ℕ) (d : Level) → i < length levels + 1 →
+        AreModels (points_at keys (segments_of levels ++ level.segments.items ∷ []) i) (eps_at eps eps_rec i) (length (xs_at keys (segments_of levels ++ level.segments.items ∷ []) i))
+        (level_at (segments_of levels ++ level.segments.items ∷ []) i) (slice_index_or (levels ++ level ∷ []) i d).models.items
+    models i d inside = elim (cases_lt i (length levels)) [
+      | inl before ↦
+          let is = get_or_append_left levels (level ∷ []) d i before in
+          subst (λ (models : List RunModel). AreModels (points_at keys (segments_of levels ++ level.segments.items ∷ []) i) (eps_at eps eps_rec i)
+          (length (xs_at keys (segments_of levels ++ level.segments.items ∷ []) i)) (level_at (segments_of levels ++ level.segments.items ∷ []) i) models)
+          (ap (λ (l : Level). l.models.items) (sym is))
+          (AreModels-in keys (segments_of levels) (segments_of levels ++ level.segments.items ∷ []) i (eps_at eps eps_rec i) (level_at (segments_of levels) i) (slice_index_or levels i d).models.items
+          (same i (omega arith)) (level_at-below (segments_of levels) level.segments.items i (omega (arith, segments_of-count levels))) (so_far.models i d before))
+      | inr from ↦
+          let last : i ≡ length levels = omega arith in
+          let is : slice_index_or (levels ++ level ∷ []) i d ≡ level = ap (λ (k : ℕ). slice_index_or (levels ++ level ∷ []) k d) last ∙ get_or-append_seam levels level [] d in
+          subst (λ (models : List RunModel). AreModels (points_at keys (segments_of levels ++ level.segments.items ∷ []) i) (eps_at eps eps_rec i)
+          (length (xs_at keys (segments_of levels ++ level.segments.items ∷ []) i)) (level_at (segments_of levels ++ level.segments.items ∷ []) i) models)
+          (ap (λ (l : Level). l.models.items) (sym is))
+          (AreModels-in keys (segments_of levels) (segments_of levels ++ level.segments.items ∷ []) i (eps_at eps eps_rec i) level.segments.items level.models.items
+          (same i (omega arith)) (level_at-last (segments_of levels) level.segments.items i (omega (arith, segments_of-count levels)))
+          (subst (λ (k : ℕ). AreModels (points_at keys (segments_of levels) k) (eps_at eps eps_rec k) (length (xs_at keys (segments_of levels) k)) level.segments.items level.models.items)
+          (sym last) own_models))
+    ]
 
     kept : (i : ℕ) (d : Level) → 0 < i → i < length levels + 1 →
         ((slice_index_or (levels ++ level ∷ []) i d).xs.items ≡ xs_at keys (segments_of levels ++ level.segments.items ∷ []) i)
@@ -222,6 +249,25 @@ above_level keys eps eps_rec levels xs ys segments above xs_are ys_are level =
     (eps_at-above eps eps_rec (length levels) above)
     (subst (λ (ys : List ℕ). IsSegmentation (points_of (xs_at keys (segments_of levels) (length levels)) ys) eps_rec 0 (length (xs_at keys (segments_of levels) (length levels))) segments) ys_are
     (subst (λ (xs : List ℕ). IsSegmentation (points_of xs ys) eps_rec 0 (length xs) segments) xs_are level))
+
+-- the models of the next level, by the lists at hand
+pub level_models : (keys : List ℕ) (eps eps_rec : ℕ) (levels : List Level) (xs ys : List ℕ) (bound : ℕ) (segments : List Segment) (models : List RunModel) →
+    xs ≡ xs_at keys (segments_of levels) (length levels) → ys ≡ ys_at keys (segments_of levels) (length levels) → bound ≡ eps_at eps eps_rec (length levels) →
+    AreModels (points_of xs ys) bound (length xs) segments models →
+    AreModels (points_at keys (segments_of levels) (length levels)) (eps_at eps eps_rec (length levels)) (length (xs_at keys (segments_of levels) (length levels))) segments models
+level_models keys eps eps_rec levels xs ys bound segments models xs_are ys_are is own =
+    subst (λ (e : ℕ). AreModels (points_at keys (segments_of levels) (length levels)) e (length (xs_at keys (segments_of levels) (length levels))) segments models) is
+    (subst (λ (ys : List ℕ). AreModels (points_of (xs_at keys (segments_of levels) (length levels)) ys) bound (length (xs_at keys (segments_of levels) (length levels))) segments models) ys_are
+    (subst (λ (xs : List ℕ). AreModels (points_of xs ys) bound (length xs) segments models) xs_are own))
+
+pub base_xs : (keys : List ℕ) (levels : List Level) (xs : List ℕ) → length levels ≡ 0 → xs ≡ xs_of keys → xs ≡ xs_at keys (segments_of levels) (length levels)
+base_xs keys levels xs none is = is ∙ sym (xs_at-base keys (segments_of levels)) ∙ ap (xs_at keys (segments_of levels)) (sym none)
+
+pub base_ys : (keys : List ℕ) (levels : List Level) (ys : List ℕ) → length levels ≡ 0 → ys ≡ ys_of keys → ys ≡ ys_at keys (segments_of levels) (length levels)
+base_ys keys levels ys none is = is ∙ sym (ys_at-base keys (segments_of levels)) ∙ ap (ys_at keys (segments_of levels)) (sym none)
+
+pub eps_at-base : (eps eps_rec i : ℕ) → i ≡ 0 → eps ≡ eps_at eps eps_rec i
+eps_at-base eps eps_rec i base = grind (arith, nat_tests)
 
 -- the runs start in the list
 pub starts_inside : (keys : List ℕ) (eps eps_rec : ℕ) (levels : List Level) (below : ℕ) (level : Level) (list : List ℕ) (segments : List Segment) → AreLevels keys eps eps_rec levels →

@@ -2,6 +2,7 @@ pub mod Indexes
 pub mod Stored
 pub mod Costs
 pub mod Lookups
+pub mod Models
 pub mod Heights
 pub use Rattle.exact_cross.specs.Points
 pub use Rattle.exact_cross.specs.Covers

@@ -1,14 +1,17 @@
 // The recursive index, and its parts.
-ghost use Rattle.std.specs.Prelude.{◌≡◌, ◌+◌, ◌<◌, ◌≤◌, ℕ, List, length};
+ghost use Rattle.std.specs.Prelude.{◌≡◌, ◌+◌, ◌-◌, ◌<◌, ◌≤◌, ℕ, List, length};
+ghost use Rattle.std.specs.Prelude.{slice_index, slice_index_or};
 ghost use Rattle.exact_cross.specs.declared.segment.Segment.{Segment};
 ghost use Rattle.exact_cross.specs.Checked.{IsLeastCover, AreChecked};
 ghost use Rattle.exact_cross.specs.Segments.{starts_of};
 ghost use Rattle.levels.specs.Indexes.{IsIndex, IsLevel, level_at, xs_at, ys_at, points_at, eps_at};
 ghost use Rattle.key_points.specs.KeyPoints.{xs_of};
 ghost use Rattle.levels.specs.Heights.{IsLow, HasLongRuns, least_places};
+ghost use Rattle.levels.specs.Models.{IsEndOf, IsModelOf};
 ghost use Rattle.levels.specs.Stored.{AreLevels, AreStored, segments_of};
 
 use crate::level::Level;
+use crate::model::RunModel;
 use exact_cross::{MAX_EPSILON, Segment};
 use key_points::Keys;
 use std::marker::Model;
@@ -20,6 +23,7 @@ use std::marker::Model;
 ///    level above on the first x of the runs below it, and each has the fewest segments that lines
 ///    within its bound can do with. The last level is the first with one run. No key, no level.
 /// 2. The keys are kept once: level 0 uses the lists of [`Keys`].
+/// 3. Each run has a model, 48 bytes, by which a lookup predicts places without a division.
 ///
 /// Source: Ferragina and Vinciguerra, PVLDB 13(8), 2020, section 2.
 #[derive(Drop)]
@@ -122,6 +126,23 @@ impl Index {
         ensures bounded { result ≤ MAX_EPSILON }
     {
         if i == 0 { self.eps } else { self.eps_rec }
+    }
+
+    /// The model of a run of a level.
+    #[inline(always)]
+    pub(crate) fn model_of(&self, level: u32, run: u32) -> &RunModel
+        requires inside { level < length self.now.levels }
+        requires run { run < length (level_at self.now.levels level) }
+        ensures { (e : ℕ) (d : Segment) → IsEndOf (level_at self.now.levels level)
+            (length (xs_at self.now.keys self.now.levels level)) run e →
+            let segment = slice_index_or (level_at self.now.levels level) run d in
+            IsModelOf segment.line
+            (slice_index (xs_at self.now.keys self.now.levels level) segment.start)
+            (slice_index (ys_at self.now.keys self.now.levels level) (e - 1))
+            (eps_at self.now.eps self.now.eps_rec level) result.now }
+    {
+        let level = &self.stored[level as usize];
+        &level.models[run as usize]
     }
 
     /// The keys, with their points.

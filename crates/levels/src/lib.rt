@@ -13,6 +13,7 @@ mod build;
 mod index;
 mod level;
 mod lookup;
+mod model;
 mod positions;
 mod windows;
 

@@ -6,6 +6,7 @@ ghost use Rattle.exact_cross.specs.declared.segment.Segment.{Segment};
 ghost use Rattle.window_search.specs.Searches.{lb, IsPredecessor};
 ghost use Rattle.levels.specs.Costs.{TakesAtMost, lookup_bound};
 ghost use Rattle.levels.specs.Indexes.{IsIndex, level_at, xs_at, ys_at, points_at, eps_at};
+ghost use Rattle.levels.specs.Models.{IsEndOf};
 ghost use Rattle.levels.specs.Lookups.{IsWindowAt, IsNarrow, HoldsAnswers, extent_at};
 
 use crate::index::Index;
@@ -34,6 +35,8 @@ impl Index {
     /// above `q`, no window is formed. A step is a key read; two to their number is at most the
     /// product over the levels of four times a window's places. Cannot fail and takes no memory.
     ///
+    /// A window is that of the run's model, which has as many places as that of its line.
+    ///
     /// Source: Ferragina and Vinciguerra, PVLDB 13(8), 2020, section 2.
     pub fn lower_bound<L: Ledger>(&self, q: u64, steps: &mut Steps<L>) -> u32
         ensures found { result ≡ lb self.now.keys q }
@@ -56,7 +59,7 @@ impl Index {
             run = self.predecessor_below(level, run, q, steps);
             level -= 1;
         }
-        let (low, high) = self.window_of(0, run, q);
+        let (low, high) = self.window_by_model(0, run, q);
         lower_in(keys, low, high, q, steps)
     }
 
@@ -77,11 +80,30 @@ impl Index {
         ensures found { IsPredecessor (xs_at self.now.keys self.now.levels level) q result }
         ensures cost { TakesAtMost (2 * (2 * self.now.eps_rec + 3)) steps.old steps.new }
     {
-        let (low, high) = self.window_of(level, run, q);
+        let (low, high) = self.window_by_model(level, run, q);
         predecessor_in(self.list(level), low, high, q, steps)
     }
 
-    /// The window of `q` in a run of a level.
+    /// A window of `q` in a run of a level, by the run's model. It may stand one place off the one
+    /// that the run's line has, and holds the same.
+    #[inline(always)]
+    fn window_by_model(&self, level: u32, run: u32, q: u64) -> (u32, u32)
+        requires never_falls { IsNonDecreasing self.now.keys }
+        requires few { length self.now.keys < 2 ^ 32 }
+        requires index { IsIndex self.now.keys self.now.eps self.now.eps_rec self.now.levels }
+        requires inside { level < length self.now.levels }
+        requires run { IsPredecessor (xs_at self.now.keys self.now.levels (level + 1)) q run }
+        ensures order { result.0 ≤ result.1 }
+        ensures narrow { IsNarrow self.now.eps self.now.eps_rec level result.0 result.1 }
+        ensures within { result.1 ≤ extent_at self.now.keys self.now.levels level }
+        ensures holds { HoldsAnswers self.now.keys self.now.levels level q result.0 result.1 }
+    {
+        let eps = self.eps_of(level);
+        let len = self.extent_of(level);
+        self.model_of(level, run).window(q, eps, len)
+    }
+
+    /// The window of `q` in a run of a level, by the run's line.
     pub(crate) fn window_of(&self, level: u32, run: u32, q: u64) -> (u32, u32)
         requires never_falls { IsNonDecreasing self.now.keys }
         requires few { length self.now.keys < 2 ^ 32 }
@@ -129,11 +151,9 @@ impl Index {
 }
 
 /// The end of a run: where the next one starts, or the list's end.
-fn end_of_run(segments: &[Segment], run: usize, len: usize) -> usize
+pub fn end_of_run(segments: &[Segment], run: usize, len: usize) -> usize
     requires inside { run < length segments.now }
-    ensures next { (d : Segment) → run + 1 < length segments.now → result ≡ (slice_index_or
-        segments.now (run + 1) d).start }
-    ensures last { length segments.now ≡ run + 1 → result ≡ len }
+    ensures { IsEndOf segments.now len run result }
 {
     let next = run + 1;
     if next < segments.len() {

@@ -14,7 +14,7 @@ returns-then-runs-eq1-clause-stored g c =
     let level = c.in_ok-level.level in
     let inv = c.loop-levels.invariant in
     let own = rw c.deref.ensures.value at c.in_ok-level.ensures in
-    let all = AreLevels-push keys c.args.eps c.args.eps_rec levels level inv.levels inv.unfinished own.segments own.xs own.ys in
+    let all = AreLevels-push keys c.args.eps c.args.eps_rec levels level inv.levels inv.unfinished own.segments own.models own.xs own.ys in
     rw c.in_ok-push.ensures.items (AreStored-in keys c.args.eps c.args.eps_rec levels level all inv.some (omega arith))
 
 pub returns-then-runs-eq1-clause-cost : goal.returns-then-runs-eq1-clause-cost
@@ -38,7 +38,7 @@ loop-levels-preserved g c =
     let level = c.in_ok-level.level in
     let inv = c.loop-levels.invariant in
     let own = rw c.deref.ensures.value at c.in_ok-level.ensures in
-    let all = AreLevels-push keys c.args.eps c.args.eps_rec levels level inv.levels inv.unfinished own.segments own.xs own.ys in
+    let all = AreLevels-push keys c.args.eps c.args.eps_rec levels level inv.levels inv.unfinished own.segments own.models own.xs own.ys in
     let count : length (levels ++ level ∷ []) ≡ length levels + 1 = length-append levels (level ∷ []) in
     let places : places_below keys (segments_of (levels ++ level ∷ [])) (length (levels ++ level ∷ []))
     ≡ places_below keys (segments_of levels) (length levels) + length (xs_at keys (segments_of levels) (length levels)) =
@@ -58,7 +58,7 @@ loop-levels-smaller g c =
     let level = c.in_ok-level.level in
     let inv = c.loop-levels.invariant in
     let own = rw c.deref.ensures.value at c.in_ok-level.ensures in
-    let all = AreLevels-push keys c.args.eps c.args.eps_rec levels level inv.levels inv.unfinished own.segments own.xs own.ys in
+    let all = AreLevels-push keys c.args.eps c.args.eps_rec levels level inv.levels inv.unfinished own.segments own.models own.xs own.ys in
     let count : length (levels ++ level ∷ []) ≡ length levels + 1 = length-append levels (level ∷ []) in
     let more : length level.segments.items ≢ 1 = λ one. c.if-runs-eq1.false (omega arith) in
     rw (c.in_ok-push.ensures.items, count) (fewer_places keys c.args.eps c.args.eps_rec levels level all inv.some more)

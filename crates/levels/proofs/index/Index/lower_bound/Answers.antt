@@ -68,7 +68,7 @@ returns-clause-cost g c = λ some.
     let value = c.args.self.now in
     let inv = c.loop-level.invariant in
     let steps = c.lower_in.ensures.cost in
-    let narrow = c.window_of-low.ensures.narrow in
+    let narrow = c.window_by_model-low.ensures.narrow in
     let last : TakesAtMost (2 * (2 * value.eps + 3)) c.loop-level.steps c.lower_in.new.steps =
     record { t = steps.0; taken = steps.1; within = omega (arith, steps.2, narrow) } in
     lookup-last value.eps value.eps_rec (length value.levels) (length value.levels - 1 - c.loop-level.level) c.args.steps.now c.loop-level.steps c.lower_in.new.steps
