@@ -3,6 +3,7 @@ pub mod Stored
 pub mod Costs
 pub mod Lookups
 pub mod Models
+pub mod InStep
 pub mod Heights
 pub use Rattle.exact_cross.specs.Points
 pub use Rattle.exact_cross.specs.Covers

@@ -10,6 +10,7 @@
 #![tactic(auto)]
 
 mod build;
+mod in_step;
 mod index;
 mod level;
 mod lookup;

@@ -87,7 +87,7 @@ impl Index {
     /// A window of `q` in a run of a level, by the run's model. It may stand one place off the one
     /// that the run's line has, and holds the same.
     #[inline(always)]
-    fn window_by_model(&self, level: u32, run: u32, q: u64) -> (u32, u32)
+    pub(crate) fn window_by_model(&self, level: u32, run: u32, q: u64) -> (u32, u32)
         requires never_falls { IsNonDecreasing self.now.keys }
         requires few { length self.now.keys < 2 ^ 32 }
         requires index { IsIndex self.now.keys self.now.eps self.now.eps_rec self.now.levels }

@@ -1,16 +1,38 @@
 // The positions of many questions.
-ghost use Rattle.std.specs.Prelude.{◌≡◌, ◌+◌, ◌++◌, ◌≤◌};
-ghost use Rattle.std.specs.Prelude.{length, map, vec_len, vec_capacity};
-ghost use Rattle.window_search.specs.Searches.{lb};
+ghost use Rattle.std.specs.Prelude.{◌≡◌, ◌+◌, ◌*◌, ◌++◌, ◌<◌, ◌≤◌, ◌^◌, ℕ, length};
+ghost use Rattle.std.specs.Prelude.{map, min, slice_index, vec_len, vec_capacity};
+ghost use Rattle.std.specs.List.Sorted.{IsNonDecreasing};
+ghost use Rattle.window_search.specs.Searches.{lb, IsPredecessor};
+ghost use Rattle.levels.specs.Indexes.{IsIndex, xs_at, eps_at};
+ghost use Rattle.levels.specs.InStep.{IsAmong, HasBound, AreRuns};
 
+use crate::in_step::{LANES, bounds_in_step, predecessors_in_step};
 use crate::index::Index;
 
 impl Index {
     /// The position of each question in the file, in order, behind what the list has: how many keys
     /// of the file are below the question.
     ///
-    /// The list has room for as many more. Cannot fail and takes no memory.
+    /// The list has room for as many more. Sixteen questions go through the levels in step, so that
+    /// their reads of memory don't wait for one another. Cannot fail and takes no memory.
     pub fn positions(&self, qs: &[u64], into: &mut Vec<u32>)
+        requires room { vec_len into.old + length qs.now ≤ vec_capacity into.old }
+        ensures positions { into.new.items ≡ into.old.items ++ map (lb self.now.keys) qs.now }
+        ensures capacity { vec_capacity into.old ≤ vec_capacity into.new }
+    {
+        let mut rest = qs;
+        if !self.keys().is_empty() {
+            while rest.len() >= LANES {
+                let (block, later) = rest.split_at(LANES);
+                self.push_block(block, into);
+                rest = later;
+            }
+        }
+        self.push_each(rest, into);
+    }
+
+    /// The positions of questions, one after the other.
+    fn push_each(&self, qs: &[u64], into: &mut Vec<u32>)
         requires room { vec_len into.old + length qs.now ≤ vec_capacity into.old }
         ensures positions { into.new.items ≡ into.old.items ++ map (lb self.now.keys) qs.now }
         ensures capacity { vec_capacity into.old ≤ vec_capacity into.new }
@@ -18,5 +40,115 @@ impl Index {
         for q in qs {
             let _ = into.push(self.position(*q));
         }
+    }
+
+    /// The positions of sixteen questions, in step.
+    fn push_block(&self, qs: &[u64], into: &mut Vec<u32>)
+        requires some { 0 < length self.now.keys }
+        requires sixteen { length qs.now ≡ 16 }
+        requires room { vec_len into.old + length qs.now ≤ vec_capacity into.old }
+        ensures positions { into.new.items ≡ into.old.items ++ map (lb self.now.keys) qs.now }
+        ensures capacity { vec_capacity into.old ≤ vec_capacity into.new }
+    {
+        let first = self.keys().file()[0];
+        let mut asked = [0; LANES];
+        for lane in 0..LANES {
+            asked[lane] = qs[lane].max(first);
+        }
+        let mut places = [0; LANES];
+        self.find_block(&asked, &mut places);
+        for place in &places {
+            let _ = into.push(*place);
+        }
+    }
+
+    /// The positions of sixteen questions, none of them below the first key.
+    fn find_block(&self, qs: &[u64; 16], places: &mut [u32; 16])
+        requires never_falls { IsNonDecreasing self.now.keys }
+        requires few { length self.now.keys < 2 ^ 32 }
+        requires some { 0 < length self.now.keys }
+        requires zeros { (k : ℕ) → k < 16 → slice_index places.old k ≡ 0 }
+        requires from_first { (k : ℕ) → k < 16 → slice_index self.now.keys 0 ≤ slice_index qs.now k }
+        ensures lanes { length places.new ≡ 16 }
+        ensures found { (k : ℕ) → k < 16 → slice_index places.new k ≡ lb self.now.keys
+            (slice_index qs.now k) }
+    {
+        let mut level = self.levels() - 1;
+        while level > 0 {
+            self.runs_below(level, qs, places);
+            level -= 1;
+        }
+        self.bounds_below(qs, places);
+    }
+
+    /// From runs of a level above level 0 to those of the level below it, which are the predecessors
+    /// in the level's list.
+    fn runs_below(&self, level: u32, qs: &[u64; 16], runs: &mut [u32; 16])
+        requires never_falls { IsNonDecreasing self.now.keys }
+        requires few { length self.now.keys < 2 ^ 32 }
+        requires index { IsIndex self.now.keys self.now.eps self.now.eps_rec self.now.levels }
+        requires above { 0 < level }
+        requires inside { level < length self.now.levels }
+        requires runs { AreRuns (xs_at self.now.keys self.now.levels (level + 1)) qs.now runs.old }
+        ensures { AreRuns (xs_at self.now.keys self.now.levels level) qs.now runs.new }
+    {
+        let list = self.list(level);
+        let count = (2 * self.eps_of(level) + 3).min(list.len() as u32);
+        for lane in 0..LANES {
+            runs[lane] = self.start_among(level, runs[lane], qs[lane], count);
+        }
+        predecessors_in_step(list, qs, runs, count);
+    }
+
+    /// Where `count` places begin that hold the predecessor in the list of a level.
+    #[inline(always)]
+    fn start_among(&self, level: u32, run: u32, q: u64, count: u32) -> u32
+        requires never_falls { IsNonDecreasing self.now.keys }
+        requires few { length self.now.keys < 2 ^ 32 }
+        requires index { IsIndex self.now.keys self.now.eps self.now.eps_rec self.now.levels }
+        requires above { 0 < level }
+        requires inside { level < length self.now.levels }
+        requires run { IsPredecessor (xs_at self.now.keys self.now.levels (level + 1)) q run }
+        requires count { count ≡ min (2 * eps_at self.now.eps self.now.eps_rec level + 3)
+            (length (xs_at self.now.keys self.now.levels level)) }
+        ensures { IsAmong (xs_at self.now.keys self.now.levels level) q result count }
+    {
+        let (low, _) = self.window_by_model(level, run, q);
+        low.min(self.list(level).len() as u32 - count)
+    }
+
+    /// From runs of level 0 to the positions in the file.
+    fn bounds_below(&self, qs: &[u64; 16], runs: &mut [u32; 16])
+        requires never_falls { IsNonDecreasing self.now.keys }
+        requires few { length self.now.keys < 2 ^ 32 }
+        requires index { IsIndex self.now.keys self.now.eps self.now.eps_rec self.now.levels }
+        requires inside { 0 < length self.now.levels }
+        requires runs { AreRuns (xs_at self.now.keys self.now.levels 1) qs.now runs.old }
+        ensures lanes { length runs.new ≡ 16 }
+        ensures found { (k : ℕ) → k < 16 → slice_index runs.new k ≡ lb self.now.keys
+            (slice_index qs.now k) }
+    {
+        let file = self.keys().file();
+        let count = (2 * u64::from(self.eps_of(0)) + 3).min(file.len() as u64 + 1);
+        for lane in 0..LANES {
+            runs[lane] = self.start_bound(runs[lane], qs[lane], count);
+        }
+        bounds_in_step(file, qs, runs, count as u32);
+    }
+
+    /// Where `count` places begin that hold the position in the file.
+    #[inline(always)]
+    fn start_bound(&self, run: u32, q: u64, count: u64) -> u32
+        requires never_falls { IsNonDecreasing self.now.keys }
+        requires few { length self.now.keys < 2 ^ 32 }
+        requires index { IsIndex self.now.keys self.now.eps self.now.eps_rec self.now.levels }
+        requires inside { 0 < length self.now.levels }
+        requires run { IsPredecessor (xs_at self.now.keys self.now.levels 1) q run }
+        requires count { count ≡ min (2 * self.now.eps + 3) (length self.now.keys + 1) }
+        ensures { HasBound self.now.keys q result count }
+    {
+        let (low, _) = self.window_by_model(0, run, q);
+        let most = u64::from(self.keys().len()) + 1 - count;
+        u64::from(low).min(most) as u32
     }
 }

@@ -172,3 +172,27 @@ fn windows_along_lookups(rt: HostRuntime) -> Result<(), Fail> {
     }
     Ok(())
 }
+
+// More questions than go in step, of which the last ones go one by one: the numbers 0, 1, 2 and so
+// on, whose positions are counted one key at a time.
+#[test]
+fn questions_in_step(rt: HostRuntime) -> Result<(), Fail> {
+    let squares: &[u64] = &[0, 1, 4, 9, 16, 25];
+    let repeats: &[u64] = &[3, 5, 5, 5, 9, 9, 10, 20, 20, 30];
+    let none: &[u64] = &[];
+    for keys in [squares, repeats, none] {
+        let index = index_of(&rt, keys, 0)?;
+        let mut qs = Vec::new(rt.alloc());
+        for q in 0..37 {
+            qs.push(q)?;
+        }
+        let mut found = Vec::with_capacity(rt.alloc(), qs.len())?;
+        index.positions(&qs, &mut found);
+        assert_eq!(rt; found.len(), qs.len());
+        for (q, position) in qs.iter().zip(&found) {
+            let below = keys.iter().filter(|key| **key < *q).count();
+            assert_eq!(rt; *position as usize, below, "question {q} of {keys:?}");
+        }
+    }
+    Ok(())
+}

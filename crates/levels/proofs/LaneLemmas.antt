@@ -1,0 +1,96 @@
+-- One lane of questions in step, and a write to one lane.
+use Rattle.std.proofs.Common.{◌≡◌, ℕ, ◌+◌, ◌-◌, ◌<◌, ◌≤◌, List, ◌++◌, map, append_assoc, length, slice_index, refl, sym, ap, ◌∙◌, subst, inl, inr, arith}
+use Rattle.std.specs.Prelude.{slice_set, max}
+use Rattle.std.proofs.lemmas.Bool.{cases_lt}
+use Rattle.std.proofs.lemmas.List.{get_or-set_same, get_or-set_other, get_or-map, length-map, map-append, ext_get_or}
+use Rattle.std.specs.List.Sorted.{IsNonDecreasing}
+use Rattle.window_search.specs.Searches.{lb, IsPredecessor}
+use Rattle.window_search.proofs.LowerBounds.{lb-is, predecessor_from, predecessor_before, lb_after, lb_not_after}
+use Rattle.levels.specs.InStep.{IsAmong, AreAmong, HasBound, AreRuns}
+
+-- a list of places, after a write to one lane: the lanes up to it, and those behind
+pub lane_done : (P : ℕ → ℕ → Type 0) (bases : List ℕ) (lane base : ℕ) → lane < length bases → ((k : ℕ) → k < lane → P k (slice_index bases k)) → P lane base →
+    (k : ℕ) → k < lane + 1 → P k (slice_index (slice_set bases lane base) k)
+lane_done P bases lane base inside before here k less = elim (cases_lt k lane) [
+  | inl under ↦ subst (P k) (sym (get_or-set_other bases lane k base 0 (omega arith))) (before k under)
+  | inr from ↦
+      let same : lane ≡ k = omega arith in
+      subst (λ (j : ℕ). P j (slice_index (slice_set bases lane base) j)) same (subst (P lane) (sym (get_or-set_same bases lane base 0 inside)) here)
+]
+
+pub lane_rest : (P : ℕ → ℕ → Type 0) (bases : List ℕ) (lane base : ℕ) → ((k : ℕ) → lane ≤ k → k < 16 → P k (slice_index bases k)) →
+    (k : ℕ) → lane + 1 ≤ k → k < 16 → P k (slice_index (slice_set bases lane base) k)
+lane_rest P bases lane base rest k past inside = subst (P k) (sym (get_or-set_other bases lane k base 0 (omega arith))) (rest k (omega arith) inside)
+
+-- the key in the middle is at most q: the upper half
+pub IsAmong-upper : (list : List ℕ) (q base count half : ℕ) → half < count → IsAmong list q base count → slice_index list (base + half) ≤ q → IsAmong list q (base + half) (count - half)
+IsAmong-upper list q base count half less among read = record {
+  within = omega (arith, among.within);
+  found = λ place here. (
+    predecessor_from list q (base + half) (slice_index list (base + half)) place (omega (arith, among.within)) refl read here,
+    omega (arith, (among.found place here).1),
+  );
+}
+
+-- or greater: the lower one
+pub IsAmong-lower : (list : List ℕ) (q base count half : ℕ) → IsNonDecreasing list → half + half ≤ count → IsAmong list q base count → q < slice_index list (base + half) → IsAmong list q base (count - half)
+IsAmong-lower list q base count half order most among read = record {
+  within = omega (arith, among.within);
+  found = λ place here. (
+    (among.found place here).0,
+    omega (arith, predecessor_before list q (base + half) (slice_index list (base + half)) place order refl read here),
+  );
+}
+
+-- the same of the lower bound, by the key before the middle
+pub HasBound-upper : (list : List ℕ) (q base count half : ℕ) → IsNonDecreasing list → 1 ≤ half → half < count → HasBound list q base count → slice_index list (base + half - 1) < q → HasBound list q (base + half) (count - half)
+HasBound-upper list q base count half order some less bound read = record {
+  within = omega (arith, bound.within);
+  from = omega (arith, lb_after list q (base + half - 1) (slice_index list (base + half - 1)) order (omega (arith, bound.within)) refl read);
+  to = omega (arith, bound.to);
+}
+
+pub HasBound-lower : (list : List ℕ) (q base count half : ℕ) → IsNonDecreasing list → 1 ≤ half → half + half ≤ count → HasBound list q base count → q ≤ slice_index list (base + half - 1) → HasBound list q base (count - half)
+HasBound-lower list q base count half order some most bound read = record {
+  within = omega (arith, bound.within);
+  from = bound.from;
+  to = omega (arith, lb_not_after list q (base + half - 1) (slice_index list (base + half - 1)) order refl read);
+}
+
+-- ---- questions raised to the first key
+
+lb-raised : (keys : List ℕ) (q first : ℕ) → IsNonDecreasing keys → first ≡ slice_index keys 0 → lb keys (max q first) ≡ lb keys q
+lb-raised keys q first order is = elim (cases_lt q first) [
+  | inl below ↦ none (max q first) (omega (arith, is)) ∙ sym (none q (omega (arith, is)))
+  | inr from ↦ let same : max q first ≡ q = omega arith in ap (lb keys) same
+]
+  where
+    none : (q : ℕ) → q ≤ slice_index keys 0 → lb keys q ≡ 0
+    none q low = lb-is keys q 0 (omega arith) (λ k less. absurd (omega arith)) (λ k from inside. omega (arith, low, order 0 k 0 from inside))
+
+pub block_positions : (keys qs asked places : List ℕ) (first : ℕ) → IsNonDecreasing keys → first ≡ slice_index keys 0 → length qs ≡ 16 → length places ≡ 16 →
+    ((k : ℕ) → k < 16 → slice_index asked k ≡ max (slice_index qs k) first) → ((k : ℕ) → k < 16 → slice_index places k ≡ lb keys (slice_index asked k)) → places ≡ map (lb keys) qs
+block_positions keys qs asked places first order is count lanes raised found =
+    ext_get_or 0 places (map (lb keys) qs) (omega (arith, length-map qs (lb keys))) (λ k inside.
+    found k (omega arith) ∙ ap (lb keys) (raised k (omega arith)) ∙ lb-raised keys (slice_index qs k) first order is
+    ∙ sym (get_or-map (lb keys) qs k 0 0 (omega arith)))
+
+-- the predecessors that are the only place left
+pub AreRuns-from : (list qs bases : List ℕ) → AreAmong list qs bases 1 → ((k : ℕ) → k < 16 → (place : ℕ) × IsPredecessor list (slice_index qs k) place) → AreRuns list qs bases
+AreRuns-from list qs bases among there = record { lanes = among.lanes; each = each }
+  where
+    each : (k : ℕ) → k < 16 → IsPredecessor list (slice_index qs k) (slice_index bases k)
+    each k inside =
+        let found = there k inside in
+        let place : ℕ = found.0 in
+        let held = (among.each k inside).found place found.1 in
+        let same : place ≡ slice_index bases k = omega (arith, held.0, held.1) in
+        subst (IsPredecessor list (slice_index qs k)) same found.1
+
+-- a block more
+pub blocks_more : (f : ℕ → ℕ) (qs before rest block later out items more : List ℕ) → qs ≡ before ++ rest → rest ≡ block ++ later → items ≡ out ++ map f before → more ≡ items ++ map f block →
+    (qs ≡ (before ++ block) ++ later) × (more ≡ out ++ map f (before ++ block))
+blocks_more f qs before rest block later out items more all parts so_far next = (
+  all ∙ ap (λ (l : List ℕ). before ++ l) parts ∙ sym (append_assoc before block later),
+  next ∙ ap (λ (l : List ℕ). l ++ map f block) so_far ∙ append_assoc out (map f before) (map f block) ∙ ap (λ (l : List ℕ). out ++ l) (sym (map-append f before block)),
+)

@@ -1,0 +1,13 @@
+-- The lanes so far have their places, and the others their runs.
+use Rattle.std.proofs.Common.{◌≡◌, ◌<◌, ◌≤◌, ℕ, length, slice_index}
+use Rattle.window_search.specs.Searches.{IsPredecessor}
+use Rattle.levels.specs.Indexes.{xs_at}
+use Rattle.levels.specs.InStep.{HasBound}
+use Rattle.levels.proofs.index.Index.bounds_below.Given as goal
+
+abbrev pub invariant-loop-lane : goal.invariant-loop-lane
+invariant-loop-lane l = record {
+  lanes : length l.runs ≡ 16;
+  done : (k : ℕ) → k < l.lane → HasBound l.self.keys (slice_index l.qs k) (slice_index l.runs k) l.count;
+  rest : (k : ℕ) → l.lane ≤ k → k < 16 → IsPredecessor (xs_at l.self.keys l.self.levels 1) (slice_index l.qs k) (slice_index l.runs k);
+}

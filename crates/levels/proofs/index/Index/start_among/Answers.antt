@@ -1,0 +1,10 @@
+-- A list has no more places than the file has keys.
+use Rattle.std.proofs.Common.{length, ap, arith}
+use Rattle.levels.proofs.LookupLemmas.{ascends}
+use Rattle.levels.proofs.index.Index.start_among.Goals as goal
+
+pub overflow_cast-list : goal.overflow_cast-list
+overflow_cast-list c =
+    let value = c.args.self.now in
+    let here = ascends value.keys value.eps value.eps_rec value.levels c.requires.never_falls c.requires.index c.args.level (omega (arith, c.requires.inside)) in
+    omega (arith, ap length c.list.ensures, here.few, c.requires.few)

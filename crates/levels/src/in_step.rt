@@ -1,0 +1,86 @@
+// Searches of sixteen questions in step.
+ghost use Rattle.std.specs.Prelude.{◌≡◌, ◌+◌, ◌-◌, ◌<◌, ◌≤◌, ◌^◌, ℕ, length, slice_index};
+ghost use Rattle.std.specs.List.Sorted.{IsNonDecreasing};
+ghost use Rattle.levels.specs.InStep.{AreAmong, HaveBounds};
+
+/// How many questions are searched in step. Their reads of memory don't wait for one another.
+pub const LANES: usize = 16;
+
+/// Leaves one place of `count` for the predecessor of each of sixteen questions.
+///
+/// Each step halves the places of all sixteen, and no branch depends on a key.
+pub fn predecessors_in_step(list: &[u64], qs: &[u64; 16], bases: &mut [u32; 16], count: u32)
+    requires order { IsNonDecreasing list.now }
+    requires few { length list.now < 2 ^ 32 }
+    requires some { 1 ≤ count }
+    requires among { AreAmong list.now qs.now bases.old count }
+    ensures { AreAmong list.now qs.now bases.new 1 }
+{
+    let mut count = count;
+    while count > 1 {
+        let half = count / 2;
+        halve_predecessors(list, qs, bases, half, count);
+        count -= half;
+    }
+}
+
+/// One step of it: `half` of the places are left out.
+#[inline(always)]
+fn halve_predecessors(list: &[u64], qs: &[u64; 16], bases: &mut [u32; 16], half: u32, count: u32)
+    requires order { IsNonDecreasing list.now }
+    requires few { length list.now < 2 ^ 32 }
+    requires half { half < count }
+    requires most { half + half ≤ count }
+    requires among { AreAmong list.now qs.now bases.old count }
+    ensures { AreAmong list.now qs.now bases.new (count - half) }
+{
+    for lane in 0..LANES {
+        let base = bases[lane];
+        let middle = base + half;
+        bases[lane] = if list[middle as usize] <= qs[lane] {
+            middle
+        } else {
+            base
+        };
+    }
+}
+
+/// Leaves one place of `count` for the lower bound of each of sixteen questions.
+///
+/// Each step halves the places of all sixteen, and no branch depends on a key.
+pub fn bounds_in_step(list: &[u64], qs: &[u64; 16], bases: &mut [u32; 16], count: u32)
+    requires order { IsNonDecreasing list.now }
+    requires few { length list.now < 2 ^ 32 }
+    requires some { 1 ≤ count }
+    requires bounds { HaveBounds list.now qs.now bases.old count }
+    ensures { HaveBounds list.now qs.now bases.new 1 }
+{
+    let mut count = count;
+    while count > 1 {
+        let half = count / 2;
+        halve_bounds(list, qs, bases, half, count);
+        count -= half;
+    }
+}
+
+/// One step of it: `half` of the places are left out.
+#[inline(always)]
+fn halve_bounds(list: &[u64], qs: &[u64; 16], bases: &mut [u32; 16], half: u32, count: u32)
+    requires order { IsNonDecreasing list.now }
+    requires few { length list.now < 2 ^ 32 }
+    requires some { 1 ≤ half }
+    requires half { half < count }
+    requires most { half + half ≤ count }
+    requires bounds { HaveBounds list.now qs.now bases.old count }
+    ensures { HaveBounds list.now qs.now bases.new (count - half) }
+{
+    for lane in 0..LANES {
+        let base = bases[lane];
+        let middle = base + half;
+        bases[lane] = if list[middle as usize - 1] < qs[lane] {
+            middle
+        } else {
+            base
+        };
+    }
+}
