@@ -172,7 +172,8 @@ fn models_over(
     requires rising { IsStrictlyIncreasing xs.now }
     requires never_falls { IsNonDecreasing ys.now }
     requires bounded { eps ≤ MAX_EPSILON }
-    requires segments { IsSegmentation (points_of xs.now ys.now) eps 0 (length xs.now) segments.now }
+    requires segments { IsSegmentation (points_of xs.now ys.now) eps 0 (length xs.now)
+        segments.now }
     ensures { IfOk result (λ models. AreModels (points_of xs.now ys.now) eps (length xs.now)
         segments.now models.items) }
 {
@@ -189,7 +190,8 @@ fn model_at(xs: &[u64], ys: &[u32], segments: &[Segment], eps: u32, run: usize) 
     requires rising { IsStrictlyIncreasing xs.now }
     requires never_falls { IsNonDecreasing ys.now }
     requires bounded { eps ≤ MAX_EPSILON }
-    requires segments { IsSegmentation (points_of xs.now ys.now) eps 0 (length xs.now) segments.now }
+    requires segments { IsSegmentation (points_of xs.now ys.now) eps 0 (length xs.now)
+        segments.now }
     requires inside { run < length segments.now }
     ensures { (e : ℕ) (d : Segment) → IsEndOf segments.now (length xs.now) run e →
         IsModelOf (slice_index_or segments.now run d).line

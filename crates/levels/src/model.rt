@@ -7,9 +7,9 @@ use exact_cross::{Line, MAX_EPSILON};
 
 /// A line from the first x of its run on, in steps of `2^-64` places.
 ///
-/// Slope and height are divided once, when the index is built, and rounded down to whole steps. So a
-/// prediction takes two products in place of a division, and is the floor of the line or one below
-/// it: for each of the fewer than `2^64` keys to the right less than a step is lost.
+/// Slope and height are divided once, when the index is built, and rounded down to whole steps. So
+/// a prediction takes two products in place of a division, and is the floor of the line or one
+/// below it: for each of the fewer than `2^64` keys to the right less than a step is lost.
 ///
 /// Heights are raised by the error bound, so that none is below 0.
 #[derive(Clone, Copy)]

@@ -68,7 +68,8 @@ impl Index {
         requires few { length self.now.keys < 2 ^ 32 }
         requires some { 0 < length self.now.keys }
         requires zeros { (k : ℕ) → k < 16 → slice_index places.old k ≡ 0 }
-        requires from_first { (k : ℕ) → k < 16 → slice_index self.now.keys 0 ≤ slice_index qs.now k }
+        requires from_first { (k : ℕ) → k < 16 →
+            slice_index self.now.keys 0 ≤ slice_index qs.now k }
         ensures lanes { length places.new ≡ 16 }
         ensures found { (k : ℕ) → k < 16 → slice_index places.new k ≡ lb self.now.keys
             (slice_index qs.now k) }
@@ -81,8 +82,8 @@ impl Index {
         self.bounds_below(qs, places);
     }
 
-    /// From runs of a level above level 0 to those of the level below it, which are the predecessors
-    /// in the level's list.
+    /// From runs of a level above level 0 to those of the level below it, which are the
+    /// predecessors in the level's list.
     fn runs_below(&self, level: u32, qs: &[u64; 16], runs: &mut [u32; 16])
         requires never_falls { IsNonDecreasing self.now.keys }
         requires few { length self.now.keys < 2 ^ 32 }
