@@ -70,6 +70,33 @@ const REPEATED_ROWS: [Row; 3] = [
     ("behind them", [2, 2, 0, 0], [3, 3, 0, 0], &[15], 1),
 ];
 
+/// Both ends of the coordinates of two dimensions.
+const ENDS_OF_TWO: [u32; 6] = [4_294_967_295, 4_294_967_295, 0, 0, 4_294_967_295, 0];
+
+const ENDS_OF_TWO_ROWS: [Row; 3] = [
+    (
+        "the high end",
+        [4_294_967_295, 4_294_967_295, 0, 0],
+        [4_294_967_295, 4_294_967_295, 0, 0],
+        &[18_446_744_073_709_551_615],
+        1,
+    ),
+    (
+        "the last column",
+        [4_294_967_295, 0, 0, 0],
+        [4_294_967_295, 4_294_967_295, 0, 0],
+        &[6_148_914_691_236_517_205, 18_446_744_073_709_551_615],
+        2,
+    ),
+    (
+        "what no point has",
+        [0, 1, 0, 0],
+        [4_294_967_294, 4_294_967_295, 0, 0],
+        &[],
+        2,
+    ),
+];
+
 /// Both ends of the coordinates of four dimensions.
 const ENDS_OF_FOUR: [u32; 12] = [0, 0, 0, 0, 65535, 65535, 65535, 65535, 65535, 0, 0, 0];
 
@@ -205,6 +232,7 @@ fn many_points_of_one_code(rt: HostRuntime) -> Result<(), Fail> {
 
 #[test]
 fn ends_of_the_coordinates(rt: HostRuntime) -> Result<(), Fail> {
+    check_rows(&rt, &boxes_of(&rt, 2, &ENDS_OF_TWO)?, &ENDS_OF_TWO_ROWS)?;
     check_rows(&rt, &boxes_of(&rt, 4, &ENDS_OF_FOUR)?, &ENDS_OF_FOUR_ROWS)?;
     check_rows(&rt, &boxes_of(&rt, 3, &ENDS_OF_THREE)?, &ENDS_OF_THREE_ROWS)?;
     Ok(())
