@@ -3,11 +3,11 @@
 -- Main results: a place is looked at after a code inside (`looked_behind`) and at the lower bound of a code inside (`looked_at_bound`);
 -- none is behind a code above the high corner's (`none_past`), behind the last code inside (`none_left`) or before the next one
 -- (`none_between`). A code inside stands at a place that is looked at (`looked_here`), so what lies between are codes outside.
-use Rattle.std.proofs.Common.{◌≡◌, ℕ, zero, suc, ◌+◌, ◌-◌, ◌<◌, ◌≤◌, ⊎_elim, List, [], ◌∷◌, length, drop, slice_index, sym, ap, ◌∙◌, subst, arith}
+use Rattle.std.proofs.Common.{◌≡◌, ℕ, zero, suc, ◌+◌, ◌-◌, ◌<◌, ◌≤◌, ⊎_elim, List, ◌∷◌, length, drop, slice_index, sym, ap, ◌∙◌, subst, arith}
 use Rattle.std.specs.Prelude.{All}
 use Rattle.std.specs.List.Sorted.{IsNonDecreasing}
 use Rattle.std.proofs.lemmas.Bool.{cases_lt, cases_eq, cond-true, cond-false}
-use Rattle.std.proofs.lemmas.List.{drop_more, drop_all}
+use Rattle.std.proofs.lemmas.List.{drop_more}
 use Rattle.zorder.specs.declared.regions.Region.{Region}
 use Rattle.zorder.specs.Codes.{IsCode, code}
 use Rattle.zorder.specs.Regions.{IsRegion, IsInside}
@@ -132,9 +132,6 @@ module _ (region : Region) (codes : List ℕ) (of : AreOfRegion region codes) wh
       let same : i + (j - i) ≡ j = omega arith in
       outside_fronts i (j - i) (omega arith) (λ k from to. none k from (omega arith))
       ∙ ap (λ (k : ℕ). codes_inside region (drop k codes)) same
-
-  pub none_at_end : (i : ℕ) → length codes ≤ i → codes_inside region (drop i codes) ≡ []
-  none_at_end i past = ap (codes_inside region) (drop_all i codes past)
 
   -- a walk begins at the lower bound of the low corner's code
   pub walk_begins : IsRegion region → IsInside region (code region.d region.low) → IsCode region.d (code region.d region.low)

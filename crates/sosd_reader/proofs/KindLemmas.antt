@@ -29,9 +29,6 @@ follows-clash (of_points d) before number follows fails = omega (arith, follows,
 pub follows-same : (kind : Kind) (a b x y : ℕ) → a ≡ x → b ≡ y → Follows kind x y → Follows kind a b
 follows-same kind a b x y p q h = subst (λ (v : ℕ). Follows kind v b) (sym p) (subst (λ (v : ℕ). Follows kind x v) (sym q) h)
 
-pub follow-none : (kind : Kind) → AllFollow kind []
-follow-none kind j within = absurd (omega arith)
-
 pub follow-push : (kind : Kind) (list : List ℕ) (number : ℕ) → AllFollow kind list → Follows kind (get_or (list ++ number ∷ []) (length list - 1) 0) number →
     AllFollow kind (list ++ number ∷ [])
 follow-push kind list number all last j within =
