@@ -1,7 +1,8 @@
 // The command `query`.
-ghost use Rattle.std.specs.Prelude.{◌≡◌, ◌∷◌, ◌≤◌, [], ℕ, List, length, OnOk, OnErr};
+ghost use Rattle.std.specs.Prelude.{◌≡◌, ◌∷◌, ◌≤◌, [], ℕ, List, length, map, OnOk, OnErr};
 ghost use Rattle.std.specs.Prelude.{vec_capacity};
 ghost use Rattle.std.specs.List.Sorted.{IsNonDecreasing};
+ghost use Rattle.window_search.specs.Searches.{lb};
 ghost use Rattle.levels.specs.Indexes.{IsIndex};
 ghost use Rattle.written.specs.Writing.{Writes, BreaksOff, WritesText};
 ghost use Rattle.pgmtool.specs.Tasks.{bounds_of};
@@ -20,7 +21,8 @@ type Window = (u32, u32, u32);
 
 /// Writes how many keys are below each question, and the windows where they are asked for.
 ///
-/// All memory is taken before the first byte: for the index, and for the windows of one question.
+/// All memory is taken before the first byte: for the index, the positions, and the windows of one
+/// question.
 pub fn write<S: Sink>(
     alloc: Global,
     sorted: SortedKeys,
@@ -33,8 +35,12 @@ pub fn write<S: Sink>(
         (IsAnswered sorted.keys.items (bounds_of bounds) questions.now windows) }
 {
     let index = index_of(alloc, sorted, bounds)?;
+    let mut positions = Vec::with_capacity(alloc, questions.len())?;
     let mut room = Vec::with_capacity(alloc, index.levels() as usize)?;
-    match write_answers(out, &index, bounds, questions, windows, &mut room) {
+    index.positions(questions, &mut positions);
+    match write_answers(
+        out, &index, bounds, questions, &positions, windows, &mut room,
+    ) {
         Ok(()) => Ok(()),
         Err(_) => Err(Unfinished::WriteFault),
     }
@@ -46,6 +52,7 @@ fn write_answers<S: Sink>(
     index: &Index,
     bounds: Bounds,
     questions: &[u64],
+    positions: &[u32],
     windows: bool,
     room: &mut Vec<Window>,
 ) -> Result<(), Failed>
@@ -53,6 +60,7 @@ fn write_answers<S: Sink>(
     requires index { IsIndex index.now.keys bounds.eps bounds.eps_rec index.now.levels }
     requires eps { index.now.eps ≡ bounds.eps }
     requires eps_rec { index.now.eps_rec ≡ bounds.eps_rec }
+    requires positions { positions.now ≡ map (lb index.now.keys) questions.now }
     requires room { length index.now.levels ≤ vec_capacity room.old }
     ensures ok { OnOk result ((pieces : List (List ℕ)) × TellsAnswers index.now.keys
         (bounds_of bounds) index.now.levels windows questions.now pieces
@@ -63,7 +71,8 @@ fn write_answers<S: Sink>(
 {
     let mut line = TextLine::new();
     for i in 0..questions.len() {
-        write_answer(out, &mut line, index, bounds, questions[i], windows, room)?;
+        let asked = (questions[i], positions[i]);
+        write_answer(out, &mut line, index, bounds, asked, windows, room)?;
     }
     Ok(())
 }
@@ -74,22 +83,24 @@ fn write_answer<S: Sink>(
     line: &mut TextLine,
     index: &Index,
     bounds: Bounds,
-    question: u64,
+    asked: (u64, u32),
     windows: bool,
     room: &mut Vec<Window>,
 ) -> Result<(), Failed>
     requires eps { index.now.eps ≡ bounds.eps }
     requires eps_rec { index.now.eps_rec ≡ bounds.eps_rec }
+    requires position { asked.1 ≡ lb index.now.keys asked.0 }
     requires room { length index.now.levels ≤ vec_capacity room.old }
     ensures ok { OnOk result ((pieces : List (List ℕ)) × TellsAnswer index.now.keys
-        (bounds_of bounds) index.now.levels windows question pieces
+        (bounds_of bounds) index.now.levels windows asked.0 pieces
         × Writes S.Sink out.old out.new pieces) }
     ensures err { OnErr result ((pieces : List (List ℕ)) × TellsAnswer index.now.keys
-        (bounds_of bounds) index.now.levels windows question pieces
+        (bounds_of bounds) index.now.levels windows asked.0 pieces
         × BreaksOff S.Sink out.old out.new pieces) }
     ensures capacity { length index.now.levels ≤ vec_capacity room.new }
 {
-    fill_find_line(line, question, index.position(question));
+    let (question, position) = asked;
+    fill_find_line(line, question, position);
     fill_windows(index, bounds, question, windows, room);
     hand_over(out, line.as_bytes())?;
     write_windows(out, line, room)

@@ -20,9 +20,9 @@ err_told (Err e) T W pieces told written = (pieces, told, written)
 
 pub returns-in_err-hand_over-clause-err : goal.returns-in_err-hand_over-clause-err
 returns-in_err-hand_over-clause-err g c =
-    let head = find_line c.args.question (lb c.args.index.now.keys c.args.question) in
+    let head = find_line c.args.asked.0 (lb c.args.index.now.keys c.args.asked.0) in
     let lines = window_lines c.fill_windows.new.into.items in
-    let head_is = c.as_bytes.ensures ∙ c.fill_find_line.ensures ∙ ap (find_line c.args.question) c.position.ensures in
+    let head_is = c.as_bytes.ensures ∙ c.fill_find_line.ensures ∙ ap (find_line c.args.asked.0) c.requires.position in
     on_err c.from_residual.result _ (
       head ∷ lines,
       (lines, c.fill_windows.ensures.tells, refl),
@@ -31,9 +31,9 @@ returns-in_err-hand_over-clause-err g c =
 
 pub returns-clause-ok : goal.returns-clause-ok
 returns-clause-ok g c =
-    let head = find_line c.args.question (lb c.args.index.now.keys c.args.question) in
+    let head = find_line c.args.asked.0 (lb c.args.index.now.keys c.args.asked.0) in
     let lines = window_lines c.fill_windows.new.into.items in
-    let head_is = c.as_bytes.ensures ∙ c.fill_find_line.ensures ∙ ap (find_line c.args.question) c.position.ensures in
+    let head_is = c.as_bytes.ensures ∙ c.fill_find_line.ensures ∙ ap (find_line c.args.asked.0) c.requires.position in
     let lines_are = ap window_lines c.deref.ensures.value in
     ok_told c.write_windows.result _ _ (head ∷ lines) (lines, c.fill_windows.ensures.tells, refl)
     (ok_behind g.S.Sink c.args.out.now c.hand_over.new.out c.write_windows.new.out (head ∷ []) lines c.write_windows.result
@@ -42,9 +42,9 @@ returns-clause-ok g c =
 
 pub returns-clause-err : goal.returns-clause-err
 returns-clause-err g c =
-    let head = find_line c.args.question (lb c.args.index.now.keys c.args.question) in
+    let head = find_line c.args.asked.0 (lb c.args.index.now.keys c.args.asked.0) in
     let lines = window_lines c.fill_windows.new.into.items in
-    let head_is = c.as_bytes.ensures ∙ c.fill_find_line.ensures ∙ ap (find_line c.args.question) c.position.ensures in
+    let head_is = c.as_bytes.ensures ∙ c.fill_find_line.ensures ∙ ap (find_line c.args.asked.0) c.requires.position in
     let lines_are = ap window_lines c.deref.ensures.value in
     err_told c.write_windows.result _ _ (head ∷ lines) (lines, c.fill_windows.ensures.tells, refl)
     (err_behind g.S.Sink c.args.out.now c.hand_over.new.out c.write_windows.new.out (head ∷ []) lines c.write_windows.result

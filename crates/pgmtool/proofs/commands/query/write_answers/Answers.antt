@@ -1,6 +1,7 @@
 use Rattle.std.proofs.Common.{◌≡◌, ◌∙◌, ◌+◌, ◌<◌, ◌++◌, ◌∷◌, [], ap, sym, subst, refl, take, drop, drop-cons, add-one, get_or, length, List, ℕ, arith}
-use Rattle.std.proofs.lemmas.List.{take_more, take-append-drop}
+use Rattle.std.proofs.lemmas.List.{take_more, take-append-drop, get_or-map}
 use Rattle.written.proofs.CallerLemmas.{Writes-nil, Writes-append, BreaksOff-append, BreaksOff-more}
+use Rattle.window_search.specs.Searches.{lb}
 use Rattle.pgmtool.specs.Tasks.{bounds_of}
 use Rattle.pgmtool.specs.Commands.Query.{TellsAnswers}
 use Rattle.pgmtool.proofs.AnswerTexts.{answers_append, answers_more, some_answers}
@@ -51,3 +52,10 @@ returns-in_err-write_answer-clause-err g c =
       BreaksOff-append g.S.Sink c.args.out.now c.loop-i.out c.write_answer.new.out so_far.0 (one.0 ++ rest.0) so_far.2
           (BreaksOff-more g.S.Sink c.loop-i.out c.write_answer.new.out one.0 rest.0 one.2),
     )
+
+-- the position at a place is that of the question there
+pub write_answer-requires-clause-position : goal.write_answer-requires-clause-position
+write_answer-requires-clause-position g c =
+    let i = c.loop-i.i in
+    let keys = c.args.index.now.keys in
+    ap (λ (p : List ℕ). get_or p i 0) c.requires.positions ∙ get_or-map (lb keys) c.args.questions.now i 0 0 (omega arith)
