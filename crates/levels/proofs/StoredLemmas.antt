@@ -1,7 +1,7 @@
 -- Levels as they are kept.
 --
--- Main results: `AreLevels-push`: one more level, `AreStored-in`: all levels, where the last one has one run; `fewer_places`: the
--- list of the level above the last one is shorter, where the last one has more runs than one.
+-- Main results: `AreLevels-base`: level 0 by itself, `AreLevels-push`: one more level, `AreStored-in`: all levels, where the last
+-- one has one run; `fewer_above`: the level above the last one has fewer runs, where the last one has more than one.
 use Rattle.std.proofs.Common.{◌≡◌, ◌≢◌, inl, inr, ℕ, zero, suc, ◌+◌, ◌-◌, ◌^◌, ◌<◌, ◌≤◌, List, [], ◌∷◌, ◌++◌, length, slice_index_or, refl, sym, ap, ◌∙◌, subst, arith, add-one}
 use Rattle.std.proofs.lemmas.Bool.{cases_lt, cases_eq}
 use Rattle.std.proofs.lemmas.Bool.Decides.{nat_tests}
@@ -131,25 +131,22 @@ AreLevels-push keys eps eps_rec levels level so_far unfinished here own_models x
           )
     ]
 
--- a new last level that has more runs than one
-pub level_at-pushed : (levels : List Level) (level : Level) (i : ℕ) → i ≡ length levels → length level.segments.items ≢ 1 → length (level_at (segments_of (levels ++ level ∷ [])) i) ≢ 1
-level_at-pushed levels level i last more =
-    rw (segments_of-push levels level) (λ one. more (ap length (level_at-last (segments_of levels) level.segments.items i (omega (arith, segments_of-count levels))) ∙ one))
+pub level_at-pushed : (levels : List Level) (level : Level) (i : ℕ) → i ≡ length levels → level_at (segments_of (levels ++ level ∷ [])) i ≡ level.segments.items
+level_at-pushed levels level i last =
+    rw (segments_of-push levels level) (sym (level_at-last (segments_of levels) level.segments.items i (omega (arith, segments_of-count levels))))
 
 -- all levels
-pub AreStored-in : (keys : List ℕ) (eps eps_rec : ℕ) (levels : List Level) (level : Level) → AreLevels keys eps eps_rec (levels ++ level ∷ []) → 0 < length keys →
-    length level.segments.items ≡ 1 → AreStored keys eps eps_rec (levels ++ level ∷ [])
-AreStored-in keys eps eps_rec levels level all some one =
-    let count = length-append levels (level ∷ []) in
-    let total = segments_of-count (levels ++ level ∷ []) in
+pub AreStored-in : (keys : List ℕ) (eps eps_rec : ℕ) (levels : List Level) → AreLevels keys eps eps_rec levels → 0 < length keys → 0 < length levels →
+    ((i : ℕ) → i + 1 ≡ length levels → length (level_at (segments_of levels) i) ≡ 1) → AreStored keys eps eps_rec levels
+AreStored-in keys eps eps_rec levels all some above one =
+    let total = segments_of-count levels in
     record {
       first = all;
       index = record {
         none = λ empty. absurd (omega arith);
-        some = λ key. omega (arith, count, total);
+        some = λ key. omega (arith, total);
         each = λ i inside. all.each i (omega (arith, total, inside));
-        last = λ i at. rw (segments_of-push levels level)
-            (ap length (sym (level_at-last (segments_of levels) level.segments.items i (omega (arith, at, count, total, segments_of-count levels)))) ∙ one);
+        last = λ i at. one i (omega (arith, total, at));
         others = λ i inside. all.others i (omega (arith, total, inside));
       };
     }
@@ -159,25 +156,20 @@ AreStored-in keys eps eps_rec levels level all some one =
 pub ascends_next : (keys : List ℕ) (eps eps_rec : ℕ) (levels : List Level) → AreLevels keys eps eps_rec levels → (i : ℕ) → i ≤ length levels → AscendsAt keys (segments_of levels) i
 ascends_next keys eps eps_rec levels all i within = ascends_at keys eps eps_rec (segments_of levels) all.never_falls i (λ k less. all.each k (omega arith))
 
--- above a level with more runs than one the list is shorter
-pub fewer_places : (keys : List ℕ) (eps eps_rec : ℕ) (levels : List Level) (level : Level) → AreLevels keys eps eps_rec (levels ++ level ∷ []) → 0 < length keys →
-    length level.segments.items ≢ 1 →
-    length (xs_at keys (segments_of (levels ++ level ∷ [])) (length levels + 1)) < length (xs_at keys (segments_of levels) (length levels))
-fewer_places keys eps eps_rec levels level all some more =
-    let new = segments_of (levels ++ level ∷ []) in
+-- above a level with more runs than one there are fewer runs
+pub fewer_above : (keys : List ℕ) (eps eps_rec : ℕ) (levels : List Level) (runs : ℕ) (segments : List Segment) → AreLevels keys eps eps_rec levels → 0 < length keys → 0 < length levels →
+    ((i : ℕ) → i + 1 ≡ length levels → length (level_at (segments_of levels) i) ≡ runs) → runs ≢ 1 →
+    IsSegmentation (points_at keys (segments_of levels) (length levels)) (eps_at eps eps_rec (length levels)) 0 (length (xs_at keys (segments_of levels) (length levels))) segments →
+    length segments < runs
+fewer_above keys eps eps_rec levels runs segments all some above last more level =
+    let old = segments_of levels in
     let n = length levels in
-    let count = length-append levels (level ∷ []) in
-    let below = ascends_next keys eps eps_rec (levels ++ level ∷ []) all n (omega (arith, count)) in
-    let runs = fewer_runs (points_at keys new n) (eps_at eps eps_rec n) (level_at new n) below.ascends (all.each n (omega (arith, count))).greedy in
-    let points = some_at keys eps eps_rec new all.never_falls some n (λ k less. all.each k (omega (arith, count))) in
-    let is : length (level_at new n) ≡ length level.segments.items =
-    ap (λ (segments : List (List Segment)). length (level_at segments n)) (segments_of-push levels level)
-    ∙ ap length (sym (level_at-last (segments_of levels) level.segments.items n (sym (segments_of-count levels)))) in
-    let same : xs_at keys (segments_of levels) n ≡ xs_at keys new n =
-    xs_at-same keys (segments_of levels) new n (λ k less.
-    level_at-below (segments_of levels) level.segments.items k (omega (arith, segments_of-count levels))
-    ∙ ap (λ (segments : List (List Segment)). level_at segments k) (sym (segments_of-push levels level))) in
-    omega (arith, xs_at-length keys new n, runs.0, runs.1 points, is, more, ap length same)
+    let below = ascends_next keys eps eps_rec levels all n (omega arith) in
+    let fewer = fewer_runs (points_at keys old n) (eps_at eps eps_rec n) segments below.ascends level.greedy in
+    let points = some_at keys eps eps_rec old all.never_falls some n (λ k less. all.each k less) in
+    let at : n - 1 + 1 ≡ n = omega arith in
+    let list : length (xs_at keys old n) ≡ runs = ap (λ (k : ℕ). length (xs_at keys old k)) (sym at) ∙ xs_at-length keys old (n - 1) ∙ last (n - 1) at in
+    omega (arith, list, fewer.0, points, more)
 
 -- ---- how many places there are
 
@@ -205,6 +197,10 @@ places_below-push keys levels level =
       ap length (xs_at-same keys (segments_of levels) (segments_of (levels ++ level ∷ [])) (length levels) same),
     )
 
+pub places_below-base : (keys : List ℕ) (level : Level) → places_below keys (segments_of (level ∷ [])) 1 ≡ length (xs_of keys)
+unfolding places_below
+places_below-base keys level = omega (arith, ap length (xs_at-base keys (segments_of (level ∷ []))))
+
 -- ---- the level above the last one
 
 pub eps_at-bounded : (eps eps_rec i : ℕ) → eps ≤ 1048576 → eps_rec ≤ 1048576 → eps_at eps eps_rec i ≤ 1048576
@@ -213,17 +209,13 @@ eps_at-bounded eps eps_rec i low high = grind (arith, nat_tests)
 pub eps_at-above : (eps eps_rec i : ℕ) → 0 < i → eps_rec ≡ eps_at eps eps_rec i
 eps_at-above eps eps_rec i above = grind (arith, nat_tests)
 
-pub base_level : (keys : List ℕ) (eps eps_rec : ℕ) (levels : List Level) (xs ys : List ℕ) (segments : List Segment) → length levels ≡ 0 → xs ≡ xs_of keys → ys ≡ ys_of keys →
+base_level : (keys : List ℕ) (eps eps_rec : ℕ) (levels : List Level) (xs ys : List ℕ) (segments : List Segment) → length levels ≡ 0 → xs ≡ xs_of keys → ys ≡ ys_of keys →
     IsSegmentation (points_of xs ys) eps 0 (length xs) segments →
     IsSegmentation (points_at keys (segments_of levels) (length levels)) (eps_at eps eps_rec (length levels)) 0 (length (xs_at keys (segments_of levels) (length levels))) segments
 base_level keys eps eps_rec levels xs ys segments none x_is y_is level =
     rw (none, xs_at-base keys (segments_of levels), ys_at-base keys (segments_of levels))
     (subst (λ (ys : List ℕ). IsSegmentation (points_of (xs_of keys) ys) eps 0 (length (xs_of keys)) segments) y_is
     (subst (λ (xs : List ℕ). IsSegmentation (points_of xs ys) eps 0 (length xs) segments) x_is level))
-
-pub base_places : (keys : List ℕ) (levels : List Level) (xs : List ℕ) → length levels ≡ 0 → xs ≡ xs_of keys →
-    length xs ≡ length (xs_at keys (segments_of levels) (length levels))
-base_places keys levels xs none is = rw (none, xs_at-base keys (segments_of levels)) (ap length is)
 
 pub above_xs : (keys : List ℕ) (levels : List Level) (below : ℕ) (level : Level) (list xs : List ℕ) (segments : List Segment) → below + 1 ≡ length levels →
     level ≡ slice_index_or levels below level → segments ≡ level.segments.items → list ≡ xs_at keys (segments_of levels) below → xs ≡ first_xs list segments →
@@ -260,14 +252,35 @@ level_models keys eps eps_rec levels xs ys bound segments models xs_are ys_are i
     (subst (λ (ys : List ℕ). AreModels (points_of (xs_at keys (segments_of levels) (length levels)) ys) bound (length (xs_at keys (segments_of levels) (length levels))) segments models) ys_are
     (subst (λ (xs : List ℕ). AreModels (points_of xs ys) bound (length xs) segments models) xs_are own))
 
-pub base_xs : (keys : List ℕ) (levels : List Level) (xs : List ℕ) → length levels ≡ 0 → xs ≡ xs_of keys → xs ≡ xs_at keys (segments_of levels) (length levels)
+base_xs : (keys : List ℕ) (levels : List Level) (xs : List ℕ) → length levels ≡ 0 → xs ≡ xs_of keys → xs ≡ xs_at keys (segments_of levels) (length levels)
 base_xs keys levels xs none is = is ∙ sym (xs_at-base keys (segments_of levels)) ∙ ap (xs_at keys (segments_of levels)) (sym none)
 
-pub base_ys : (keys : List ℕ) (levels : List Level) (ys : List ℕ) → length levels ≡ 0 → ys ≡ ys_of keys → ys ≡ ys_at keys (segments_of levels) (length levels)
+base_ys : (keys : List ℕ) (levels : List Level) (ys : List ℕ) → length levels ≡ 0 → ys ≡ ys_of keys → ys ≡ ys_at keys (segments_of levels) (length levels)
 base_ys keys levels ys none is = is ∙ sym (ys_at-base keys (segments_of levels)) ∙ ap (ys_at keys (segments_of levels)) (sym none)
 
-pub eps_at-base : (eps eps_rec i : ℕ) → i ≡ 0 → eps ≡ eps_at eps eps_rec i
+eps_at-base : (eps eps_rec i : ℕ) → i ≡ 0 → eps ≡ eps_at eps eps_rec i
 eps_at-base eps eps_rec i base = grind (arith, nat_tests)
+
+-- level 0 by itself
+pub AreLevels-base : (keys : List ℕ) (eps eps_rec : ℕ) (level : Level) → IsNonDecreasing keys → length keys < 2 ^ 32 → eps ≤ 1048576 → eps_rec ≤ 1048576 →
+    IsSegmentation (points_of (xs_of keys) (ys_of keys)) eps 0 (length (xs_of keys)) level.segments.items →
+    AreModels (points_of (xs_of keys) (ys_of keys)) eps (length (xs_of keys)) level.segments.items level.models.items → AreLevels keys eps eps_rec (level ∷ [])
+AreLevels-base keys eps eps_rec level order few bounded bounded_rec segments models =
+    AreLevels-push keys eps eps_rec [] level none (λ i last. absurd (omega arith)) (base_level keys eps eps_rec [] (xs_of keys) (ys_of keys) level.segments.items refl refl refl segments)
+    (level_models keys eps eps_rec [] (xs_of keys) (ys_of keys) eps level.segments.items level.models.items (base_xs keys [] (xs_of keys) refl refl) (base_ys keys [] (ys_of keys) refl refl)
+    (eps_at-base eps eps_rec 0 refl) models) (λ some. absurd (omega arith)) (λ some. absurd (omega arith))
+  where
+    none : AreLevels keys eps eps_rec []
+    none = record {
+      never_falls = order;
+      few = few;
+      bounded = bounded;
+      bounded_rec = bounded_rec;
+      each = λ i inside. absurd (omega arith);
+      others = λ i inside. absurd (omega arith);
+      models = λ i d inside. absurd (omega arith);
+      kept = λ i d above inside. absurd (omega arith);
+    }
 
 -- the runs start in the list
 pub starts_inside : (keys : List ℕ) (eps eps_rec : ℕ) (levels : List Level) (below : ℕ) (level : Level) (list : List ℕ) (segments : List Segment) → AreLevels keys eps eps_rec levels →

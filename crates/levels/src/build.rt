@@ -4,8 +4,10 @@ ghost use Rattle.std.specs.Prelude.{◌≤◌, ◌^◌, length, vec_len};
 ghost use Rattle.std.specs.Prelude.{◌-◌, slice_index, slice_index_or, IfOk};
 ghost use Rattle.std.specs.List.Sorted.{IsStrictlyIncreasing, IsNonDecreasing};
 ghost use Rattle.exact_cross.specs.Points.{points_of, places};
+ghost use Rattle.key_points.specs.KeyPoints.{xs_of, ys_of};
 ghost use Rattle.exact_cross.specs.declared.segment.Segment.{Segment};
 ghost use Rattle.segmenter.specs.Segmentation.{IsSegmentation};
+ghost use Rattle.piece_join.specs.Cuttings.{AreCuts};
 ghost use Rattle.levels.specs.Indexes.{first_xs, IsIndex, xs_at, ys_at, points_at, eps_at};
 ghost use Rattle.levels.specs.Indexes.{places_below};
 ghost use Rattle.levels.specs.Models.{AreModels, IsEndOf, IsModelOf};
@@ -16,11 +18,15 @@ use crate::level::{Level, Runs};
 use crate::lookup::end_of_run;
 use crate::model::RunModel;
 use budget::{NoMemory, Steps};
+use edge::Gate;
 use exact_cross::{MAX_EPSILON, Segment};
 use key_points::Keys;
+use piece_join::segment_in_pieces;
 use segmenter::segment_counted;
 use std::alloc::Global;
-use std::sync::ledger::Ledger;
+use std::marker::Brand;
+use std::sync::ledger::{Blank, Ledger};
+use std::thread::Threads;
 
 impl Index {
     /// The index of keys, built on the calling thread.
@@ -51,41 +57,184 @@ impl Index {
         ensures cost { IfOk result (λ index. steps.new ≤ steps.old
             + 12 * places_below keys index.levels (length index.levels)) }
     {
-        let stored = levels_of(alloc, &keys, eps, eps_rec, steps)?;
+        let segments = level_0_here(alloc, &keys, eps, steps)?;
+        let stored = levels_over(alloc, &keys, segments, eps, eps_rec, steps)?;
+        Ok(Index::from_levels(keys, eps, eps_rec, stored))
+    }
+
+    /// The index of keys, level 0 built piece by piece by several workers, and the levels above on
+    /// the calling thread: the same index as [`Index::build_here`] gives, for all cuts, numbers of
+    /// workers and gates.
+    ///
+    /// `eps` is the error bound of level 0, in positions of the file, and `eps_rec` that of the
+    /// levels above, in places of their lists. The points of the keys are cut into pieces before
+    /// each place of `cuts`, which rise strictly from 1 to the last place and are 65,535 at most.
+    /// Each of the `workers`, 1 to 64, draws pieces until there are none left. The gate is passed
+    /// at `PieceBegun` before each piece of level 0 and at `PieceDone` after it, with the piece's
+    /// number. The call returns only if the gate does, and then no worker runs any more.
+    ///
+    /// # Errors
+    ///
+    /// `NoMemory` alone. Then the keys are given up.
+    ///
+    /// Source: Ferragina and Vinciguerra, PVLDB 13(8), 2020, sections 2 and 3.1.
+    pub fn build<R: Threads + Sync, G: Gate>(
+        rt: &R,
+        alloc: Global,
+        keys: Keys,
+        eps: u32,
+        eps_rec: u32,
+        cuts: &[u32],
+        workers: u32,
+        gate: &G,
+    ) -> Result<Index, NoMemory>
+        requires bounded { eps ≤ MAX_EPSILON }
+        requires bounded_rec { eps_rec ≤ MAX_EPSILON }
+        requires cuts { AreCuts (length (xs_of keys)) cuts.now }
+        requires few_cuts { length cuts.now ≤ 65535 }
+        requires staffed { 1 ≤ workers }
+        requires few_workers { workers ≤ 64 }
+        ensures keys { IfOk result (λ index. index.keys ≡ keys) }
+        ensures eps { IfOk result (λ index. index.eps ≡ eps) }
+        ensures eps_rec { IfOk result (λ index. index.eps_rec ≡ eps_rec) }
+        ensures index { IfOk result (λ index. IsIndex keys eps eps_rec index.levels) }
+    {
+        let segments = level_0_in_pieces(rt, alloc, &keys, eps, cuts, workers, gate)?;
+        let stored = levels_from::<Brand>(alloc, &keys, segments, eps, eps_rec, Blank::new(1))?;
         Ok(Index::from_levels(keys, eps, eps_rec, stored))
     }
 }
 
-/// All levels over the points of keys.
-fn levels_of<L: Ledger>(
+/// The segments of level 0, made on the calling thread.
+fn level_0_here<L: Ledger>(
     alloc: Global,
     keys: &Keys,
+    eps: u32,
+    steps: &mut Steps<L>,
+) -> Result<Vec<Segment>, NoMemory>
+    requires bounded { eps ≤ MAX_EPSILON }
+    ensures segments { IfOk result (λ segments. IsSegmentation
+        (points_of (xs_of keys.now) (ys_of keys.now)) eps 0 (length (xs_of keys.now))
+        segments.items) }
+    ensures cost { steps.new ≤ steps.old + 12 * length (xs_of keys.now) }
+{
+    let (xs, ys) = lists_of(keys);
+    segment_counted(alloc, xs, ys, eps, 0, xs.len() as u32, steps)
+}
+
+/// The segments of level 0, made piece by piece.
+fn level_0_in_pieces<R: Threads + Sync, G: Gate>(
+    rt: &R,
+    alloc: Global,
+    keys: &Keys,
+    eps: u32,
+    cuts: &[u32],
+    workers: u32,
+    gate: &G,
+) -> Result<Vec<Segment>, NoMemory>
+    requires bounded { eps ≤ MAX_EPSILON }
+    requires cuts { AreCuts (length (xs_of keys.now)) cuts.now }
+    requires few_cuts { length cuts.now ≤ 65535 }
+    requires staffed { 1 ≤ workers }
+    requires few_workers { workers ≤ 64 }
+    ensures { IfOk result (λ segments. IsSegmentation
+        (points_of (xs_of keys.now) (ys_of keys.now)) eps 0 (length (xs_of keys.now))
+        segments.items) }
+{
+    let (xs, ys) = lists_of(keys);
+    segment_in_pieces(rt, alloc, xs, ys, eps, cuts, workers, gate)
+}
+
+/// The x and the y of level 0.
+fn lists_of(keys: &Keys) -> (&[u64], &[u32])
+    ensures xs { result.0.now ≡ xs_of keys.now }
+    ensures ys { result.1.now ≡ ys_of keys.now }
+    ensures same_length { length result.1.now ≡ length result.0.now }
+    ensures rising { IsStrictlyIncreasing result.0.now }
+    ensures never_falls { IsNonDecreasing result.1.now }
+    ensures few { length result.0.now < 2 ^ 32 }
+{
+    // Its clauses say that the keys never fall, and that they are few.
+    let _ = keys.file();
+    (keys.xs(), keys.ys())
+}
+
+/// All levels, over the segments of level 0, with a counter of its own from a new ledger.
+fn levels_from<L: Ledger>(
+    alloc: Global,
+    keys: &Keys,
+    segments: Vec<Segment>,
+    eps: u32,
+    eps_rec: u32,
+    blank: Blank,
+) -> Result<Vec<Level>, NoMemory>
+    requires bounded { eps ≤ MAX_EPSILON }
+    requires bounded_rec { eps_rec ≤ MAX_EPSILON }
+    requires segments { IsSegmentation (points_of (xs_of keys.now) (ys_of keys.now)) eps 0
+        (length (xs_of keys.now)) segments.items }
+    requires name { blank.name ≡ L.name }
+    requires parts { blank.parts ≡ L.parts }
+    requires one { blank.parts ≡ 1 }
+    ensures { IfOk result (λ levels. AreStored keys.now eps eps_rec levels.items) }
+{
+    let mut steps = Steps::<L>::new(blank);
+    levels_over(alloc, keys, segments, eps, eps_rec, &mut steps)
+}
+
+/// All levels, over the segments of level 0.
+fn levels_over<L: Ledger>(
+    alloc: Global,
+    keys: &Keys,
+    segments: Vec<Segment>,
     eps: u32,
     eps_rec: u32,
     steps: &mut Steps<L>,
 ) -> Result<Vec<Level>, NoMemory>
     requires bounded { eps ≤ MAX_EPSILON }
     requires bounded_rec { eps_rec ≤ MAX_EPSILON }
+    requires segments { IsSegmentation (points_of (xs_of keys.now) (ys_of keys.now)) eps 0
+        (length (xs_of keys.now)) segments.items }
     ensures stored { IfOk result (λ levels. AreStored keys.now eps eps_rec levels.items) }
-    ensures cost { IfOk result (λ levels. steps.new ≤ steps.old + 12 * places_below keys.now
-        (segments_of levels.items) (vec_len levels)) }
+    // The steps that level 0 takes are left to the caller.
+    ensures cost { IfOk result (λ levels. steps.new + 12 * length (xs_of keys.now) ≤ steps.old
+        + 12 * places_below keys.now (segments_of levels.items) (vec_len levels)) }
 {
     let mut levels = Vec::new(alloc);
     if keys.file().is_empty() {
         return Ok(levels);
     }
-    loop {
-        let level = next_level(alloc, keys, &levels, eps, eps_rec, steps)?;
-        let runs = level.segments.len();
+    let mut runs = segments.len();
+    levels.push(level_0(alloc, keys, segments, eps)?)?;
+    while runs != 1 {
+        let level = level_above(alloc, keys, &levels, eps, eps_rec, steps)?;
+        runs = level.segments.len();
         levels.push(level)?;
-        if runs == 1 {
-            return Ok(levels);
-        }
     }
+    Ok(levels)
+}
+
+/// Level 0 of its segments.
+fn level_0(alloc: Global, keys: &Keys, segments: Vec<Segment>, eps: u32) -> Result<Level, NoMemory>
+    requires bounded { eps ≤ MAX_EPSILON }
+    requires segments { IsSegmentation (points_of (xs_of keys.now) (ys_of keys.now)) eps 0
+        (length (xs_of keys.now)) segments.items }
+    ensures segments { IfOk result (λ level. level.segments ≡ segments) }
+    ensures models { IfOk result (λ level. AreModels
+        (points_of (xs_of keys.now) (ys_of keys.now)) eps (length (xs_of keys.now))
+        segments.items level.models.items) }
+{
+    let (xs, ys) = lists_of(keys);
+    let models = models_over(alloc, xs, ys, &segments, eps)?;
+    Ok(Level {
+        segments,
+        models,
+        xs: Vec::new(alloc),
+        ys: Vec::new(alloc),
+    })
 }
 
 /// The level above those so far.
-fn next_level<L: Ledger>(
+fn level_above<L: Ledger>(
     alloc: Global,
     keys: &Keys,
     levels: &[Level],
@@ -94,6 +243,7 @@ fn next_level<L: Ledger>(
     steps: &mut Steps<L>,
 ) -> Result<Level, NoMemory>
     requires levels { AreLevels keys.now eps eps_rec levels.now }
+    requires some { 0 < length levels.now }
     ensures segments { IfOk result (λ level. IsSegmentation
         (points_at keys.now (segments_of levels.now) (length levels.now))
         (eps_at eps eps_rec (length levels.now)) 0
@@ -104,25 +254,14 @@ fn next_level<L: Ledger>(
         (eps_at eps eps_rec (length levels.now))
         (length (xs_at keys.now (segments_of levels.now) (length levels.now)))
         level.segments.items level.models.items) }
-    ensures xs { IfOk result (λ level. 0 < length levels.now →
+    ensures xs { IfOk result (λ level.
         level.xs.items ≡ xs_at keys.now (segments_of levels.now) (length levels.now)) }
-    ensures ys { IfOk result (λ level. 0 < length levels.now →
+    ensures ys { IfOk result (λ level.
         level.ys.items ≡ ys_at keys.now (segments_of levels.now) (length levels.now)) }
     ensures cost { IfOk result (λ level. steps.new ≤ steps.old
         + 12 * length (xs_at keys.now (segments_of levels.now) (length levels.now))) }
 {
-    let count = levels.len();
-    if count == 0 {
-        let runs = runs_over(alloc, keys.xs(), keys.ys(), eps, steps)?;
-        let Runs { segments, models } = runs;
-        return Ok(Level {
-            segments,
-            models,
-            xs: Vec::new(alloc),
-            ys: Vec::new(alloc),
-        });
-    }
-    let below = count - 1;
+    let below = levels.len() - 1;
     let level = &levels[below];
     let xs = first_xs_of(alloc, list_at(keys, levels, below), &level.segments)?;
     let ys = places_of(alloc, xs.as_slice())?;

@@ -4,9 +4,9 @@
 //! level 1 stands on their first keys, 0 and 10, with one run. The question 9 is asked at level 1,
 //! which leads to the first run, and at level 0, where 3 keys are below it.
 //!
-//! Main clauses: `index` and `cost` of [`Index::build_here`], `found` and `cost` of
-//! [`Index::lower_bound`], `windows` of [`Index::windows`], and the law [`one_index`]. The words of
-//! the clauses are in `specs/`.
+//! Main clauses: `index` of [`Index::build_here`] and of [`Index::build`], `cost` of the former,
+//! `found` and `cost` of [`Index::lower_bound`], `windows` of [`Index::windows`], and the law
+//! [`one_index`]. The words of the clauses are in `specs/`.
 #![tactic(auto)]
 
 mod build;

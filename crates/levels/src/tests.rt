@@ -5,12 +5,14 @@ ghost use Rattle.std.specs.List.Sorted.{IsNonDecreasing};
 
 use crate::{Index, Keys};
 use budget::{NoMemory, Steps};
+use edge::OpenGate;
 use exact_cross::MAX_EPSILON;
 use std::alloc::Global;
 use std::marker::Brand;
 use std::process::Abort;
 use std::sync::ledger::{Blank, Ledger};
 use std::test::Fail;
+use std::thread::Threads;
 
 fn is_ordered(keys: &[u64]) -> bool
     ensures { IsTrue result → IsNonDecreasing keys.now }
@@ -48,6 +50,15 @@ fn index_of<R: Abort + AllocGlobal>(rt: &R, keys: &[u64], eps: u32) -> Result<In
     build::<Brand>(rt.alloc(), keys_of(rt, keys)?, eps, 0, Blank::new(1))
 }
 
+/// Compares how many runs each level has.
+fn expect_runs(rt: &impl Abort, index: &Index, runs: &[usize]) {
+    assert_eq!(rt; index.levels() as usize, runs.len());
+    for (level, count) in runs.iter().enumerate() {
+        assert!(rt; level < index.levels() as usize);
+        assert_eq!(rt; index.level(level as u32).len(), *count);
+    }
+}
+
 /// Builds the index of these keys, and compares its runs by level and the positions.
 fn expect_index<R: Abort + AllocGlobal>(
     rt: &R,
@@ -57,11 +68,7 @@ fn expect_index<R: Abort + AllocGlobal>(
     positions: &[(u64, u32)],
 ) -> Result<Index, NoMemory> {
     let index = index_of(rt, keys, eps)?;
-    assert_eq!(rt; index.levels() as usize, runs.len());
-    for (level, count) in runs.iter().enumerate() {
-        assert!(rt; level < index.levels() as usize);
-        assert_eq!(rt; index.level(level as u32).len(), *count);
-    }
+    expect_runs(rt, &index, runs);
     assert!(rt; positions.len() < 1000);
     let mut together = Vec::with_capacity(rt.alloc(), positions.len())?;
     let mut qs = Vec::with_capacity(rt.alloc(), positions.len())?;
@@ -102,6 +109,40 @@ fn worked_lists(rt: HostRuntime) -> Result<(), Fail> {
     let _ = expect_index(&rt, &[0, 1, 4, 9, 16, 25], 0, &[3, 2, 1], &squares)?;
     let last = u64::MAX;
     let _ = expect_index(&rt, &[0, last], 1_048_576, &[1], &[(1, 1), (last, 1)])?;
+    Ok(())
+}
+
+/// The index of these keys, built by workers in two pieces, with both bounds 0.
+fn built_in_pieces<R: Threads + Abort + AllocGlobal + Sync>(
+    rt: &R,
+    keys: &[u64],
+    cut: u32,
+    workers: u32,
+) -> Result<Index, NoMemory> {
+    let keys = keys_of(rt, keys)?;
+    assert!(rt; 0 < cut && (cut as usize) < keys.xs().len());
+    assert!(rt; 1 <= workers && workers <= 64);
+    Index::build(rt, rt.alloc(), keys, 0, 0, &[cut], workers, &OpenGate)
+}
+
+// The runs of level 0 are 0..2, 2..4 and 4..6, so that no run starts at the cut.
+#[test]
+fn any_number_of_workers(rt: HostRuntime) -> Result<(), Fail> {
+    let squares = [0, 1, 4, 9, 16, 25];
+    let here = index_of(&rt, &squares, 0)?;
+    expect_runs(&rt, &here, &[3, 2, 1]);
+    for workers in [1, 2, 3, 64] {
+        let index = built_in_pieces(&rt, &squares, 3, workers)?;
+        expect_runs(&rt, &index, &[3, 2, 1]);
+        for level in 0..3 {
+            assert!(rt; level < index.levels() && level < here.levels());
+            assert_eq!(rt;
+                index.level(level),
+                here.level(level),
+                "level {level} by {workers}"
+            );
+        }
+    }
     Ok(())
 }
 

@@ -1,0 +1,62 @@
+-- Level 0 by itself, one level more, and all levels once the last one has one run.
+use Rattle.std.proofs.Common.{◌≡◌, ◌+◌, ◌<◌, [], ◌∷◌, ◌++◌, length, Vec, sym, ap, ◌∙◌, arith}
+use Rattle.std.specs.declared.alloc.Global.{Global}
+use Rattle.exact_cross.specs.declared.segment.Segment.{Segment}
+use Rattle.std.proofs.lemmas.List.{length-append}
+use Rattle.std.proofs.lemmas.Bool.Decides.{nat_tests}
+use Rattle.levels.specs.Indexes.{xs_at, places_below}
+use Rattle.levels.specs.Stored.{segments_of}
+use Rattle.levels.proofs.StoredLemmas.{AreLevels-base, AreLevels-push, AreStored-in, fewer_above, places_below-base, places_below-push, level_at-pushed}
+use Rattle.levels.proofs.build.levels_over.Goals as goal
+
+pub loop-runs-init : goal.loop-runs-init
+loop-runs-init g c =
+    let keys = c.args.keys.now in
+    let level = c.in_ok-level_0.field-0 in
+    let own : level.segments.items ≡ c.args.segments.items = ap (λ (segments : Vec Segment Global). segments.items) c.in_ok-level_0.ensures.segments in
+    let some : 0 < length keys = grind (arith, nat_tests, c.is_empty.ensures, c.if-is_empty.false, ap length c.file.ensures.keys) in
+    let order = rw c.file.ensures.keys at c.file.ensures.never_falls in
+    let few = rw c.file.ensures.keys at c.file.ensures.few in
+    let is : c.push.new.self.items ≡ level ∷ [] = rw c.new-levels.ensures.items at c.in_ok-push.ensures.items in
+    let all = AreLevels-base keys c.args.eps c.args.eps_rec level order few c.requires.bounded c.requires.bounded_rec (rw own c.requires.segments) (rw own c.in_ok-level_0.ensures.models) in
+    rw is (record {
+      levels = all;
+      some = some;
+      above = omega arith;
+      last = λ i at. ap length (level_at-pushed [] level i (omega (arith, at))) ∙ omega (arith, ap length own, c.args.segments.ok.0);
+      cost = omega (arith, places_below-base keys level);
+    })
+
+pub loop-runs-smaller : goal.loop-runs-smaller
+loop-runs-smaller g c =
+    let inv = c.loop-runs.invariant in
+    let own = rw c.deref.ensures.value at c.in_ok-level.ensures in
+    let fewer = fewer_above c.args.keys.now c.args.eps c.args.eps_rec c.loop-runs.levels.items c.loop-runs.runs c.in_ok-level.level.segments.items inv.levels inv.some inv.above inv.last
+    (λ one. c.loop-runs-test.true one) own.segments in
+    omega (arith, fewer, c.in_ok-level.level.segments.ok.0)
+
+pub loop-runs-preserved : goal.loop-runs-preserved
+loop-runs-preserved g c =
+    let keys = c.args.keys.now in
+    let levels = c.loop-runs.levels.items in
+    let level = c.in_ok-level.level in
+    let inv = c.loop-runs.invariant in
+    let own = rw c.deref.ensures.value at c.in_ok-level.ensures in
+    let all = AreLevels-push keys c.args.eps c.args.eps_rec levels level inv.levels (λ i last one. c.loop-runs-test.true (sym (inv.last i last) ∙ one)) own.segments own.models
+    (λ some. own.xs) (λ some. own.ys) in
+    let count : length (levels ++ level ∷ []) ≡ length levels + 1 = length-append levels (level ∷ []) in
+    let places : places_below keys (segments_of (levels ++ level ∷ [])) (length (levels ++ level ∷ []))
+    ≡ places_below keys (segments_of levels) (length levels) + length (xs_at keys (segments_of levels) (length levels)) =
+    ap (places_below keys (segments_of (levels ++ level ∷ []))) count ∙ places_below-push keys levels level in
+    rw c.in_ok-push-2.ensures.items (record {
+      levels = all;
+      some = inv.some;
+      above = omega (arith, count);
+      last = λ i last. ap length (level_at-pushed levels level i (omega (arith, count, last))) ∙ omega (arith, level.segments.ok.0);
+      cost = omega (arith, own.cost, inv.cost, places);
+    })
+
+pub returns-clause-stored : goal.returns-clause-stored
+returns-clause-stored g c =
+    let inv = c.loop-runs.invariant in
+    AreStored-in c.args.keys.now c.args.eps c.args.eps_rec c.loop-runs.levels.items inv.levels inv.some inv.above (λ i last. inv.last i last ∙ omega (arith, c.loop-runs-test.false))
