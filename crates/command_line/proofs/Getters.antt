@@ -1,13 +1,12 @@
 -- What the getters of `clap` give, by the rows.
-use Rattle.std.proofs.Common.{◌≡◌, ◌⊎◌, inl, inr, ℕ, ◌<◌, ◌≤◌, ◌^◌, Bool, true, false, List, [], Option, Some, None, Result, Ok, Err, refl, sym, ap, subst, ◌∙◌, arith}
+use Rattle.std.proofs.Common.{◌≡◌, ◌⊎◌, inl, inr, ℕ, ◌<◌, ◌≤◌, Bool, true, false, List, [], Option, Some, None, Result, Ok, refl, sym, ap, subst, ◌∙◌, arith}
 use Rattle.std.specs.Prelude.{option_map, unwrap_or, codes}
 use Rattle.std.specs.Borrow.{Bor}
 use Rattle.std.specs.Option.{option_map_or}
 use Rattle.std.specs.Str.{bytes_eq}
 use Rattle.std.specs.Str.Parse.{ParsesUnsigned, digits_value, without_leading_plus}
-use Rattle.clap.specs.Lexer.{without_minus}
 use Rattle.clap.specs.Matches.{ReadsOne, first_value, one_text}
-use Rattle.clap.specs.Walk.{Text, Row, first_of, one_of, rows_of}
+use Rattle.clap.specs.Walk.{Text, first_of, one_of, rows_of}
 use Rattle.clap.specs.declared.parser.matches.Found.{Found}
 use Rattle.clap.proofs.CallerReads.{signed_reads}
 use Rattle.clap.proofs.WalkLemmas.{first_value-rows, one_text-rows}
@@ -41,10 +40,10 @@ flag_read f id given none set_true other flag = go (one_of id (rows_of f)) refl
 
 -- a number in its range, as it is parsed
 module _ {E : Type 0} (G : List ℕ → Result ℕ E → Type 0) (only : (text : List ℕ) (r : Result ℕ E) → G text r → ParsesUnsigned 32 10 text r) where
-  pub number_read : (f : Found) (id : Text) (r : Option ℕ) (most : ℕ) → most < 4294967296 → IsNumberIn 0 most id (rows_of f) →
+  pub number_read : (f : Found) (id : Text) (r : Option ℕ) (least most : ℕ) → most < 4294967296 → IsNumberIn least most id (rows_of f) →
       (one_text f id ≡ None → r ≡ None) → ((t : List ℕ) → one_text f id ≡ Some t → ReadsOne G t r) →
       (unwrap_or r 0 ≡ number_in id (rows_of f)) × (unwrap_or r 0 ≤ most)
-  number_read f id r most small number none value = go (one_of id (rows_of f)) refl
+  number_read f id r least most small number none value = go (one_of id (rows_of f)) refl
     where
       is_rows : one_text f id ≡ one_of id (rows_of f)
       is_rows = one_text-rows f id
@@ -62,5 +61,5 @@ module _ {E : Type 0} (G : List ℕ → Result ℕ E → Type 0) (only : (text :
       go (Some t) is =
           let passed = number t is in
           let reads = value t (is_rows ∙ is) in
-          let got = signed_reads E G 32 0 most passed.0 r (subst (λ (u : List ℕ). ReadsOne G u r) passed.1 reads) only small passed.2 in
+          let got = signed_reads E G 32 least most passed.0 r (subst (λ (u : List ℕ). ReadsOne G u r) passed.1 reads) only small passed.2 in
           (read t got.0 got.1 reads, subst (λ (o : Option ℕ). unwrap_or o 0 ≤ most) (sym got.1) got.3)

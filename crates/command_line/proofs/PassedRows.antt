@@ -2,28 +2,26 @@
 --
 -- Main result: where a leaf's level has no fault, its rows are passed (`level_passed`). The walk over the words is followed
 -- step by step: a value comes into the rows only by a use of a rule, and a use that its parser refuses is a fault.
-use Rattle.std.proofs.Common.{◌≡◌, ◌⊎◌, inl, inr, ℕ, zero, suc, ◌+◌, Bool, true, false, not, cond, ◌&&◌, ◌||◌, List, [], ◌∷◌, ◌++◌, length, drop, Option, Some, None, is_some, refl, sym, ap, subst, ◌∙◌, arith}
-use Rattle.std.specs.Prelude.{⊤, find, fold, unwrap_or, slice_get, encode_utf8, IsTrue, option_map, min}
-use Rattle.std.specs.List.{list_all, list_any}
+use Rattle.std.proofs.Common.{◌≡◌, ◌⊎◌, inl, inr, ℕ, zero, suc, Bool, true, false, cond, ◌&&◌, ◌||◌, List, [], ◌∷◌, ◌++◌, length, drop, Option, Some, None, is_some, refl, sym, ap, subst, ◌∙◌, arith}
+use Rattle.std.specs.Prelude.{⊤, find, fold, slice_get, encode_utf8}
+use Rattle.std.specs.List.{list_all}
 use Rattle.std.proofs.lemmas.Bool.{eqb-true}
 use Rattle.std.specs.Option.{option_map_or}
 use Rattle.std.specs.Str.{bytes_eq, chars}
 use Rattle.clap.specs.Lexer.{long_of, short_of}
-use Rattle.clap.specs.Matches.{count_text}
 use Rattle.clap.specs.Facts.{parser_of_value, unwrap_or_range}
 use Rattle.clap.specs.ValueTests.{accepts}
-use Rattle.clap.specs.Kinds.{Kinds, or_else, values_kinds, value_kinds, range_kinds}
+use Rattle.clap.specs.Kinds.{Kinds, or_else, range_kinds}
 use Rattle.clap.specs.Values.{refused_kind}
-use Rattle.clap.specs.Walk.{Text, Rule, Row, Held, Names, Outcome, Step, Waiting, Walk, reading_by, action_of, has_row, without, with_values, at_row, more_values, used, used_as, values_or_missing, arg_by_id, arg_by_long, arg_by_short, arg_by_index, settled, settled_rows, used_by_id, reacted, option_met, flag_met, long_met, short_met, bundle_met, bundle_step, bundle, attached_value, takes_values, takes_several, most_values, after_flag, plain_word, option_word, long_word, short_word, short_or_plain, long_or_other, subcommand_or_other, subcommand_met, word_met, is_pending, positional_held, to_positional, after_step, walked, walked_from, walk, walk_from, nothing_held, with_default, default_rows, finished, rows_after, pushed, is_empty}
-use Rattle.clap.specs.Takes.{values_pass, value_passes}
+use Rattle.clap.specs.Walk.{Text, Rule, Row, Held, Names, Outcome, Step, Waiting, Walk, reading_by, action_of, has_row, without, with_values, at_row, more_values, used, used_as, values_or_missing, arg_by_id, arg_by_long, arg_by_short, arg_by_index, settled, settled_rows, used_by_id, reacted, option_met, flag_met, long_met, short_met, bundle_met, bundle_step, bundle, attached_value, takes_values, takes_several, most_values, after_flag, plain_word, option_word, short_or_plain, long_or_other, subcommand_or_other, subcommand_met, word_met, is_pending, positional_held, to_positional, after_step, walked, walked_from, walk, walk_from, nothing_held, with_default, default_rows, rows_after, pushed, is_empty}
+use Rattle.clap.specs.Takes.{values_pass}
 use Rattle.clap.specs.Simple.{Shape}
-use Rattle.clap.specs.Faults.{values_fault, repeat_fault, set_fault, action_fault, use_fault, settle_fault, react_fault, option_fault, long_fault, short_fault, bundle_step_fault, flags_fault, bundle_fault, flag_word_fault, other_fault, word_fault, positional_fault, stray_fault, step_fault, turn_fault, walk_fault, default_fault, given_default_fault, defaults_fault, check_fault, level_fault}
+use Rattle.clap.specs.Faults.{values_fault, repeat_fault, set_fault, action_fault, use_fault, settle_fault, react_fault, option_fault, long_fault, short_fault, bundle_step_fault, flags_fault, bundle_fault, flag_word_fault, other_fault, word_fault, positional_fault, stray_fault, step_fault, turn_fault, walk_fault, default_fault, given_default_fault, defaults_fault, level_fault}
 use Rattle.clap.specs.declared.builder.action.ArgAction.{ArgAction}
 use Rattle.clap.specs.declared.builder.action.ArgAction.TheVariants as act
 use Rattle.clap.specs.declared.error.kind.ErrorKind.TheVariants as kind
 use Rattle.clap.specs.declared.parser.matches.ValueSource.{ValueSource}
 use Rattle.clap.specs.declared.parser.matches.ValueSource.TheVariants.{CommandLine, DefaultValue}
-use Rattle.clap.specs.declared.builder.value_parser.Reading.{Reading}
 use Rattle.command_line.specs.Passed.{SomeRule, IsRowOf, ArePassed}
 
 -- ---- lists of kinds, and of rules

@@ -2,18 +2,17 @@
 --
 -- Main results: what was entered is a command of the definition, with rows that passed (`command_met`), and is a request
 -- (`words_ask`).
-use Rattle.std.proofs.Common.{◌≡◌, ◌⊎◌, inl, inr, rules, ℕ, Bool, true, false, not, cond, ◌&&◌, ◌||◌, List, [], ◌∷◌, map, Option, Some, None, is_some, refl, sym, ap, ap₂, subst, ◌∙◌}
+use Rattle.std.proofs.Common.{◌≡◌, ◌⊎◌, inl, inr, rules, Bool, true, false, not, cond, ◌&&◌, List, [], ◌∷◌, Option, Some, None, is_some, refl, sym, ap, ap₂, subst, ◌∙◌}
 use Rattle.std.specs.Prelude.{find, codes, option_map, option_and_then, ok_or, Err, IsSome}
 use Rattle.std.specs.List.{list_all, list_any}
 use Rattle.std.specs.Option.{option_map_or}
 use Rattle.std.specs.Str.{bytes_eq}
-use Rattle.std.proofs.lemmas.Bool.{eqb-true}
 use Rattle.clap.proofs.WalkLemmas.{both}
 use Rattle.clap.proofs.OnLiterals.{clap_on_literals}
 use Rattle.clap.specs.Walk.{Text, Rule, Row, Held, answers_to, finished, nothing_held, settled, walk, walk_from}
-use Rattle.clap.specs.Kinds.{Kinds, or_else, check_kinds}
+use Rattle.clap.specs.Kinds.{check_kinds}
 use Rattle.clap.specs.Simple.{App, Shape, argument_words, built, entered, filled_from, label_of, names_of, rows_at, subcommand_of, is_simple}
-use Rattle.clap.specs.Faults.{built_fault, check_fault, defaults_fault, entered_fault, fault_of, level_fault, settle_fault, walk_fault}
+use Rattle.clap.specs.Faults.{built_fault, check_fault, defaults_fault, entered_fault, is_simple_and_free, level_fault, settle_fault, walk_fault}
 use Rattle.clap.specs.Facts.{explicit_source}
 use Rattle.clap.specs.Takes.{is_given}
 use Rattle.std.specs.Box.{box_value}
@@ -122,11 +121,12 @@ IsCommand p = ((p.0 ≡ codes "build") × AreIndexOptions p.1)
     ⊎ ((p.0 ≡ codes "query") × AreIndexOptions p.1 × IsFlag (codes "windows") p.1)
 
 index_options : (rules : List Rule) (rows : List Row) → (list_all (takes_numbers 0 MAX_EPSILON (codes "eps")) rules ≡ true) →
-    (list_all (takes_numbers 0 MAX_EPSILON (codes "rec")) rules ≡ true) → (list_all (takes_flag (codes "narrow")) rules ≡ true) →
+    (list_all (takes_numbers 0 MAX_EPSILON (codes "rec")) rules ≡ true) → (list_all (takes_numbers 1 64 (codes "workers")) rules ≡ true) → (list_all (takes_flag (codes "narrow")) rules ≡ true) →
     ArePassed rules rows → AreIndexOptions rows
-index_options rules rows eps eps_rec narrow passed = record {
+index_options rules rows eps eps_rec workers narrow passed = record {
   eps = number_reads rules 0 MAX_EPSILON (codes "eps") rows eps passed;
   eps_rec = number_reads rules 0 MAX_EPSILON (codes "rec") rows eps_rec passed;
+  workers = number_reads rules 1 64 (codes "workers") rows workers passed;
   narrow = flag_reads rules (codes "narrow") rows narrow passed;
 }
 
@@ -139,10 +139,10 @@ query_filled = filled_from 1 query_rules
 
 is_command : (p : Text × List Row) → SomeShape (built application).subs (IsOfCommand p) → IsCommand p
 unfolding clap_on_literals
-is_command p (inl s) = inl (s.name, index_options build_filled p.1 refl refl refl s.passed)
-is_command p (inr (inl s)) = inr (inl (s.name, index_options build_filled p.1 refl refl refl s.passed))
+is_command p (inl s) = inl (s.name, index_options build_filled p.1 refl refl refl refl s.passed)
+is_command p (inr (inl s)) = inr (inl (s.name, index_options build_filled p.1 refl refl refl refl s.passed))
 is_command p (inr (inr (inl s))) =
-    inr (inr (s.name, index_options query_filled p.1 refl refl refl s.passed, flag_reads query_filled (codes "windows") p.1 refl s.passed))
+    inr (inr (s.name, index_options query_filled p.1 refl refl refl refl s.passed, flag_reads query_filled (codes "windows") p.1 refl s.passed))
 is_command p (inr (inr (inr none))) = absurd none
 
 once_all : list_all sets_once (built application).subs ≡ true
@@ -215,6 +215,10 @@ never_refused words (Some request) e taken is refused = cc
 pub is_simple_application : is_simple application ≡ true
 unfolding clap_on_literals
 is_simple_application = refl
+
+pub is_free_application : is_simple_and_free application ≡ true
+unfolding clap_on_literals
+is_free_application = refl
 
 pub some_request : (words : List Text) → AreTaken words → IsSome (request_of words)
 some_request words taken = let request = words_ask words taken in subst (λ (o : Option Request). IsSome o) (sym request.1.asks) (search rules)

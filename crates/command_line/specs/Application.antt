@@ -27,9 +27,14 @@ abbrev pub command : Text → List Rule → Shape
 command name rules = record (new_shape name) { rules = rules }
 
 -- how an index is built, of a key file
+abbrev pub index_rules : List Rule
+index_rules = positional (codes "FILE") ∷ number (codes "eps") 0 MAX_EPSILON (codes "64")
+    ∷ number (codes "rec") 0 MAX_EPSILON (codes "4")
+    ∷ number (codes "workers") 1 64 (codes "4") ∷ []
+
+-- and how wide its keys are
 abbrev pub build_rules : List Rule
-build_rules = positional (codes "FILE") ∷ number (codes "eps") 0 MAX_EPSILON (codes "64")
-    ∷ number (codes "rec") 0 MAX_EPSILON (codes "4") ∷ flag (codes "narrow") ∷ []
+build_rules = index_rules ++ flag (codes "narrow") ∷ []
 
 -- and a script of questions
 abbrev pub query_rules : List Rule

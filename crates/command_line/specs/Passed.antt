@@ -1,5 +1,5 @@
 -- What was found for arguments that passed their parsers. No public clause cites it.
-use Rattle.std.specs.Prelude.{◌≡◌, ◌⊎◌, ℕ, Bool, true, List, [], ◌∷◌, ⊤, Some, pos, codes}
+use Rattle.std.specs.Prelude.{◌≡◌, ◌⊎◌, ℕ, true, List, [], ◌∷◌, ⊤, Some, pos, codes}
 use Rattle.clap.specs.Words.{Text, Row, Rule, IsSignedIn, without_minus, one_of}
 use Rattle.clap.specs.Walk.{reading_by}
 use Rattle.clap.specs.Takes.{values_pass}
@@ -34,4 +34,5 @@ IsFlag id rows = (text : Text) → one_of id rows ≡ Some text → (text ≡ co
 pub record AreIndexOptions (rows : List Row) : Type 0 where
   pub eps : IsNumberIn 0 MAX_EPSILON (codes "eps") rows
   pub eps_rec : IsNumberIn 0 MAX_EPSILON (codes "rec") rows
+  pub workers : IsNumberIn 1 64 (codes "workers") rows
   pub narrow : IsFlag (codes "narrow") rows

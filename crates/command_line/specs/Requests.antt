@@ -7,7 +7,7 @@ use Rattle.command_line.specs.declared.request.Building as declared_building
 use Rattle.command_line.specs.declared.request.Request as declared
 use Rattle.command_line.specs.declared.request.Request.TheVariants as variant
 
--- a key file, and how its index is built
+-- a key file, and how its index is built; the number of workers isn't told, since no answer depends on it
 pub record Building : Type 0 where
   pub file : Text
   pub narrow : Bool

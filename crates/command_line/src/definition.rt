@@ -2,12 +2,16 @@
 ghost use Rattle.std.specs.Prelude.{◌≡◌, ◌<◌, ◌∷◌, ◌++◌, ◌^◌, [], ℕ, IfOk, false, codes};
 ghost use Rattle.clap.specs.Words.{app_of, rule_of};
 ghost use Rattle.clap.specs.declared.builder.command.Command.TheViews.{out-Command};
-ghost use Rattle.command_line.specs.Application.{application, build_rules, query_rules, command};
+ghost use Rattle.command_line.specs.Application.{application, build_rules, index_rules};
+ghost use Rattle.command_line.specs.Application.{query_rules, command};
 ghost use Rattle.command_line.specs.Application.{flag, number, positional};
 
 use clap::{Arg, ArgAction, Command, value_parser};
 use exact_cross::MAX_EPSILON;
 use std::alloc::{AllocError, Global};
+
+/// How many workers build an index at most.
+const MOST_WORKERS: u32 = 64;
 
 /// The program and its commands.
 pub fn application<'a>(alloc: Global) -> Result<Command<'a>, AllocError>
@@ -29,11 +33,20 @@ fn index_command<'a>(alloc: Global, name: &'a str) -> Result<Command<'a>, AllocE
         (λ made. app_of made ≡ record { top = command name.entry.now build_rules; subs = [] }) }
     ensures local { IfOk result (λ made. (out-Command made).has_globals ≡ false) }
 {
+    counted_command(alloc, name)?.arg(flag(alloc, "narrow"))
+}
+
+// The same without its flag.
+fn counted_command<'a>(alloc: Global, name: &'a str) -> Result<Command<'a>, AllocError>
+    ensures shape { IfOk result
+        (λ made. app_of made ≡ record { top = command name.entry.now index_rules; subs = [] }) }
+    ensures local { IfOk result (λ made. (out-Command made).has_globals ≡ false) }
+{
     Command::new(alloc, name)
         .arg(positional(alloc, "FILE"))?
-        .arg(number(alloc, "eps", MAX_EPSILON, "64"))?
-        .arg(number(alloc, "rec", MAX_EPSILON, "4"))?
-        .arg(flag(alloc, "narrow"))
+        .arg(number(alloc, "eps", 0, MAX_EPSILON, "64"))?
+        .arg(number(alloc, "rec", 0, MAX_EPSILON, "4"))?
+        .arg(number(alloc, "workers", 1, MOST_WORKERS, "4"))
 }
 
 fn query_command<'a>(alloc: Global) -> Result<Command<'a>, AllocError>
@@ -54,14 +67,14 @@ fn positional<'a>(alloc: Global, name: &'a str) -> Arg<'a>
     Arg::new(alloc, name).required(true)
 }
 
-// `--NAME N`, with N from 0 to `most`, and `default` where it isn't given.
-fn number<'a>(alloc: Global, name: &'a str, most: u32, default: &'a str) -> Arg<'a>
-    ensures rule { rule_of result ≡ number name.entry.now 0 most default.entry.now }
+// `--NAME N`, with N from `least` to `most`, and `default` where it isn't given.
+fn number<'a>(alloc: Global, name: &'a str, least: u32, most: u32, default: &'a str) -> Arg<'a>
+    ensures rule { rule_of result ≡ number name.entry.now least most default.entry.now }
     ensures local { result.global ≡ false }
 {
     Arg::new(alloc, name)
         .long(name)
-        .value_parser(value_parser!(u32).range(0..=i64::from(most)))
+        .value_parser(value_parser!(u32).range(i64::from(least)..=i64::from(most)))
         .default_value(default)
 }
 

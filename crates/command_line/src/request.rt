@@ -13,8 +13,12 @@ pub struct Building<'a> {
     pub eps: u32,
     /// The error bound `ε'` of the levels above, in ranks.
     pub eps_rec: u32,
+    /// How many workers build the index, which no answer depends on.
+    pub workers: u32,
     pub ghost bounded: { eps ≤ MAX_EPSILON },
     pub ghost bounded_above: { eps_rec ≤ MAX_EPSILON },
+    pub ghost staffed: { 1 ≤ workers },
+    pub ghost few_workers: { workers ≤ 64 },
 }
 
 /// A command, with the names of its files and its options.

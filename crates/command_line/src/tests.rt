@@ -10,6 +10,7 @@ struct Asked {
     eps: u32,
     eps_rec: u32,
     narrow: bool,
+    workers: u32,
 }
 
 const EXPLAIN: Asked = Asked {
@@ -17,6 +18,7 @@ const EXPLAIN: Asked = Asked {
     eps: 64,
     eps_rec: 4,
     narrow: false,
+    workers: 4,
 };
 
 #[derive(Clone, Copy)]
@@ -26,7 +28,7 @@ struct Taken {
     asks: Asked,
 }
 
-const TAKEN: [Taken; 9] = [
+const TAKEN: [Taken; 11] = [
     Taken {
         name: "all defaults",
         words: &["explain", "keys"],
@@ -79,6 +81,23 @@ const TAKEN: [Taken; 9] = [
         },
     },
     Taken {
+        name: "the least number of workers",
+        words: &["build", "keys", "--workers=1"],
+        asks: Asked {
+            command: "build",
+            workers: 1,
+            ..EXPLAIN
+        },
+    },
+    Taken {
+        name: "the greatest number of workers",
+        words: &["explain", "keys", "--workers", "64"],
+        asks: Asked {
+            workers: 64,
+            ..EXPLAIN
+        },
+    },
+    Taken {
         name: "only names behind two hyphens",
         words: &["explain", "--eps", "1", "--", "keys"],
         asks: Asked { eps: 1, ..EXPLAIN },
@@ -92,7 +111,7 @@ struct Refused {
     words: &'static [&'static str],
 }
 
-const REFUSED: [Refused; 28] = [
+const REFUSED: [Refused; 30] = [
     Refused {
         name: "no command",
         words: &[],
@@ -144,6 +163,14 @@ const REFUSED: [Refused; 28] = [
     Refused {
         name: "a hyphen word for a number",
         words: &["explain", "keys", "--eps", "-1"],
+    },
+    Refused {
+        name: "no worker",
+        words: &["explain", "keys", "--workers", "0"],
+    },
+    Refused {
+        name: "too many workers",
+        words: &["explain", "keys", "--workers", "65"],
     },
     Refused {
         name: "an option twice",
@@ -231,6 +258,7 @@ fn is_index(building: Building<'_>, asks: Asked) -> bool {
         && building.eps == asks.eps
         && building.eps_rec == asks.eps_rec
         && building.narrow == asks.narrow
+        && building.workers == asks.workers
 }
 
 #[test]

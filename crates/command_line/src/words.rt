@@ -98,6 +98,8 @@ fn building_in<'a>(found: &ArgMatches<'a>) -> Building<'a>
         narrow: is_given(found, "narrow"),
         eps: number_in(found, "eps"),
         eps_rec: number_in(found, "rec"),
+        // An option that isn't there would be 0; this one has a default.
+        workers: number_in(found, "workers").max(1),
     }
 }
 
@@ -110,11 +112,11 @@ fn name_in<'a>(found: &ArgMatches<'a>, id: &str) -> &'a str
 
 // The number of an option.
 fn number_in(found: &ArgMatches<'_>, id: &str) -> u32
-    requires { (most : ℕ) × (most < 2 ^ 32)
-        × IsNumberIn 0 most id.now (rows_of (found_of found.now)) }
+    requires { (least most : ℕ) × (most < 2 ^ 32)
+        × IsNumberIn least most id.now (rows_of (found_of found.now)) }
     ensures value { result ≡ number_in id.now (rows_of (found_of found.now)) }
-    ensures most { (most : ℕ) → most < 2 ^ 32
-        → IsNumberIn 0 most id.now (rows_of (found_of found.now)) → result ≤ most }
+    ensures most { (least most : ℕ) → most < 2 ^ 32
+        → IsNumberIn least most id.now (rows_of (found_of found.now)) → result ≤ most }
 {
     found.get_one::<u32>(id).unwrap_or(0)
 }

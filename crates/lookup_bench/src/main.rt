@@ -1,9 +1,10 @@
 //! `lookup_bench KEYS QUERIES EPS` times an index of 64-bit keys, and is an example of its caller.
 //!
 //! Both files are a 64-bit count and numbers of 64 bits, little-endian; those of the key file never
-//! fall. It prints seconds of reading and of building; nanoseconds a question of answering all
-//! questions, one after the other and each on its own, then each waiting for the last answer, then
-//! sixteen together, the least of three rounds; and the sum of the positions. With other than three words it does nothing. No contract says how long anything takes.
+//! fall. It prints seconds of reading and of building, the sum of the positions, and nanoseconds a
+//! question, the least of three rounds, of asking them one after the other and each on its own;
+//! each waiting for the last answer; and sixteen together. With other than three words it does
+//! nothing. No contract says how long anything takes.
 #![tactic(auto)]
 
 ghost use Rattle.std.specs.Prelude.{◌≡◌, ◌≤◌};

@@ -35,13 +35,13 @@ reads_keys wide files name (Err refusal) = (fault : KeyFault) × (refusal_of fau
 
 -- the script of the file of this name, or why it has none: it isn't there, it is too long, or a line has something wrong with it
 abbrev pub reads_script : ScriptKind → Files → List ℕ → Reading (List ScriptLine)
-reads_script kind files name (Ok lines) = All (IsLineOf kind) lines
-    × HoldsOfFile files name (λ bytes. (length bytes ≤ SCRIPT_LIMIT) × ReadsScript kind bytes (Ok lines))
-reads_script kind files name (Err ReadFault) = IsMissing files name
-reads_script kind files name (Err TooLong) = HoldsOfFile files name (λ bytes. SCRIPT_LIMIT < length bytes)
-reads_script kind files name (Err (Script line why)) =
-    HoldsOfFile files name (λ bytes. (length bytes ≤ SCRIPT_LIMIT) × ReadsScript kind bytes (Err (script.At line why)))
-reads_script kind files name (Err refusal) = ⊥
+reads_script asked files name (Ok lines) = All (IsLineOf asked) lines
+    × HoldsOfFile files name (λ bytes. (length bytes ≤ SCRIPT_LIMIT) × ReadsScript asked bytes (Ok lines))
+reads_script asked files name (Err ReadFault) = IsMissing files name
+reads_script asked files name (Err TooLong) = HoldsOfFile files name (λ bytes. SCRIPT_LIMIT < length bytes)
+reads_script asked files name (Err (Script line why)) =
+    HoldsOfFile files name (λ bytes. (length bytes ≤ SCRIPT_LIMIT) × ReadsScript asked bytes (Err (script.At line why)))
+reads_script asked files name (Err refusal) = ⊥
 
 -- the questions of a script, in order
 abbrev pub question_in : ScriptLine → Option ℕ

@@ -20,7 +20,7 @@ abbrev pub bounds_of : declared_bounds.Bounds → Bounds
 bounds_of b = record { eps = b.eps; eps_rec = b.eps_rec }
 
 abbrev pub task_of : declared.Task → Task
-task_of (variant.Build keys bounds) = build keys.keys.items (bounds_of bounds)
-task_of (variant.Explain keys bounds) = explain keys.keys.items (bounds_of bounds)
-task_of (variant.Query keys bounds questions windows) =
+task_of (variant.Build keys bounds workers) = build keys.keys.items (bounds_of bounds)
+task_of (variant.Explain keys bounds workers) = explain keys.keys.items (bounds_of bounds)
+task_of (variant.Query keys bounds workers questions windows) =
     query keys.keys.items (bounds_of bounds) questions.items windows

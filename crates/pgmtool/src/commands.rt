@@ -9,22 +9,41 @@ mod indexing;
 mod query;
 
 use crate::task::Task;
-use edge::Sink;
+use edge::{Gate, Sink};
 use std::alloc::Global;
+use std::thread::Threads;
 use written::Unfinished;
 
-/// Writes the text of the task.
-pub fn write<S: Sink>(alloc: Global, task: Task, out: &mut S) -> Result<(), Unfinished>
+/// Writes the text of the task. An index is built by workers, which pass the gate before and after
+/// each piece.
+pub fn write<R: Threads + Sync, S: Sink, G: Gate>(
+    rt: &R,
+    alloc: Global,
+    task: Task,
+    out: &mut S,
+    gate: &G,
+) -> Result<(), Unfinished>
     ensures { WritesText S.Sink out.old result out.new (IsText (task_of task)) }
 {
     match task {
-        Task::Build { keys, bounds } => build::write(alloc, keys, bounds, out),
-        Task::Explain { keys, bounds } => explain::write(alloc, keys, bounds, out),
+        Task::Build {
+            keys,
+            bounds,
+            workers,
+        } => build::write(rt, alloc, keys, bounds, workers, out, gate),
+        Task::Explain {
+            keys,
+            bounds,
+            workers,
+        } => explain::write(rt, alloc, keys, bounds, workers, out, gate),
         Task::Query {
             keys,
             bounds,
+            workers,
             questions,
             windows,
-        } => query::write(alloc, keys, bounds, &questions, windows, out),
+        } => query::write(
+            rt, alloc, keys, bounds, workers, &questions, windows, out, gate,
+        ),
     }
 }

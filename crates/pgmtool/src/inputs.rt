@@ -9,7 +9,7 @@ ghost use Rattle.pgmtool.specs.Inputs.{questions_in};
 ghost use Rattle.pgmtool.specs.Stops.{Answers};
 
 use crate::refusal::{Refusal, Stopped};
-use crate::task::{Bounds, SortedKeys, Task};
+use crate::task::{Bounds, SortedKeys, Task, Workers};
 use command_line::{Building, Request};
 use edge::Shelf;
 use pgm_script::{ScriptKind, ScriptLine, parse, read_text};
@@ -36,12 +36,22 @@ pub fn read<F: Shelf>(alloc: Global, files: &mut F, request: Request<'_>) -> Res
         Request::Build { building } => {
             let keys = index_keys(alloc, files, building)?;
             let bounds = bounds_in(building);
-            Ok(Task::Build { keys, bounds })
+            let workers = workers_in(building);
+            Ok(Task::Build {
+                keys,
+                bounds,
+                workers,
+            })
         }
         Request::Explain { building } => {
             let keys = index_keys(alloc, files, building)?;
             let bounds = bounds_in(building);
-            Ok(Task::Explain { keys, bounds })
+            let workers = workers_in(building);
+            Ok(Task::Explain {
+                keys,
+                bounds,
+                workers,
+            })
         }
         Request::Query {
             building,
@@ -52,9 +62,11 @@ pub fn read<F: Shelf>(alloc: Global, files: &mut F, request: Request<'_>) -> Res
             let lines = script_lines(alloc, files, script, ScriptKind::Find)?;
             let questions = questions_in(alloc, &lines)?;
             let bounds = bounds_in(building);
+            let workers = workers_in(building);
             Ok(Task::Query {
                 keys,
                 bounds,
+                workers,
                 questions,
                 windows,
             })
@@ -68,6 +80,12 @@ fn bounds_in(building: Building<'_>) -> Bounds
     Bounds {
         eps: building.eps,
         eps_rec: building.eps_rec,
+    }
+}
+
+fn workers_in(building: Building<'_>) -> Workers {
+    Workers {
+        count: building.workers,
     }
 }
 

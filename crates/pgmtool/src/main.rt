@@ -1,13 +1,17 @@
-//! `pgmtool` writes what a PGM-index over a key file is, as text.
+//! `pgmtool` builds a PGM-index over a key file, writes it as text, and answers questions by it.
 //!
-//! `pgmtool explain FILE --eps E` reads a file of 64-bit keys and writes level 0: how many segments
-//! the keys need where each key's predicted place is at most E off, and each segment, with three
-//! places that show why it ends. Of the keys 0, 1, 2, 10 with E = 0:
+//! `pgmtool build FILE` writes how many levels the index has and how many segments each level,
+//! `pgmtool explain FILE` each segment too, with three places that show why it ends, and
+//! `pgmtool query FILE SCRIPT` how many keys are below each question of the script. Of the keys 0,
+//! 1, 2, 10, `explain` writes with both error bounds 0:
 //!
 //! ```text
+//! keys 4 distinct 4 levels 2
 //! level 0 list 4 eps 0 runs 2
 //! run 0 3 pair 0 1 line 0 0 1 1 cut under 0 1 3
 //! run 3 4 pair 3 3 line 10 3 0 1 end
+//! level 1 list 2 eps 0 runs 1
+//! run 0 2 pair 0 1 line 0 0 1 10 end
 //! ```
 //!
 //! Everything that is claimed of the program stands on [`run`]. The words of its clauses are in
@@ -29,6 +33,7 @@ pub use status::Status;
 use std::alloc::AllocError;
 use std::process::ExitCode;
 use std::rt::{Env, Files};
+use std::thread::Threads;
 use std::{env, io};
 
 // Bytes gathered before they are written.
@@ -39,8 +44,8 @@ fn main(rt: HostRuntime) -> ExitCode {
 }
 
 // Makes the real objects, and calls `run`.
-fn execute<R: AllocGlobal + Env + Files + Print>(rt: &R) -> Status {
-    let Ok(words) = command_line(rt) else {
+fn execute<R: AllocGlobal + Env + Files + Print + Threads + Sync>(rt: &R) -> Status {
+    let Ok(words) = words_of(rt) else {
         return Status::NoMemory;
     };
     let Ok(mut out) = OutSink::new(rt.alloc(), io::writer(rt), BUFFER) else {
@@ -55,7 +60,7 @@ fn execute<R: AllocGlobal + Env + Files + Print>(rt: &R) -> Status {
 }
 
 // The words of the command line. Where one isn't text there are none, which is no command.
-fn command_line<R: AllocGlobal + Env>(rt: &R) -> Result<Vec<String>, AllocError> {
+fn words_of<R: AllocGlobal + Env>(rt: &R) -> Result<Vec<String>, AllocError> {
     match env::args(rt) {
         Ok(words) => words.collect(rt.alloc()),
         Err(error) if error.kind() == io::ErrorKind::OutOfMemory => Err(AllocError),

@@ -18,14 +18,15 @@ use crate::inputs::read;
 use crate::refusal::{Refusal, Stopped, refuse};
 use command_line::{NoRequest, requested};
 use edge::{Gate, Shelf, Sink};
+use std::thread::Threads;
 use written::Unfinished;
 
 /// Does what the words ask for, and writes the answer's text.
 ///
 /// `words` begins with the program's name. All reading is done before anything is written. Each
 /// text line is handed to the sink as one piece, and what it left of it again. Returns the status
-/// that the program ends with.
-pub fn run<R: AllocGlobal, F: Shelf, S: Sink, G: Gate>(
+/// that the program ends with. Threads that build an index pass the gate.
+pub fn run<R: AllocGlobal + Threads + Sync, F: Shelf, S: Sink, G: Gate>(
     rt: &R,
     words: &[String],
     files: &mut F,
@@ -76,14 +77,13 @@ pub fn run<R: AllocGlobal, F: Shelf, S: Sink, G: Gate>(
         → (result ≡ Status.Usage) ⊎ (result ≡ Status.NoMemory) }
     ensures usage_reads_nothing { result ≡ Status.Usage → files.new ≡ files.old }
 {
-    let _ = gate;
     let request = match requested(rt.alloc(), words) {
         Ok(request) => request,
         Err(NoRequest::Usage) => return refuse(out, Refusal::Usage),
         Err(NoRequest::NoMemory) => return Status::NoMemory,
     };
     match read(rt.alloc(), files, request) {
-        Ok(task) => match write(rt.alloc(), task, out) {
+        Ok(task) => match write(rt, rt.alloc(), task, out, gate) {
             Ok(()) => Status::Done,
             Err(Unfinished::WriteFault) => Status::WriteFault,
             Err(Unfinished::NoMemory) => Status::NoMemory,

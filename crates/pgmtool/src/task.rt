@@ -22,6 +22,14 @@ pub struct Bounds {
     pub ghost bounded_above: { eps_rec ≤ MAX_EPSILON },
 }
 
+/// How many workers build an index, from 1 to 64. No text depends on it.
+#[derive(Clone, Copy, Debug)]
+pub struct Workers {
+    pub count: u32,
+    pub ghost staffed: { 1 ≤ count },
+    pub ghost few: { count ≤ 64 },
+}
+
 /// A command, with its inputs and its options.
 #[derive(Drop)]
 pub enum Task {
@@ -29,16 +37,19 @@ pub enum Task {
     Build {
         keys: SortedKeys,
         bounds: Bounds,
+        workers: Workers,
     },
     /// Write the same, and each run.
     Explain {
         keys: SortedKeys,
         bounds: Bounds,
+        workers: Workers,
     },
     /// Write the position of each question's key, and, where asked for, the windows searched.
     Query {
         keys: SortedKeys,
         bounds: Bounds,
+        workers: Workers,
         questions: Vec<u64>,
         windows: bool,
     },

@@ -4,6 +4,7 @@ use edge::{FileShelf, MemShelf, MemSink, OpenGate, OutSink, Shelf, Sink};
 use std::fs;
 use std::process::Abort;
 use std::test::Fail;
+use std::thread::Threads;
 
 mod build;
 mod explain;
@@ -39,7 +40,10 @@ struct Given<'a> {
 }
 
 // What a run says and writes.
-fn outcome<R: AllocGlobal>(rt: &R, given: Given<'_>) -> Result<(Status, Vec<u8>), Fail> {
+fn outcome<R: AllocGlobal + Threads + Sync>(
+    rt: &R,
+    given: Given<'_>,
+) -> Result<(Status, Vec<u8>), Fail> {
     let mut words = Vec::new(rt.alloc());
     words.push(String::from_str(rt.alloc(), "pgmtool")?)?;
     for word in given.words {
@@ -70,7 +74,7 @@ fn outcome<R: AllocGlobal>(rt: &R, given: Given<'_>) -> Result<(Status, Vec<u8>)
 }
 
 // Fails with the row's name. The text is given line by line.
-fn check<R: AllocGlobal + Abort>(
+fn check<R: AllocGlobal + Abort + Threads + Sync>(
     rt: &R,
     name: &str,
     given: Given<'_>,
@@ -89,7 +93,7 @@ fn check<R: AllocGlobal + Abort>(
 }
 
 // What is written by whole devices and by such that move a byte at a time.
-fn check_text<'a, R: AllocGlobal + Abort>(
+fn check_text<'a, R: AllocGlobal + Abort + Threads + Sync>(
     rt: &R,
     name: &str,
     words: &'a [&'a str],

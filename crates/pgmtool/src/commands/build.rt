@@ -8,23 +8,27 @@ ghost use Rattle.pgmtool.specs.Commands.Indexing.{tells_levels};
 ghost use Rattle.pgmtool.specs.Commands.Build.{IsBuilt, built_level};
 
 use crate::commands::indexing::{fill_level_line, index_of, write_keys};
-use crate::task::{Bounds, SortedKeys};
-use edge::{Failed, Sink};
+use crate::task::{Bounds, SortedKeys, Workers};
+use edge::{Failed, Gate, Sink};
 use levels::Index;
 use std::alloc::Global;
+use std::thread::Threads;
 use written::{TextLine, Unfinished, hand_over};
 
 /// Writes the index of the keys: how many keys and levels, and of each level how many runs.
-pub fn write<S: Sink>(
+pub fn write<R: Threads + Sync, S: Sink, G: Gate>(
+    rt: &R,
     alloc: Global,
     sorted: SortedKeys,
     bounds: Bounds,
+    workers: Workers,
     out: &mut S,
+    gate: &G,
 ) -> Result<(), Unfinished>
     ensures { WritesText S.Sink out.old result out.new
         (IsBuilt sorted.keys.items (bounds_of bounds)) }
 {
-    let index = index_of(alloc, sorted, bounds)?;
+    let index = index_of(rt, alloc, sorted, bounds, workers, gate)?;
     match write_index(out, &index, bounds) {
         Ok(()) => Ok(()),
         Err(_) => Err(Unfinished::WriteFault),

@@ -1,5 +1,6 @@
 // The command `explain`.
-ghost use Rattle.std.specs.Prelude.{◌≡◌, ◌∷◌, ◌<◌, ◌≤◌, ◌^◌, ◌+◌, ◌++◌, ℕ, length, drop, codes, decimal};
+ghost use Rattle.std.specs.Prelude.{◌≡◌, ◌∷◌, ◌<◌, ◌≤◌, ◌^◌, ◌+◌, ◌++◌, ℕ, length, drop, codes};
+ghost use Rattle.std.specs.Prelude.{decimal};
 ghost use Rattle.std.specs.Prelude.{OnOk, OnErr};
 ghost use Rattle.std.specs.Fmt.{signed_decimal};
 ghost use Rattle.std.specs.List.{flat_map};
@@ -15,24 +16,28 @@ ghost use Rattle.pgmtool.specs.Commands.Explain.{IsExplained, level_lines, endin
 ghost use Rattle.pgmtool.specs.Commands.Explain.{run_line, run_lines};
 
 use crate::commands::indexing::{fill_level_line, index_of, write_keys};
-use crate::task::{Bounds, SortedKeys};
-use edge::{Failed, Sink};
+use crate::task::{Bounds, SortedKeys, Workers};
+use edge::{Failed, Gate, Sink};
 use exact_cross::{Line, Segment, Side, Witness};
 use levels::Index;
 use std::alloc::Global;
+use std::thread::Threads;
 use written::{LINE_ROOM, TextLine, Unfinished, hand_over};
 
 /// Writes the index of the keys: how many keys and levels, and each level with its runs.
-pub fn write<S: Sink>(
+pub fn write<R: Threads + Sync, S: Sink, G: Gate>(
+    rt: &R,
     alloc: Global,
     sorted: SortedKeys,
     bounds: Bounds,
+    workers: Workers,
     out: &mut S,
+    gate: &G,
 ) -> Result<(), Unfinished>
     ensures { WritesText S.Sink out.old result out.new
         (IsExplained sorted.keys.items (bounds_of bounds)) }
 {
-    let index = index_of(alloc, sorted, bounds)?;
+    let index = index_of(rt, alloc, sorted, bounds, workers, gate)?;
     match write_index(out, &index, bounds) {
         Ok(()) => Ok(()),
         Err(_) => Err(Unfinished::WriteFault),

@@ -5,36 +5,24 @@ ghost use Rattle.written.specs.Writing.{Writes, BreaksOff};
 ghost use Rattle.pgmtool.specs.Tasks.{bounds_of};
 ghost use Rattle.pgmtool.specs.Commands.Indexing.{keys_line, level_line, level_line_of};
 
-use crate::task::{Bounds, SortedKeys};
-use budget::{NoMemory, Steps};
-use edge::{Failed, Sink};
+use crate::task::{Bounds, SortedKeys, Workers};
+use budget::NoMemory;
+use edge::{Failed, Gate, Sink};
 use levels::{Index, Keys};
+use piece_join::uneven_cuts;
 use std::alloc::Global;
-use std::marker::Brand;
-use std::sync::ledger::{Blank, Ledger};
+use std::thread::Threads;
 use written::{TextLine, hand_over};
 
-/// The index of the keys.
-pub fn index_of(alloc: Global, sorted: SortedKeys, bounds: Bounds) -> Result<Index, NoMemory>
-    ensures keys { IfOk result (λ index. index.keys ≡ sorted.keys.items) }
-    ensures eps { IfOk result (λ index. index.eps ≡ bounds.eps) }
-    ensures eps_rec { IfOk result (λ index. index.eps_rec ≡ bounds.eps_rec) }
-    ensures index { IfOk result
-        (λ index. IsIndex sorted.keys.items bounds.eps bounds.eps_rec index.levels) }
-{
-    counted::<Brand>(alloc, sorted, bounds, Blank::new(1))
-}
-
-// The same, with a counter of its own.
-fn counted<L: Ledger>(
+/// The index of the keys, level 0 of which is built in pieces by the workers.
+pub fn index_of<R: Threads + Sync, G: Gate>(
+    rt: &R,
     alloc: Global,
     sorted: SortedKeys,
     bounds: Bounds,
-    blank: Blank,
+    workers: Workers,
+    gate: &G,
 ) -> Result<Index, NoMemory>
-    requires name { blank.name ≡ L.name }
-    requires parts { blank.parts ≡ L.parts }
-    requires one { blank.parts ≡ 1 }
     ensures keys { IfOk result (λ index. index.keys ≡ sorted.keys.items) }
     ensures eps { IfOk result (λ index. index.eps ≡ bounds.eps) }
     ensures eps_rec { IfOk result (λ index. index.eps_rec ≡ bounds.eps_rec) }
@@ -42,8 +30,18 @@ fn counted<L: Ledger>(
         (λ index. IsIndex sorted.keys.items bounds.eps bounds.eps_rec index.levels) }
 {
     let keys = Keys::of(alloc, sorted.keys)?;
-    let mut steps = Steps::<L>::new(blank);
-    Index::build_here(alloc, keys, bounds.eps, bounds.eps_rec, &mut steps)
+    let points = keys.xs().len() as u32;
+    let cuts = uneven_cuts(alloc, points, workers.count)?;
+    Index::build(
+        rt,
+        alloc,
+        keys,
+        bounds.eps,
+        bounds.eps_rec,
+        &cuts,
+        workers.count,
+        gate,
+    )
 }
 
 /// Writes how many keys there are, how many distinct ones, and how many levels.

@@ -10,10 +10,11 @@ ghost use Rattle.pgmtool.specs.Commands.Query.{IsAnswered, TellsAnswer, TellsAns
 ghost use Rattle.pgmtool.specs.Commands.Query.{TellsWindows, window_line, window_lines};
 
 use crate::commands::indexing::index_of;
-use crate::task::{Bounds, SortedKeys};
-use edge::{Failed, Sink};
+use crate::task::{Bounds, SortedKeys, Workers};
+use edge::{Failed, Gate, Sink};
 use levels::Index;
 use std::alloc::Global;
+use std::thread::Threads;
 use written::{TextLine, Unfinished, hand_over};
 
 // A level, and the first and the last place that is searched there.
@@ -23,18 +24,21 @@ type Window = (u32, u32, u32);
 ///
 /// All memory is taken before the first byte: for the index, the positions, and the windows of one
 /// question.
-pub fn write<S: Sink>(
+pub fn write<R: Threads + Sync, S: Sink, G: Gate>(
+    rt: &R,
     alloc: Global,
     sorted: SortedKeys,
     bounds: Bounds,
+    workers: Workers,
     questions: &[u64],
     windows: bool,
     out: &mut S,
+    gate: &G,
 ) -> Result<(), Unfinished>
     ensures { WritesText S.Sink out.old result out.new
         (IsAnswered sorted.keys.items (bounds_of bounds) questions.now windows) }
 {
-    let index = index_of(alloc, sorted, bounds)?;
+    let index = index_of(rt, alloc, sorted, bounds, workers, gate)?;
     let mut positions = Vec::with_capacity(alloc, questions.len())?;
     let mut room = Vec::with_capacity(alloc, index.levels() as usize)?;
     index.positions(questions, &mut positions);

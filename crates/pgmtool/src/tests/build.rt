@@ -40,8 +40,19 @@ const ROWS: [Row; 3] = [
 fn rows_have_their_text(rt: HostRuntime) -> Result<(), Fail> {
     for row in ROWS {
         let keys = key_file(&rt, row.keys)?;
-        let words = ["build", "keys", "--eps", "0", "--rec", "0"];
-        check_text(&rt, row.name, &words, &keys, b"", row.text)?;
+        for workers in ["1", "2", "3", "64"] {
+            let words = [
+                "build",
+                "keys",
+                "--eps",
+                "0",
+                "--rec",
+                "0",
+                "--workers",
+                workers,
+            ];
+            check_text(&rt, row.name, &words, &keys, b"", row.text)?;
+        }
     }
     Ok(())
 }

@@ -1,8 +1,8 @@
 // Questions answered by hand: what `query` writes.
 use super::*;
 
-// Keys, the error bound of level 0, a script, and the text with the windows. The bound of the levels
-// above is 0.
+// Keys, the error bound of level 0, a script, and the text with the windows. The bound of the
+// levels above is 0.
 #[derive(Clone, Copy)]
 struct Row {
     name: &'static str,

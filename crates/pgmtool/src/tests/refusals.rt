@@ -1,8 +1,8 @@
 // What each refusal writes, and how the program ends.
 use super::*;
 
-// Words, the bytes of the files `keys` and `script`, which call of the shelf and which of the sink fails, and
-// what comes.
+// Words, the bytes of the files `keys` and `script`, which call of the shelf and which of the sink
+// fails, and what comes.
 #[derive(Clone, Copy)]
 struct Row {
     name: &'static str,

@@ -1,5 +1,4 @@
-use Rattle.std.proofs.Common.{◌≡◌, ◌∙◌, ap, sym, rules}
-use Rattle.std.specs.Prelude.{option_map, codes}
+use Rattle.std.proofs.Common.{sym}
 use Rattle.clap.specs.Words.{found_of, rows_of}
 use Rattle.command_line.proofs.TakenWords.{is_met, has_index_options, has_windows}
 use Rattle.command_line.proofs.words.request_in.Goals as goal

@@ -1,9 +1,9 @@
-use Rattle.std.proofs.Common.{◌≡◌, ◌∙◌, ap, map, sym}
+use Rattle.std.proofs.Common.{◌≡◌, ◌∙◌, ap, map, sym, subst, inl, inr, true, false}
 use Rattle.std.specs.Prelude.{option_and_then}
 use Rattle.std.specs.String.{string_bytes}
-use Rattle.clap.specs.Words.{App, is_simple, subcommand_of}
+use Rattle.clap.specs.Words.{App, HasKind, Kinds, fault_of, is_simple, is_simple_and_free, subcommand_of}
 use Rattle.command_line.specs.Requests.{request_for}
-use Rattle.command_line.proofs.TakenWords.{is_simple_application, never_refused}
+use Rattle.command_line.proofs.TakenWords.{is_free_application, is_simple_application, never_refused}
 use Rattle.command_line.proofs.words.requested.Goals as goal
 
 -- what was found is a request, since the words are taken
@@ -14,3 +14,29 @@ returns-in-Ok-clause-usage c usage taken =
     let rows = (c.in-Ok.ensures.matches (ap is_simple same ∙ is_simple_application)).1 ∙ ap (λ (a : App). subcommand_of a words) same in
     never_refused words c.request_in.result _ taken (c.request_in.ensures ∙ ap (option_and_then (λ p. request_for p.0 p.1)) rows)
     (sym c.ok_or.ensures.value ∙ usage)
+
+-- the words are taken where there are matches
+pub request_in-requires : goal.request_in-requires
+request_in-requires c =
+    let words = map string_bytes c.args.words.now in
+    let same = c.in_ok-program.ensures in
+    let free = ap is_simple_and_free same ∙ is_free_application in (
+      words,
+      sym (ap (λ (a : App). fault_of a words) same) ∙ c.in-Ok.ensures.kinds free,
+      (c.in-Ok.ensures.matches (ap is_simple same ∙ is_simple_application)).1 ∙ ap (λ (a : App). subcommand_of a words) same,
+    )
+
+-- an error that is no want of memory is a fault of the words
+pub returns-clause-usage : goal.returns-clause-usage
+returns-clause-usage c usage taken =
+    let words = map string_bytes c.args.words.now in
+    let same = c.in_ok-program.ensures in
+    let free = ap is_simple_and_free same ∙ is_free_application in
+    let none = ap (λ (a : App). fault_of a words) same ∙ taken in
+    elim (subst (λ (k : Kinds). HasKind k c.in-Err.error) none (c.in-Err.ensures.kinds free)) [
+      | inl memory ↦
+          let is = c.kind.ensures ∙ memory in
+          let bad : true ≡ false = sym (rw is at c.eq.ensures) ∙ c.if-eq.false in
+          cc
+      | inr among ↦ absurd among
+    ]
