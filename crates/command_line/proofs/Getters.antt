@@ -40,26 +40,29 @@ flag_read f id given none set_true other flag = go (one_of id (rows_of f)) refl
 
 -- a number in its range, as it is parsed
 module _ {E : Type 0} (G : List ℕ → Result ℕ E → Type 0) (only : (text : List ℕ) (r : Result ℕ E) → G text r → ParsesUnsigned 32 10 text r) where
-  pub number_read : (f : Found) (id : Text) (r : Option ℕ) (least most : ℕ) → most < 4294967296 → IsNumberIn least most id (rows_of f) →
+  pub number_read : (f : Found) (id : Text) (default : ℕ) (r : Option ℕ) (least most : ℕ) → most < 4294967296 → IsNumberIn least most id (rows_of f) →
       (one_text f id ≡ None → r ≡ None) → ((t : List ℕ) → one_text f id ≡ Some t → ReadsOne G t r) →
-      (unwrap_or r 0 ≡ number_in id (rows_of f)) × (unwrap_or r 0 ≤ most)
-  number_read f id r least most small number none value = go (one_of id (rows_of f)) refl
+      (unwrap_or r default ≡ number_in id default (rows_of f)) × (least ≤ default → default ≤ most → (least ≤ unwrap_or r default) × (unwrap_or r default ≤ most))
+  number_read f id default r least most small number none value = go (one_of id (rows_of f)) refl
     where
       is_rows : one_text f id ≡ one_of id (rows_of f)
       is_rows = one_text-rows f id
 
-      read : (t : Text) (n : ℕ) → r ≡ Some n → ReadsOne G t r → unwrap_or r 0 ≡ digits_value 10 (without_leading_plus t)
+      read : (t : Text) (n : ℕ) → r ≡ Some n → ReadsOne G t r → unwrap_or r default ≡ digits_value 10 (without_leading_plus t)
       read t n is reads =
           let parsed = only t (Ok n) (subst (ReadsOne G t) is reads) in
-          ap (λ (o : Option ℕ). unwrap_or o 0) is ∙ parsed.1
+          ap (λ (o : Option ℕ). unwrap_or o default) is ∙ parsed.1
 
       go : (o : Option Text) → one_of id (rows_of f) ≡ o →
-          (unwrap_or r 0 ≡ option_map_or (λ t. digits_value 10 (without_leading_plus t)) o 0) × (unwrap_or r 0 ≤ most)
+          (unwrap_or r default ≡ option_map_or (λ t. digits_value 10 (without_leading_plus t)) o default)
+          × (least ≤ default → default ≤ most → (least ≤ unwrap_or r default) × (unwrap_or r default ≤ most))
       go None is =
-          let nothing : unwrap_or r 0 ≡ 0 = ap (λ (o : Option ℕ). unwrap_or o 0) (none (is_rows ∙ is)) in
-          (nothing, omega (arith, nothing))
+          let nothing : unwrap_or r default ≡ default = ap (λ (o : Option ℕ). unwrap_or o default) (none (is_rows ∙ is)) in
+          (nothing, λ low high. (omega (arith, nothing, low), omega (arith, nothing, high)))
       go (Some t) is =
           let passed = number t is in
           let reads = value t (is_rows ∙ is) in
-          let got = signed_reads E G 32 least most passed.0 r (subst (λ (u : List ℕ). ReadsOne G u r) passed.1 reads) only small passed.2 in
-          (read t got.0 got.1 reads, subst (λ (o : Option ℕ). unwrap_or o 0 ≤ most) (sym got.1) got.3)
+          let got = signed_reads E G 32 least most passed.0 r (subst (λ (u : List ℕ). ReadsOne G u r) passed.1 reads) only small passed.2 in (
+            read t got.0 got.1 reads,
+            λ low high. subst (λ (o : Option ℕ). (least ≤ unwrap_or o default) × (unwrap_or o default ≤ most)) (sym got.1) (got.2, got.3),
+          )

@@ -40,9 +40,13 @@ build_rules = index_rules ++ flag (codes "narrow") ∷ []
 abbrev pub query_rules : List Rule
 query_rules = build_rules ++ positional (codes "SCRIPT") ∷ flag (codes "windows") ∷ []
 
+-- a file of points with so many coordinates each, and a script of boxes
+abbrev pub box_rules : List Rule
+box_rules = positional (codes "FILE") ∷ positional (codes "SCRIPT") ∷ number (codes "dims") 2 4 (codes "2") ∷ []
+
 abbrev pub commands : List Shape
 commands = command (codes "build") build_rules ∷ command (codes "explain") build_rules
-    ∷ command (codes "query") query_rules ∷ []
+    ∷ command (codes "query") query_rules ∷ command (codes "box") box_rules ∷ []
 
 -- the program: one of its commands has to be given, and it tells no help and no version
 abbrev pub application : App

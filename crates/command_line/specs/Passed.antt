@@ -30,6 +30,10 @@ IsNumberIn low high id rows = (text : Text) → one_of id rows ≡ Some text →
 abbrev pub IsFlag : Text → List Row → Type 0
 IsFlag id rows = (text : Text) → one_of id rows ≡ Some text → (text ≡ codes "true") ⊎ (text ≡ codes "false")
 
+-- what the option of a search in points holds
+abbrev pub IsDimensionOption : List Row → Type 0
+IsDimensionOption rows = IsNumberIn 2 4 (codes "dims") rows
+
 -- what the options of an index hold
 pub record AreIndexOptions (rows : List Row) : Type 0 where
   pub eps : IsNumberIn 0 MAX_EPSILON (codes "eps") rows

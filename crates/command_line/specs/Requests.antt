@@ -4,6 +4,7 @@ use Rattle.std.specs.Option.{option_map_or}
 use Rattle.std.specs.Str.Parse.{digits_value, without_leading_plus}
 use Rattle.clap.specs.Words.{Text, Row, first_of, one_of}
 use Rattle.command_line.specs.declared.request.Building as declared_building
+use Rattle.command_line.specs.declared.request.Searching as declared_searching
 use Rattle.command_line.specs.declared.request.Request as declared
 use Rattle.command_line.specs.declared.request.Request.TheVariants as variant
 
@@ -14,15 +15,22 @@ pub record Building : Type 0 where
   pub eps : ℕ
   pub eps_rec : ℕ
 
+-- a file of points with `dims` coordinates each, and a script of boxes
+pub record Searching : Type 0 where
+  pub file : Text
+  pub script : Text
+  pub dims : ℕ
+
 -- each command, with the names of its files and its options
 pub data Request : Type 0 where
   build : (building : Building) → Request
   explain : (building : Building) → Request
   query : (building : Building) (script : Text) (windows : Bool) → Request
+  box : (searching : Searching) → Request
 
--- the number that an option has, the name, and whether a flag is given
-abbrev pub number_in : Text → List Row → ℕ
-number_in id rows = option_map_or (λ text. digits_value 10 (without_leading_plus text)) (one_of id rows) 0
+-- the number that an option has, or else its default; the name; and whether a flag is given
+abbrev pub number_in : Text → ℕ → List Row → ℕ
+number_in id default rows = option_map_or (λ text. digits_value 10 (without_leading_plus text)) (one_of id rows) default
 
 abbrev pub name_in : Text → List Row → Text
 name_in id rows = unwrap_or (first_of id rows) (codes "")
@@ -34,31 +42,44 @@ abbrev pub building_of : List Row → Building
 building_of rows = record {
   file = name_in (codes "FILE") rows;
   narrow = is_given (codes "narrow") rows;
-  eps = number_in (codes "eps") rows;
-  eps_rec = number_in (codes "rec") rows;
+  eps = number_in (codes "eps") 64 rows;
+  eps_rec = number_in (codes "rec") 4 rows;
 }
 
 abbrev pub query_of : List Row → Request
 query_of rows = query (building_of rows) (name_in (codes "SCRIPT") rows) (is_given (codes "windows") rows)
+
+abbrev pub searching_of : List Row → Searching
+searching_of rows = record {
+  file = name_in (codes "FILE") rows;
+  script = name_in (codes "SCRIPT") rows;
+  dims = number_in (codes "dims") 2 rows;
+}
 
 -- what a command asks for, by what was found for its arguments
 abbrev pub request_for : Text → List Row → Option Request
 request_for name rows =
     if bytes_eq name (codes "build") then Some (build (building_of rows))
     else (if bytes_eq name (codes "explain") then Some (explain (building_of rows))
-    else (if bytes_eq name (codes "query") then Some (query_of rows) else None))
+    else (if bytes_eq name (codes "query") then Some (query_of rows)
+    else (if bytes_eq name (codes "box") then Some (box (searching_of rows)) else None)))
 
 -- the request that the program's own type stands for
 abbrev pub built_of : declared_building.Building → Building
 built_of b = record { file = b.file.now; narrow = b.narrow; eps = b.eps; eps_rec = b.eps_rec }
 
+abbrev pub searched_of : declared_searching.Searching → Searching
+searched_of s = record { file = s.file.now; script = s.script.now; dims = s.dims }
+
 abbrev pub asked_of : declared.Request → Request
 asked_of (variant.Build building) = build (built_of building)
 asked_of (variant.Explain building) = explain (built_of building)
 asked_of (variant.Query building script windows) = query (built_of building) script.now windows
+asked_of (variant.Box searching) = box (searched_of searching)
 
 -- the file that is read first
 abbrev pub first_file : Request → Text
 first_file (build building) = building.file
 first_file (explain building) = building.file
 first_file (query building script windows) = building.file
+first_file (box searching) = searching.file

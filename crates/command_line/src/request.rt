@@ -21,6 +21,19 @@ pub struct Building<'a> {
     pub ghost few_workers: { workers ≤ 64 },
 }
 
+/// A file of points, and a script of boxes to search them.
+#[derive(Clone, Copy, Debug)]
+pub struct Searching<'a> {
+    /// The name of the file of points.
+    pub file: &'a str,
+    /// The name of the script.
+    pub script: &'a str,
+    /// How many coordinates each point has, from 2 to 4.
+    pub dims: u32,
+    pub ghost some: { 2 ≤ dims },
+    pub ghost few: { dims ≤ 4 },
+}
+
 /// A command, with the names of its files and its options.
 #[derive(Clone, Copy, Debug)]
 pub enum Request<'a> {
@@ -39,5 +52,9 @@ pub enum Request<'a> {
         script: &'a str,
         /// Write the windows that are searched, too.
         windows: bool,
+    },
+    /// Write the points in each box of a script.
+    Box {
+        searching: Searching<'a>,
     },
 }

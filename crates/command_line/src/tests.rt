@@ -111,7 +111,7 @@ struct Refused {
     words: &'static [&'static str],
 }
 
-const REFUSED: [Refused; 30] = [
+const REFUSED: [Refused; 36] = [
     Refused {
         name: "no command",
         words: &[],
@@ -197,6 +197,30 @@ const REFUSED: [Refused; 30] = [
         words: &["explain", "keys", "--windows"],
     },
     Refused {
+        name: "points without boxes",
+        words: &["box", "points"],
+    },
+    Refused {
+        name: "one coordinate",
+        words: &["box", "points", "script", "--dims", "1"],
+    },
+    Refused {
+        name: "five coordinates",
+        words: &["box", "points", "script", "--dims", "5"],
+    },
+    Refused {
+        name: "an error bound of boxes",
+        words: &["box", "points", "script", "--eps", "3"],
+    },
+    Refused {
+        name: "coordinates of a key file",
+        words: &["build", "keys", "--dims", "2"],
+    },
+    Refused {
+        name: "coordinates told twice",
+        words: &["box", "points", "script", "--dims", "2", "--dims", "2"],
+    },
+    Refused {
         name: "help as a command",
         words: &["help"],
     },
@@ -234,6 +258,14 @@ const REFUSED: [Refused; 30] = [
     },
 ];
 
+// Searches of the points `points` by the script `script`, and how many coordinates they ask for.
+const BOXES: [(&[&str], u32); 4] = [
+    (&["box", "points", "script"], 2),
+    (&["box", "points", "script", "--dims=2"], 2),
+    (&["box", "--dims", "3", "points", "script"], 3),
+    (&["box", "points", "--dims", "+04", "--", "script"], 4),
+];
+
 // The words as a program gets them.
 fn words_of<R: AllocGlobal>(rt: &R, words: &[&str]) -> Result<Vec<String>, Fail> {
     let mut all = Vec::new(rt.alloc());
@@ -250,6 +282,7 @@ fn is_asked(request: Request<'_>, asks: Asked) -> bool {
         Request::Build { building } => asks.command == "build" && is_index(building, asks),
         Request::Explain { building } => asks.command == "explain" && is_index(building, asks),
         Request::Query { building, .. } => asks.command == "query" && is_index(building, asks),
+        Request::Box { .. } => false,
     }
 }
 
@@ -293,5 +326,18 @@ fn questions_have_a_script(rt: HostRuntime) -> Result<(), Fail> {
         return Err(Fail::from("no query"));
     };
     assert_eq!(rt; (building.file, script, windows), ("-", "", true));
+    Ok(())
+}
+
+#[test]
+fn boxes_have_points_and_a_script(rt: HostRuntime) -> Result<(), Fail> {
+    for (words, dims) in BOXES {
+        let words = words_of(&rt, words)?;
+        let Request::Box { searching } = requested(rt.alloc(), &words)? else {
+            return Err(Fail::from("no box"));
+        };
+        let asked = (searching.file, searching.script, searching.dims);
+        assert_eq!(rt; asked, ("points", "script", dims));
+    }
     Ok(())
 }

@@ -6,12 +6,13 @@ ghost use Rattle.clap.specs.Words.{Text, found_of, rows_of, subcommand_of, subco
 ghost use Rattle.exact_cross.specs.declared.TheConstants.{MAX_EPSILON};
 ghost use Rattle.command_line.specs.Application.{application};
 ghost use Rattle.command_line.specs.Requests.{asked_of, building_of, built_of, is_given, name_in};
-ghost use Rattle.command_line.specs.Requests.{number_in, query_of, request_for};
+ghost use Rattle.command_line.specs.Requests.{number_in, query_of, request_for, searched_of};
+ghost use Rattle.command_line.specs.Requests.{searching_of};
 ghost use Rattle.command_line.specs.Words.{AreRefused, AreTaken, AskFor, request_of};
-ghost use Rattle.command_line.specs.Passed.{AreIndexOptions, IsFlag, IsNumberIn};
+ghost use Rattle.command_line.specs.Passed.{AreIndexOptions, IsDimensionOption, IsFlag, IsNumberIn};
 
 use crate::definition::application;
-use crate::request::{Building, Request};
+use crate::request::{Building, Request, Searching};
 use clap::ArgMatches;
 use clap::error::ErrorKind;
 use std::alloc::{AllocError, Global};
@@ -72,6 +73,9 @@ fn request_in<'a>(matches: &ArgMatches<'a>) -> Option<Request<'a>>
         Some(Request::Explain { building })
     } else if name == "query" {
         Some(query_in(found))
+    } else if name == "box" {
+        let searching = searching_in(found);
+        Some(Request::Box { searching })
     } else {
         None
     }
@@ -96,10 +100,20 @@ fn building_in<'a>(found: &ArgMatches<'a>) -> Building<'a>
     Building {
         file: name_in(found, "FILE"),
         narrow: is_given(found, "narrow"),
-        eps: number_in(found, "eps"),
-        eps_rec: number_in(found, "rec"),
-        // An option that isn't there would be 0; this one has a default.
-        workers: number_in(found, "workers").max(1),
+        eps: number_in(found, "eps", 64),
+        eps_rec: number_in(found, "rec", 4),
+        workers: number_in(found, "workers", 4),
+    }
+}
+
+fn searching_in<'a>(found: &ArgMatches<'a>) -> Searching<'a>
+    requires { IsDimensionOption (rows_of (found_of found.now)) }
+    ensures { searched_of result ≡ searching_of (rows_of (found_of found.now)) }
+{
+    Searching {
+        file: name_in(found, "FILE"),
+        script: name_in(found, "SCRIPT"),
+        dims: number_in(found, "dims", 2),
     }
 }
 
@@ -110,15 +124,16 @@ fn name_in<'a>(found: &ArgMatches<'a>, id: &str) -> &'a str
     found.get_str(id).unwrap_or("")
 }
 
-// The number of an option.
-fn number_in(found: &ArgMatches<'_>, id: &str) -> u32
+// The number of an option, or else its default.
+fn number_in(found: &ArgMatches<'_>, id: &str, default: u32) -> u32
     requires { (least most : ℕ) × (most < 2 ^ 32)
         × IsNumberIn least most id.now (rows_of (found_of found.now)) }
-    ensures value { result ≡ number_in id.now (rows_of (found_of found.now)) }
-    ensures most { (least most : ℕ) → most < 2 ^ 32
-        → IsNumberIn least most id.now (rows_of (found_of found.now)) → result ≤ most }
+    ensures value { result ≡ number_in id.now default (rows_of (found_of found.now)) }
+    ensures range { (least most : ℕ) → most < 2 ^ 32 → least ≤ default → default ≤ most
+        → IsNumberIn least most id.now (rows_of (found_of found.now))
+        → (least ≤ result) × (result ≤ most) }
 {
-    found.get_one::<u32>(id).unwrap_or(0)
+    found.get_one::<u32>(id).unwrap_or(default)
 }
 
 // Whether a flag is given.

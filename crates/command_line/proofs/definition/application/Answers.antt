@@ -32,5 +32,7 @@ returns c =
     let explain_is = ap top_of (c.in_ok-index_command-2.ensures.shape) in
     let second_is = c.in_ok-subcommand-2.ensures.shape c.in_ok-index_command-2.ensures.local ∙ added _ _ _ _ first_is explain_is in
     let query_is = ap top_of (c.in_ok-query_command.ensures.shape) in
-    IfOk-weaker c.subcommand-3.result _ _
-    (λ program h. h.shape c.in_ok-query_command.ensures.local ∙ added _ _ _ _ second_is query_is) c.subcommand-3.ensures
+    let third_is = c.in_ok-subcommand-3.ensures.shape c.in_ok-query_command.ensures.local ∙ added _ _ _ _ second_is query_is in
+    let box_is = ap top_of (c.in_ok-box_command.ensures.shape) in
+    IfOk-weaker c.subcommand-4.result _ _
+    (λ program h. h.shape c.in_ok-box_command.ensures.local ∙ added _ _ _ _ third_is box_is) c.subcommand-4.ensures
