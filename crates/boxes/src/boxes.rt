@@ -63,6 +63,7 @@ impl Boxes {
         requires points { ArePoints d points.now }
         ensures dims { IfOk result (λ boxes. boxes.dims ≡ d) }
         ensures codes { IfOk result (λ boxes. AreSortedCodes d points.now boxes.codes) }
+        ensures each { IfOk result (λ boxes. All (λ z. IsCode d z) boxes.codes) }
     {
         let codes = sorted_codes(rt, alloc, d, points)?;
         let keys = Keys::of(alloc, codes)?;

@@ -1,7 +1,3 @@
-pub mod RunLines
-pub mod LevelTexts
-pub mod AnswerTexts
-pub mod WritingLemmas
 pub mod TakenFiles
 pub mod InputLemmas
 pub mod KeyInputs

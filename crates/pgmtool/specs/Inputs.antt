@@ -15,8 +15,8 @@ use Rattle.pgmtool.specs.declared.refusal.Refusal.TheVariants.{ReadFault, TooLon
 use Rattle.pgmtool.specs.declared.inputs.TheConstants.{SCRIPT_LIMIT}
 use Rattle.pgmtool.specs.Files.{Files, HoldsOfFile, IsMissing, IsReadable}
 use Rattle.pgmtool.specs.Refusals.{refusal_of}
-use Rattle.pgmtool.specs.Tasks.{Bounds}
-use Rattle.pgmtool.specs.Tasks as tasks
+use Rattle.commands.specs.Tasks.{Bounds}
+use Rattle.commands.specs.Tasks as tasks
 
 -- what files define: a value, or a refusal
 abbrev pub Reading : Type 0 → Type 1

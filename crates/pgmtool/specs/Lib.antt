@@ -3,8 +3,6 @@ pub use Rattle.command_line.specs.Requests.{Request, first_file}
 pub mod Statuses
 pub mod Files
 pub mod Refusals
-pub mod Tasks
 pub mod Inputs
 pub mod Stops
-pub mod Commands
 pub mod Outcomes

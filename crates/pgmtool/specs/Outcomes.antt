@@ -9,9 +9,9 @@ use Rattle.pgmtool.specs.declared.status.Status.{Status}
 use Rattle.pgmtool.specs.declared.status.Status.TheVariants.{Done, WriteFault}
 use Rattle.pgmtool.specs.Files.{Files}
 use Rattle.pgmtool.specs.Refusals.{status_of}
-use Rattle.pgmtool.specs.Tasks.{Task}
+use Rattle.commands.specs.Tasks.{Task}
 use Rattle.pgmtool.specs.Inputs.{reads}
-use Rattle.pgmtool.specs.Commands.{IsText}
+use Rattle.commands.specs.Texts.{IsText}
 
 -- what there is to do, or why there is nothing: the words are judged first, then each input in turn
 pub data Defines (files : Files) (words : List (List ℕ)) : Result Task Refusal → Type 0 where

@@ -3,14 +3,14 @@ ghost use Rattle.std.specs.Prelude.{◌≡◌, ◌++◌, ◌∷◌, [], Err, IfO
 ghost use Rattle.pgm_script.specs.Scripts.{IsKind, IsLineOf};
 ghost use Rattle.command_line.specs.Requests.{asked_of, first_file, built_of};
 ghost use Rattle.pgmtool.specs.Files.{IsMissing};
-ghost use Rattle.pgmtool.specs.Tasks.{bounds_of, task_of};
+ghost use Rattle.commands.specs.Tasks.{bounds_of, task_of};
 ghost use Rattle.pgmtool.specs.Inputs.{reads, reads_index, reads_keys, reads_script, bounds_in};
 ghost use Rattle.pgmtool.specs.Inputs.{questions_in};
 ghost use Rattle.pgmtool.specs.Stops.{Answers};
 
 use crate::refusal::{Refusal, Stopped};
-use crate::task::{Bounds, SortedKeys, Task, Workers};
 use command_line::{Building, Request};
+use commands::{Bounds, SortedKeys, Task, Workers};
 use edge::Shelf;
 use pgm_script::{ScriptKind, ScriptLine, parse, read_text};
 use sosd_reader::read_keys;

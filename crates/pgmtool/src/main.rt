@@ -18,12 +18,10 @@
 //! `specs/`.
 #![tactic(auto)]
 
-mod commands;
 mod inputs;
 mod refusal;
 mod run;
 mod status;
-mod task;
 #[cfg(test)]
 mod tests;
 

@@ -7,16 +7,16 @@ ghost use Rattle.pgmtool.specs.declared.refusal.Refusal.{Refusal};
 ghost use Rattle.pgmtool.specs.Files.{IsMissing};
 ghost use Rattle.pgmtool.specs.Refusals.{refusal_line, status_of};
 ghost use Rattle.command_line.specs.Requests.{Request, first_file};
-ghost use Rattle.pgmtool.specs.Tasks.{Task};
 ghost use Rattle.command_line.specs.Words.{AreRefused, AskFor};
+ghost use Rattle.commands.specs.Tasks.{Task};
 ghost use Rattle.pgmtool.specs.Outcomes.{Defines, IsOutcome, IsCause, EndsAs};
 ghost use Rattle.pgmtool.specs.Outcomes.Outcome.{text};
 
 use crate::Status;
-use crate::commands::write;
 use crate::inputs::read;
 use crate::refusal::{Refusal, Stopped, refuse};
 use command_line::{NoRequest, requested};
+use commands::write;
 use edge::{Gate, Shelf, Sink};
 use std::thread::Threads;
 use written::Unfinished;

@@ -3,7 +3,7 @@ use Rattle.std.specs.String.{string_bytes}
 use Rattle.pgmtool.specs.declared.refusal.Refusal.TheVariants.{Usage}
 use Rattle.pgmtool.specs.declared.status.Status.TheVariants as ends
 use Rattle.command_line.specs.Requests.{asked_of}
-use Rattle.pgmtool.specs.Tasks.{task_of}
+use Rattle.commands.specs.Tasks.{task_of}
 use Rattle.pgmtool.specs.Outcomes.Defines.{no_command, asked}
 use Rattle.pgmtool.proofs.OutcomeLemmas.{it_ends, refused_ends, stopped_cause, stopped_ends}
 use Rattle.pgmtool.proofs.run.run.Goals as goal

@@ -1,0 +1,6 @@
+pub mod RunLines
+pub mod LevelTexts
+pub mod InTurnLemmas
+pub mod AnswerTexts
+pub mod SearchLemmas
+pub mod WritingLemmas

@@ -1,0 +1,34 @@
+use Rattle.std.proofs.Common.{◌≡◌, ◌+◌, ◌<◌, [], ◌∷◌, ◌++◌, ◌∙◌, ap, sym, drop, drop-cons, add-one, get_or, length, arith, ℕ, List}
+use Rattle.std.proofs.lemmas.List.{drop_all}
+use Rattle.written.proofs.CallerLemmas.{written_none, written_more, written_all, breaks_off_there}
+use Rattle.commands.specs.Texts.Query.{window_line, window_lines}
+use Rattle.commands.proofs.WritingLemmas.{on_err}
+use Rattle.commands.proofs.query.write_windows.Goals as goal
+
+-- what is left begins with the piece of this window
+begins : (windows : List (ℕ × ℕ × ℕ)) (i : ℕ) (d : ℕ × ℕ × ℕ) (piece : List ℕ) → i < length windows →
+    piece ≡ window_line (get_or windows i d).0 (get_or windows i d).1 (get_or windows i d).2 →
+    window_lines (drop i windows) ≡ (piece ∷ []) ++ window_lines (drop (i + 1) windows)
+begins windows i d piece there is =
+    ap window_lines (drop-cons windows i d there ∙ ap (λ (n : ℕ). get_or windows i d ∷ drop n windows) (sym (add-one i)))
+    ∙ ap (λ (line : List ℕ). line ∷ window_lines (drop (i + 1) windows)) (sym is)
+
+pub loop-i-init : goal.loop-i-init
+loop-i-init g c = written_none g.S.Sink c.args.out.now (window_lines c.args.windows.now)
+
+pub loop-i-preserved : goal.loop-i-preserved
+loop-i-preserved g c =
+    let piece = c.as_bytes.result.now in
+    written_more g.S.Sink c.args.out.now c.loop-i.out c.hand_over.new.out _ _ _ (piece ∷ [])
+    (begins c.args.windows.now c.loop-i.i (0, 0, 0) piece (omega arith) (c.as_bytes.ensures ∙ c.fill_window_line.ensures)) c.in_ok-hand_over.ensures.ok c.loop-i.invariant
+
+pub returns-in_err-hand_over-clause-err : goal.returns-in_err-hand_over-clause-err
+returns-in_err-hand_over-clause-err g c =
+    let piece = c.as_bytes.result.now in
+    on_err c.from_residual.result _
+    (breaks_off_there g.S.Sink c.args.out.now c.loop-i.out c.hand_over.new.out _ _ _ (piece ∷ [])
+    (begins c.args.windows.now c.loop-i.i (0, 0, 0) piece (omega arith) (c.as_bytes.ensures ∙ c.fill_window_line.ensures)) c.in_err-hand_over.ensures.err c.loop-i.invariant)
+
+pub returns-clause-ok : goal.returns-clause-ok
+returns-clause-ok g c =
+    written_all g.S.Sink c.args.out.now c.loop-i.out _ _ (ap window_lines (drop_all c.loop-i.i c.args.windows.now (omega arith))) c.loop-i.invariant

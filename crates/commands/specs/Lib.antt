@@ -1,0 +1,3 @@
+pub mod PointRegions
+pub mod Tasks
+pub mod Texts

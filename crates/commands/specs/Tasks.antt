@@ -1,0 +1,29 @@
+-- What there is to do when all inputs are read.
+use Rattle.std.specs.Prelude.{ℕ, Bool, List}
+use Rattle.zorder.specs.declared.regions.Region.{Region}
+use Rattle.commands.specs.declared.task.Bounds as declared_bounds
+use Rattle.commands.specs.declared.task.Task as declared
+use Rattle.commands.specs.declared.task.Task.TheVariants as variant
+
+-- the error bounds of an index: that of level 0, and that of the levels above
+pub record Bounds : Type 0 where
+  pub eps : ℕ
+  pub eps_rec : ℕ
+
+-- each command, with its inputs and its options
+pub data Task : Type 0 where
+  build : (keys : List ℕ) (bounds : Bounds) → Task
+  explain : (keys : List ℕ) (bounds : Bounds) → Task
+  query : (keys : List ℕ) (bounds : Bounds) (questions : List ℕ) (windows : Bool) → Task
+  box : (d : ℕ) (coords : List ℕ) (regions : List Region) → Task
+
+-- the task that the program's own type stands for
+abbrev pub bounds_of : declared_bounds.Bounds → Bounds
+bounds_of b = record { eps = b.eps; eps_rec = b.eps_rec }
+
+abbrev pub task_of : declared.Task → Task
+task_of (variant.Build keys bounds workers) = build keys.keys.items (bounds_of bounds)
+task_of (variant.Explain keys bounds workers) = explain keys.keys.items (bounds_of bounds)
+task_of (variant.Query keys bounds workers questions windows) =
+    query keys.keys.items (bounds_of bounds) questions.items windows
+task_of (variant.Box search) = box search.dims search.coords.items search.regions.items

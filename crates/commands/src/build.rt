@@ -1,0 +1,73 @@
+// The command `build`.
+ghost use Rattle.std.specs.Prelude.{◌≡◌, ◌∷◌, [], ℕ, length, OnOk, OnErr};
+ghost use Rattle.std.specs.List.{flat_map};
+ghost use Rattle.exact_cross.specs.Points.{places};
+ghost use Rattle.written.specs.Writing.{Writes, BreaksOff, WritesText};
+ghost use Rattle.commands.specs.Tasks.{bounds_of};
+ghost use Rattle.commands.specs.Texts.Indexing.{tells_levels};
+ghost use Rattle.commands.specs.Texts.Build.{IsBuilt, built_level};
+
+use crate::indexing::{fill_level_line, index_of, write_keys};
+use crate::task::{Bounds, SortedKeys, Workers};
+use edge::{Failed, Gate, Sink};
+use levels::Index;
+use std::alloc::Global;
+use std::thread::Threads;
+use written::{TextLine, Unfinished, hand_over};
+
+/// Writes the index of the keys: how many keys and levels, and of each level how many runs.
+pub fn write<R: Threads + Sync, S: Sink, G: Gate>(
+    rt: &R,
+    alloc: Global,
+    sorted: SortedKeys,
+    bounds: Bounds,
+    workers: Workers,
+    out: &mut S,
+    gate: &G,
+) -> Result<(), Unfinished>
+    ensures { WritesText S.Sink out.old result out.new
+        (IsBuilt sorted.keys.items (bounds_of bounds)) }
+{
+    let index = index_of(rt, alloc, sorted, bounds, workers, gate)?;
+    match write_index(out, &index, bounds) {
+        Ok(()) => Ok(()),
+        Err(_) => Err(Unfinished::WriteFault),
+    }
+}
+
+// Writes the text line of the keys, and what is told of the levels.
+fn write_index<S: Sink>(out: &mut S, index: &Index, bounds: Bounds) -> Result<(), Failed>
+    requires eps { index.now.eps ≡ bounds.eps }
+    requires eps_rec { index.now.eps_rec ≡ bounds.eps_rec }
+    ensures ok { OnOk result (Writes S.Sink out.old out.new (tells_levels index.now.keys
+        index.now.levels (built_level index.now.keys (bounds_of bounds) index.now.levels))) }
+    ensures err { OnErr result (BreaksOff S.Sink out.old out.new (tells_levels index.now.keys
+        index.now.levels (built_level index.now.keys (bounds_of bounds) index.now.levels))) }
+{
+    let mut line = TextLine::new();
+    write_keys(out, &mut line, index)?;
+    write_levels(out, &mut line, index, bounds)
+}
+
+// Writes a text line for each level.
+fn write_levels<S: Sink>(
+    out: &mut S,
+    line: &mut TextLine,
+    index: &Index,
+    bounds: Bounds,
+) -> Result<(), Failed>
+    requires eps { index.now.eps ≡ bounds.eps }
+    requires eps_rec { index.now.eps_rec ≡ bounds.eps_rec }
+    ensures ok { OnOk result (Writes S.Sink out.old out.new
+        (flat_map (built_level index.now.keys (bounds_of bounds) index.now.levels)
+        (places (length index.now.levels)))) }
+    ensures err { OnErr result (BreaksOff S.Sink out.old out.new
+        (flat_map (built_level index.now.keys (bounds_of bounds) index.now.levels)
+        (places (length index.now.levels)))) }
+{
+    for i in 0..index.levels() {
+        fill_level_line(line, index, bounds, i);
+        hand_over(out, line.as_bytes())?;
+    }
+    Ok(())
+}

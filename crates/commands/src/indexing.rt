@@ -1,0 +1,88 @@
+// What the commands over an index share: building it, and its first text lines.
+ghost use Rattle.std.specs.Prelude.{◌≡◌, ◌∷◌, ◌<◌, [], length, IfOk, OnOk, OnErr};
+ghost use Rattle.levels.specs.Indexes.{IsIndex, level_at, xs_at, eps_at};
+ghost use Rattle.written.specs.Writing.{Writes, BreaksOff};
+ghost use Rattle.commands.specs.Tasks.{bounds_of};
+ghost use Rattle.commands.specs.Texts.Indexing.{keys_line, level_line, level_line_of};
+
+use crate::task::{Bounds, SortedKeys, Workers};
+use budget::NoMemory;
+use edge::{Failed, Gate, Sink};
+use levels::{Index, Keys};
+use piece_join::uneven_cuts;
+use std::alloc::Global;
+use std::thread::Threads;
+use written::{TextLine, hand_over};
+
+/// The index of the keys, level 0 of which is built in pieces by the workers.
+pub fn index_of<R: Threads + Sync, G: Gate>(
+    rt: &R,
+    alloc: Global,
+    sorted: SortedKeys,
+    bounds: Bounds,
+    workers: Workers,
+    gate: &G,
+) -> Result<Index, NoMemory>
+    ensures keys { IfOk result (λ index. index.keys ≡ sorted.keys.items) }
+    ensures eps { IfOk result (λ index. index.eps ≡ bounds.eps) }
+    ensures eps_rec { IfOk result (λ index. index.eps_rec ≡ bounds.eps_rec) }
+    ensures index { IfOk result
+        (λ index. IsIndex sorted.keys.items bounds.eps bounds.eps_rec index.levels) }
+{
+    let keys = Keys::of(alloc, sorted.keys)?;
+    let points = keys.xs().len() as u32;
+    let cuts = uneven_cuts(alloc, points, workers.count)?;
+    Index::build(
+        rt,
+        alloc,
+        keys,
+        bounds.eps,
+        bounds.eps_rec,
+        &cuts,
+        workers.count,
+        gate,
+    )
+}
+
+/// Writes how many keys there are, how many distinct ones, and how many levels.
+pub fn write_keys<S: Sink>(out: &mut S, line: &mut TextLine, index: &Index) -> Result<(), Failed>
+    ensures ok { OnOk result (Writes S.Sink out.old out.new
+        (keys_line index.now.keys (length index.now.levels) ∷ [])) }
+    ensures err { OnErr result (BreaksOff S.Sink out.old out.new
+        (keys_line index.now.keys (length index.now.levels) ∷ [])) }
+{
+    fill_keys_line(line, index);
+    hand_over(out, line.as_bytes())
+}
+
+fn fill_keys_line(line: &mut TextLine, index: &Index)
+    ensures { line.new ≡ keys_line index.now.keys (length index.now.levels) }
+{
+    line.clear();
+    line.push(b"keys");
+    line.push_number(index.keys().len());
+    line.push(b" distinct");
+    line.push_number(index.keys().distinct().len());
+    line.push(b" levels");
+    line.push_number(index.levels());
+    line.push(b"\n");
+}
+
+/// Fills the text line of level `i`.
+pub fn fill_level_line(line: &mut TextLine, index: &Index, bounds: Bounds, i: u32)
+    requires there { i < length index.now.levels }
+    requires eps { index.now.eps ≡ bounds.eps }
+    requires eps_rec { index.now.eps_rec ≡ bounds.eps_rec }
+    ensures { line.new ≡ level_line_of index.now.keys (bounds_of bounds) index.now.levels i }
+{
+    line.clear();
+    line.push(b"level");
+    line.push_number(i);
+    line.push(b" list");
+    line.push_number(index.list(i).len());
+    line.push(b" eps");
+    line.push_number(if i == 0 { bounds.eps } else { bounds.eps_rec });
+    line.push(b" runs");
+    line.push_number(index.level(i).len());
+    line.push(b"\n");
+}

@@ -1,0 +1,65 @@
+//! The commands, when all their inputs are read: what each writes, and the work behind it.
+//!
+//! A [`Task`] is a command with its inputs and its options. [`write`] hands its text to a sink, line
+//! by line, and takes all memory before the first byte:
+//!
+//! ```text
+//! keys 4 distinct 4 levels 2
+//! level 0 list 4 eps 0 runs 2
+//! level 1 list 2 eps 0 runs 1
+//! ```
+//!
+//! The text of each command is defined over the inputs alone, in `specs/Texts`.
+#![tactic(auto)]
+
+ghost use Rattle.written.specs.Writing.{WritesText};
+ghost use Rattle.commands.specs.Tasks.{task_of};
+ghost use Rattle.commands.specs.Texts.{IsText};
+
+mod build;
+mod explain;
+mod indexing;
+mod query;
+mod regions;
+mod task;
+
+use edge::{Gate, Sink};
+use std::alloc::Global;
+use std::thread::Threads;
+pub use task::{Bounds, Search, SortedKeys, Task, Workers};
+use written::Unfinished;
+
+/// Writes the text of the task. An index is built by workers, which pass the gate before and after
+/// each piece.
+pub fn write<R: Threads + Sync, S: Sink, G: Gate>(
+    rt: &R,
+    alloc: Global,
+    task: Task,
+    out: &mut S,
+    gate: &G,
+) -> Result<(), Unfinished>
+    ensures { WritesText S.Sink out.old result out.new (IsText (task_of task)) }
+{
+    match task {
+        Task::Build {
+            keys,
+            bounds,
+            workers,
+        } => build::write(rt, alloc, keys, bounds, workers, out, gate),
+        Task::Explain {
+            keys,
+            bounds,
+            workers,
+        } => explain::write(rt, alloc, keys, bounds, workers, out, gate),
+        Task::Query {
+            keys,
+            bounds,
+            workers,
+            questions,
+            windows,
+        } => query::write(
+            rt, alloc, keys, bounds, workers, &questions, windows, out, gate,
+        ),
+        Task::Box { search } => regions::write(rt, alloc, search, out),
+    }
+}

@@ -1,0 +1,81 @@
+// What there is to do when all inputs are read.
+ghost use Rattle.std.specs.Prelude.{◌<◌, ◌≤◌, ◌^◌, vec_len};
+ghost use Rattle.std.specs.List.Sorted.{IsNonDecreasing};
+ghost use Rattle.std.specs.Prelude.{◌≡◌, ◌*◌, ◌/◌, All, length};
+ghost use Rattle.exact_cross.specs.declared.TheConstants.{MAX_EPSILON};
+ghost use Rattle.zorder.specs.Codes.{IsDimension, coordinate_bits};
+ghost use Rattle.commands.specs.PointRegions.{IsRegionOf};
+
+use zorder::Region;
+
+/// The keys of a file: they never fall, and are fewer than 2^32.
+#[derive(Drop)]
+pub struct SortedKeys {
+    pub keys: Vec<u64>,
+    pub ghost never_falls: { IsNonDecreasing keys.items },
+    pub ghost few: { vec_len keys < 2 ^ 32 },
+}
+
+/// The error bounds of an index, in ranks.
+#[derive(Clone, Copy, Debug)]
+pub struct Bounds {
+    /// That of level 0.
+    pub eps: u32,
+    /// That of the levels above.
+    pub eps_rec: u32,
+    pub ghost bounded: { eps ≤ MAX_EPSILON },
+    pub ghost bounded_above: { eps_rec ≤ MAX_EPSILON },
+}
+
+/// How many workers build an index, from 1 to 64. No text depends on it.
+#[derive(Clone, Copy, Debug)]
+pub struct Workers {
+    pub count: u32,
+    pub ghost staffed: { 1 ≤ count },
+    pub ghost few: { count ≤ 64 },
+}
+
+/// Points, and the regions that are asked for.
+#[derive(Drop)]
+pub struct Search {
+    /// How many coordinates a point has, from 2 to 4.
+    pub dims: u32,
+    /// All coordinates of the first point, then those of the second, and so on.
+    pub coords: Vec<u32>,
+    /// The regions, in turn.
+    pub regions: Vec<Region>,
+    pub ghost dimension: { IsDimension dims },
+    pub ghost whole: { length coords.items ≡ dims * (length coords.items / dims) },
+    pub ghost few_points: { length coords.items / dims < 2 ^ 32 },
+    pub ghost range: { All (λ value. value < 2 ^ coordinate_bits dims) coords.items },
+    pub ghost each: { All (IsRegionOf dims) regions.items },
+}
+
+/// A command, with its inputs and its options.
+#[derive(Drop)]
+pub enum Task {
+    /// Write how many keys and levels there are, and of each level how many runs.
+    Build {
+        keys: SortedKeys,
+        bounds: Bounds,
+        workers: Workers,
+    },
+    /// Write the same, and each run.
+    Explain {
+        keys: SortedKeys,
+        bounds: Bounds,
+        workers: Workers,
+    },
+    /// Write the position of each question's key, and, where asked for, the windows searched.
+    Query {
+        keys: SortedKeys,
+        bounds: Bounds,
+        workers: Workers,
+        questions: Vec<u64>,
+        windows: bool,
+    },
+    /// Write the points in each region, and at how many places was looked.
+    Box {
+        search: Search,
+    },
+}
