@@ -1,6 +1,6 @@
 pub mod TakenFiles
 pub mod InputLemmas
-pub mod KeyInputs
+pub mod NumberInputs
 pub mod ScriptInputs
 pub mod OneReading
 pub mod OutcomeLemmas

@@ -1,6 +1,11 @@
 -- Files by their names, where a shelf tells them.
-use Rattle.std.specs.Prelude.{◌≡◌, ℕ, ◌<◌, ◌^◌, List, length, Option, Some, None, IfSome}
+use Rattle.std.specs.Prelude.{◌≡◌, ◌≢◌, ℕ, ◌<◌, ◌^◌, List, length, Option, Some, None, IfSome}
 use Rattle.std.specs.List.Sorted.{IsNonDecreasing}
+use Rattle.zorder.specs.Points.{ArePoints}
+use Rattle.sosd_reader.specs.declared.fault.KeyFault.{KeyFault}
+use Rattle.sosd_reader.specs.declared.fault.KeyFault.TheVariants.{Unsorted, Wide}
+use Rattle.sosd_reader.specs.NumberFiles.{Kind}
+use Rattle.sosd_reader.specs.NumberFiles.Kind.{of_keys, of_points}
 
 -- the contents of each file by its name, where they are told
 abbrev pub Files : Type 0
@@ -14,7 +19,17 @@ HoldsOfFile files name P = IfSome files (λ contents. (bytes : List ℕ) × (con
 abbrev pub IsMissing : Files → List ℕ → Type 0
 IsMissing files name = (contents : List ℕ → Option (List ℕ)) × (files ≡ Some contents) × (contents name ≡ None)
 
--- what is read of a key file, told or not: keys that never fall, fewer than 2^32
-pub record IsReadable (keys : List ℕ) : Type 0 where
+-- keys that never fall, fewer than 2^32
+pub record AreKeys (keys : List ℕ) : Type 0 where
   pub never_falls : IsNonDecreasing keys
   pub few : length keys < 2 ^ 32
+
+-- what is read of a file of this kind, told or not
+abbrev pub IsReadable : Kind → List ℕ → Type 0
+IsReadable (of_keys width) keys = AreKeys keys
+IsReadable (of_points d) coords = ArePoints d coords
+
+-- a fault that a file of this kind can have, told or not
+abbrev pub IsFaultOf : Kind → KeyFault → Type 0
+IsFaultOf (of_keys width) fault = (at value : ℕ) → fault ≢ Wide at value
+IsFaultOf (of_points d) fault = (at before key : ℕ) → fault ≢ Unsorted at before key

@@ -1,19 +1,21 @@
 -- What the files define for a request: its task, or the refusal that the first bad input gives.
-use Rattle.std.specs.Prelude.{◌≡◌, ◌≢◌, ◌⊎◌, ℕ, ◌<◌, ◌≤◌, Bool, not, List, length, filter_map, All, Option, Result, Ok, Err, None, Some}
+use Rattle.std.specs.Prelude.{◌≡◌, ◌⊎◌, ℕ, ◌<◌, ◌≤◌, Bool, not, List, length, filter_map, All, Option, Result, Ok, Err, None, Some}
 use Rattle.sosd_reader.specs.declared.fault.KeyFault.{KeyFault}
-use Rattle.sosd_reader.specs.declared.fault.KeyFault.TheVariants as reader
-use Rattle.sosd_reader.specs.KeyFileFaults.{ReadsAs}
+use Rattle.sosd_reader.specs.FileFaults.{ReadsAsFile}
 use Rattle.sosd_reader.specs.KeyFiles.{key_width}
+use Rattle.sosd_reader.specs.NumberFiles.{Kind}
+use Rattle.sosd_reader.specs.NumberFiles.Kind.{of_keys, of_points}
+use Rattle.zorder.specs.declared.regions.Region.{Region}
 use Rattle.pgm_script.specs.declared.fault.ScriptFault.TheVariants as script
 use Rattle.pgm_script.specs.declared.script.ScriptKind.{ScriptKind}
 use Rattle.pgm_script.specs.declared.script.ScriptLine.{ScriptLine}
 use Rattle.pgm_script.specs.Scripts.{IsLineOf, ReadsAs as ReadsScript}
 use Rattle.command_line.specs.Requests.{Building, Request}
-use Rattle.command_line.specs.Requests.Request.{build, explain, query}
+use Rattle.command_line.specs.Requests.Request.{build, explain, query, box}
 use Rattle.pgmtool.specs.declared.refusal.Refusal.{Refusal}
 use Rattle.pgmtool.specs.declared.refusal.Refusal.TheVariants.{ReadFault, TooLong, Script}
 use Rattle.pgmtool.specs.declared.inputs.TheConstants.{SCRIPT_LIMIT}
-use Rattle.pgmtool.specs.Files.{Files, HoldsOfFile, IsMissing, IsReadable}
+use Rattle.pgmtool.specs.Files.{Files, HoldsOfFile, IsFaultOf, IsMissing, IsReadable}
 use Rattle.pgmtool.specs.Refusals.{refusal_of}
 use Rattle.commands.specs.Tasks.{Bounds}
 use Rattle.commands.specs.Tasks as tasks
@@ -22,16 +24,19 @@ use Rattle.commands.specs.Tasks as tasks
 abbrev pub Reading : Type 0 → Type 1
 Reading A = Result A Refusal → Type 0
 
--- a fault that a key file can have, told or not
-abbrev pub IsOfKeys : KeyFault → Type 0
-IsOfKeys fault = (at value : ℕ) → fault ≢ reader.Wide at value
+-- the numbers of the file of this name, or why it has none: it isn't there, or its bytes have a fault
+abbrev pub reads_numbers : Kind → Files → List ℕ → Reading (List ℕ)
+reads_numbers asked files name (Ok numbers) = IsReadable asked numbers × HoldsOfFile files name (λ bytes. ReadsAsFile asked bytes (Ok numbers))
+reads_numbers asked files name (Err ReadFault) = IsMissing files name
+reads_numbers asked files name (Err refusal) = (fault : KeyFault) × (refusal_of fault ≡ Some refusal) × IsFaultOf asked fault
+    × HoldsOfFile files name (λ bytes. ReadsAsFile asked bytes (Err fault))
 
--- the keys of the file of this name, or why it has none: it isn't there, or its bytes have a fault
+-- the keys of a key file, and the coordinates of a point file
 abbrev pub reads_keys : Bool → Files → List ℕ → Reading (List ℕ)
-reads_keys wide files name (Ok keys) = IsReadable keys × HoldsOfFile files name (λ bytes. ReadsAs (key_width wide) bytes (Ok keys))
-reads_keys wide files name (Err ReadFault) = IsMissing files name
-reads_keys wide files name (Err refusal) = (fault : KeyFault) × (refusal_of fault ≡ Some refusal) × IsOfKeys fault
-    × HoldsOfFile files name (λ bytes. ReadsAs (key_width wide) bytes (Err fault))
+reads_keys wide = reads_numbers (of_keys (key_width wide))
+
+abbrev pub reads_points : ℕ → Files → List ℕ → Reading (List ℕ)
+reads_points d = reads_numbers (of_points d)
 
 -- the script of the file of this name, or why it has none: it isn't there, it is too long, or a line has something wrong with it
 abbrev pub reads_script : ScriptKind → Files → List ℕ → Reading (List ScriptLine)
@@ -50,6 +55,14 @@ question_in line = None
 
 abbrev pub questions_in : List ScriptLine → List ℕ
 questions_in lines = filter_map question_in lines
+
+-- the regions of a script, in order
+abbrev pub region_in : ScriptLine → Option Region
+region_in (ScriptLine.Region region) = Some region
+region_in line = None
+
+abbrev pub regions_in : List ScriptLine → List Region
+regions_in lines = filter_map region_in lines
 
 -- one input, and then what goes on with it: the first refusal is that of both
 abbrev pub then : {A B : Type 0} → Reading A → (A → Reading B) → Reading B
@@ -74,3 +87,6 @@ reads files (explain building) = then (reads_index files building) (λ keys. giv
 reads files (query building name windows) = then (reads_index files building) (λ keys.
     then (reads_script ScriptKind.Find files name) (λ lines.
     gives (tasks.Task.query keys (bounds_in building) (questions_in lines) windows)))
+reads files (box searching) = then (reads_points searching.dims files searching.file) (λ coords.
+    then (reads_script (ScriptKind.Region searching.dims) files searching.script) (λ lines.
+    gives (tasks.Task.box searching.dims coords (regions_in lines))))

@@ -1,20 +1,24 @@
 // Reading the inputs of a request, in order.
-ghost use Rattle.std.specs.Prelude.{◌≡◌, ◌++◌, ◌∷◌, [], Err, IfOk, OnOk};
+ghost use Rattle.std.specs.Prelude.{◌≡◌, ◌++◌, ◌∷◌, [], All, Err, IfOk, OnOk};
+ghost use Rattle.zorder.specs.Codes.{IsDimension};
+
 ghost use Rattle.pgm_script.specs.Scripts.{IsKind, IsLineOf};
+ghost use Rattle.commands.specs.PointRegions.{IsRegionOf};
 ghost use Rattle.command_line.specs.Requests.{asked_of, first_file, built_of};
 ghost use Rattle.pgmtool.specs.Files.{IsMissing};
 ghost use Rattle.commands.specs.Tasks.{bounds_of, task_of};
 ghost use Rattle.pgmtool.specs.Inputs.{reads, reads_index, reads_keys, reads_script, bounds_in};
-ghost use Rattle.pgmtool.specs.Inputs.{questions_in};
+ghost use Rattle.pgmtool.specs.Inputs.{questions_in, reads_points, regions_in};
 ghost use Rattle.pgmtool.specs.Stops.{Answers};
 
 use crate::refusal::{Refusal, Stopped};
 use command_line::{Building, Request};
-use commands::{Bounds, SortedKeys, Task, Workers};
+use commands::{Bounds, Search, SortedKeys, Task, Workers};
 use edge::Shelf;
 use pgm_script::{ScriptKind, ScriptLine, parse, read_text};
-use sosd_reader::read_keys;
+use sosd_reader::{read_keys, read_points};
 use std::alloc::{AllocError, Global};
+use zorder::Region;
 
 /// How many bytes a script has at most.
 pub const SCRIPT_LIMIT: u64 = 67_108_864;
@@ -70,6 +74,18 @@ pub fn read<F: Shelf>(alloc: Global, files: &mut F, request: Request<'_>) -> Res
                 questions,
                 windows,
             })
+        }
+        Request::Box { searching } => {
+            let dims = searching.dims;
+            let coords = coordinates(alloc, files, searching.file, dims)?;
+            let lines = script_lines(alloc, files, searching.script, ScriptKind::Region(dims))?;
+            let regions = regions_in(alloc, dims, &lines)?;
+            let search = Search {
+                dims,
+                coords,
+                regions,
+            };
+            Ok(Task::Box { search })
         }
     }
 }
@@ -127,6 +143,30 @@ fn sorted_keys<F: Shelf>(
     }
 }
 
+// The coordinates of the points of the file of this name.
+fn coordinates<F: Shelf>(
+    alloc: Global,
+    files: &mut F,
+    name: &str,
+    d: u32,
+) -> Result<Vec<u32>, Stopped>
+    requires { IsDimension d }
+    ensures answer { Answers (reads_points d (F.files files.old) name.now)
+        (λ coords. coords.items) (F.faults files.old) (F.faults files.new) result }
+    ensures missing { IsMissing (F.files files.old) name.now
+        → result ≡ Err (Stopped.Refused Refusal.ReadFault) }
+    ensures files { F.files files.new ≡ F.files files.old }
+{
+    match files.take_file(name) {
+        Ok(()) => {}
+        Err(_) => return Err(Stopped::Refused(Refusal::ReadFault)),
+    }
+    match read_points(alloc, files, d) {
+        Ok(coords) => Ok(coords),
+        Err(fault) => Err(Stopped::from(fault)),
+    }
+}
+
 // The lines of the script of this name.
 fn script_lines<F: Shelf>(
     alloc: Global,
@@ -170,6 +210,29 @@ fn push_question(questions: &mut Vec<u64>, line: &ScriptLine) -> Result<(), Allo
 {
     if let ScriptLine::Find(question) = line {
         questions.push(*question)?;
+    }
+    Ok(())
+}
+
+// The regions of a script, each of points of `d` coordinates.
+fn regions_in(alloc: Global, d: u32, lines: &[ScriptLine]) -> Result<Vec<Region>, AllocError>
+    requires { All (IsLineOf (ScriptKind.Region d)) lines.now }
+    ensures regions { IfOk result (λ regions. regions.items ≡ regions_in lines.now) }
+    ensures each { IfOk result (λ regions. All (IsRegionOf d) regions.items) }
+{
+    let mut regions = Vec::with_capacity(alloc, lines.len())?;
+    for i in 0..lines.len() {
+        push_region(&mut regions, &lines[i])?;
+    }
+    Ok(regions)
+}
+
+fn push_region(regions: &mut Vec<Region>, line: &ScriptLine) -> Result<(), AllocError>
+    ensures { OnOk result
+        (regions.new.items ≡ regions.old.items ++ regions_in (line.now ∷ [])) }
+{
+    if let ScriptLine::Region(region) = line {
+        regions.push(*region)?;
     }
     Ok(())
 }
