@@ -2,5 +2,6 @@ pub mod RunLines
 pub mod LevelTexts
 pub mod InTurnLemmas
 pub mod AnswerTexts
+pub mod PieceLemmas
 pub mod SearchLemmas
 pub mod WritingLemmas

@@ -19,6 +19,7 @@ ghost use Rattle.commands.specs.Texts.{IsText};
 mod build;
 mod explain;
 mod indexing;
+mod positions;
 mod query;
 mod regions;
 mod task;

@@ -10,6 +10,7 @@ ghost use Rattle.commands.specs.Texts.Query.{IsAnswered, TellsAnswer, TellsAnswe
 ghost use Rattle.commands.specs.Texts.Query.{TellsWindows, window_line, window_lines};
 
 use crate::indexing::index_of;
+use crate::positions::positions_of;
 use crate::task::{Bounds, SortedKeys, Workers};
 use edge::{Failed, Gate, Sink};
 use levels::Index;
@@ -39,9 +40,8 @@ pub fn write<R: Threads + Sync, S: Sink, G: Gate>(
         (IsAnswered sorted.keys.items (bounds_of bounds) questions.now windows) }
 {
     let index = index_of(rt, alloc, sorted, bounds, workers, gate)?;
-    let mut positions = Vec::with_capacity(alloc, questions.len())?;
+    let positions = positions_of(rt, alloc, &index, questions)?;
     let mut room = Vec::with_capacity(alloc, index.levels() as usize)?;
-    index.positions(questions, &mut positions);
     match write_answers(
         out, &index, bounds, questions, &positions, windows, &mut room,
     ) {

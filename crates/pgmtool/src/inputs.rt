@@ -1,7 +1,6 @@
 // Reading the inputs of a request, in order.
 ghost use Rattle.std.specs.Prelude.{◌≡◌, ◌++◌, ◌∷◌, [], All, Err, IfOk, OnOk};
 ghost use Rattle.zorder.specs.Codes.{IsDimension};
-
 ghost use Rattle.pgm_script.specs.Scripts.{IsKind, IsLineOf};
 ghost use Rattle.commands.specs.PointRegions.{IsRegionOf};
 ghost use Rattle.command_line.specs.Requests.{asked_of, first_file, built_of};

@@ -6,6 +6,7 @@ use std::process::Abort;
 use std::test::Fail;
 use std::thread::Threads;
 
+mod boxes;
 mod build;
 mod explain;
 mod query;

@@ -19,12 +19,16 @@ const EXPLAIN: &[&str] = &["explain", "keys", "--eps", "0", "--rec", "0"];
 
 const QUERY: &[&str] = &["query", "keys", "script"];
 
+const BOX: &[&str] = &["box", "keys", "script"];
+
+const SPACE: &[&str] = &["box", "keys", "script", "--dims", "3"];
+
 const FOUR: &[u8] =
     b"\x04\0\0\0\0\0\0\0\0\0\0\0\0\0\0\0\x01\0\0\0\0\0\0\0\x02\0\0\0\0\0\0\0\x0a\0\0\0\0\0\0\0";
 
 const NONE: &[u8] = b"";
 
-const ROWS: [Row; 23] = [
+const ROWS: [Row; 28] = [
     Row {
         name: "no command",
         words: &[],
@@ -234,6 +238,56 @@ const ROWS: [Row; 23] = [
         put: 0,
         status: Status::BadScript,
         text: &["fault script 1 extra"],
+    },
+    Row {
+        name: "a coordinate out of range",
+        words: SPACE,
+        keys: b"\x01\0\0\0\0\0\0\0\0\0\x20\0\0\0\0\0\0\0\0\0",
+        script: b"box 0 0 0",
+        read: 0,
+        put: 0,
+        status: Status::BadKeys,
+        text: &["fault keys wide 0 2097152"],
+    },
+    Row {
+        name: "a point without its last coordinate",
+        words: BOX,
+        keys: b"\x01\0\0\0\0\0\0\0\x02\0\0\0",
+        script: b"box 0 0 1 1",
+        read: 0,
+        put: 0,
+        status: Status::BadKeys,
+        text: &["fault keys short 12"],
+    },
+    Row {
+        name: "a box without its last coordinate",
+        words: BOX,
+        keys: b"\0\0\0\0\0\0\0\0",
+        script: b"box 0 0 1",
+        read: 0,
+        put: 0,
+        status: Status::BadScript,
+        text: &["fault script 1 missing"],
+    },
+    Row {
+        name: "a box out of range",
+        words: SPACE,
+        keys: b"\0\0\0\0\0\0\0\0",
+        script: b"box 0 0 0 1 1 1\nbox 0 0 0 1 1 2097152",
+        read: 0,
+        put: 0,
+        status: Status::BadScript,
+        text: &["fault script 2 number"],
+    },
+    Row {
+        name: "a text line of a point that can't be written",
+        words: BOX,
+        keys: b"\x01\0\0\0\0\0\0\0\x02\0\0\0\x01\0\0\0",
+        script: b"box 0 0 3 3",
+        read: 0,
+        put: 2,
+        status: Status::WriteFault,
+        text: &["box 1 1"],
     },
     Row {
         name: "a third text line that can't be written",

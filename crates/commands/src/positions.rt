@@ -1,0 +1,82 @@
+// The positions of a list of questions, by threads.
+ghost use Rattle.std.specs.Prelude.{◌≡◌, ◌+◌, ◌*◌, ◌++◌, ◌<◌, ◌≤◌, [], ℕ, All, drop, length, map};
+ghost use Rattle.std.specs.Prelude.{take, vec_capacity, vec_len, IfOk, OnOk};
+ghost use Rattle.std.specs.List.{flat_map};
+ghost use Rattle.window_search.specs.Searches.{lb};
+ghost use Rattle.commands.specs.Pieces.{piece_of};
+
+use budget::NoMemory;
+use levels::Index;
+use rayon::slice::par_for_each_mut;
+use std::alloc::Global;
+use std::thread::Threads;
+
+/// How many questions a piece of a list has. A list of at most so many stays on one thread.
+pub const PIECE: usize = 2048;
+
+/// How many keys are below each question. The pieces of the list are shared among threads, and the
+/// answers stand in the order of the questions.
+pub fn positions_of<R: Threads + Sync>(
+    rt: &R,
+    alloc: Global,
+    index: &Index,
+    questions: &[u64],
+) -> Result<Vec<u32>, NoMemory>
+    ensures { IfOk result
+        (λ positions. positions.items ≡ map (lb index.now.keys) questions.now) }
+{
+    let mut positions = Vec::with_capacity(alloc, questions.len())?;
+    if questions.len() <= PIECE {
+        index.positions(questions, &mut positions);
+        return Ok(positions);
+    }
+    let mut pieces = empty_pieces(alloc, questions.len().div_ceil(PIECE))?;
+    par_for_each_mut(
+        rt,
+        &mut pieces,
+        |i: usize, piece: &mut Vec<u32>|
+            requires empty { vec_len piece.old ≡ 0 }
+            requires room { PIECE ≤ vec_capacity piece.old }
+            ensures positions { piece.new.items
+                ≡ map (lb index.entry.now.keys) (piece_of questions.entry.now i) }
+        {
+            index.positions(piece_of(questions, i), piece);
+        },
+    );
+    join_pieces(&pieces, &mut positions)?;
+    Ok(positions)
+}
+
+// Lists without positions, each with the room of a piece.
+fn empty_pieces(alloc: Global, count: usize) -> Result<Vec<Vec<u32>>, NoMemory>
+    ensures count { IfOk result (λ pieces. vec_len pieces ≡ count) }
+    ensures room { IfOk result (λ pieces.
+        All (λ piece. (vec_len piece ≡ 0) × (PIECE ≤ vec_capacity piece)) pieces.items) }
+{
+    let mut pieces = Vec::with_capacity(alloc, count)?;
+    for _ in 0..count {
+        pieces.push(Vec::with_capacity(alloc, PIECE)?)?;
+    }
+    Ok(pieces)
+}
+
+// The questions of a piece. Behind the last there are none.
+fn piece_of(questions: &[u64], i: usize) -> &[u64]
+    ensures piece { result.now ≡ piece_of questions.now i }
+    ensures few { length result.now ≤ PIECE }
+{
+    let start = i.saturating_mul(PIECE).min(questions.len());
+    let rest = &questions[start..];
+    &rest[..PIECE.min(rest.len())]
+}
+
+// Puts the positions of the pieces one behind the other.
+fn join_pieces(pieces: &[Vec<u32>], into: &mut Vec<u32>) -> Result<(), NoMemory>
+    ensures { OnOk result (into.new.items
+        ≡ into.old.items ++ flat_map (λ piece. piece.items) pieces.now) }
+{
+    for i in 0..pieces.len() {
+        into.extend_from_slice(&pieces[i])?;
+    }
+    Ok(())
+}
