@@ -1,0 +1,6 @@
+pub mod BitLemmas
+pub mod CutLemmas
+pub mod HeldLemmas
+pub mod LastLemmas
+pub mod ResultLemmas
+pub mod LevelLemmas

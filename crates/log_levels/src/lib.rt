@@ -1,0 +1,13 @@
+//! A map.
+#![tactic(auto)]
+
+mod fault;
+mod latest;
+mod level;
+mod log_map;
+mod update;
+
+pub use fault::MapFault;
+pub use log_map::LogMap;
+pub use tombstones::Entry;
+pub use update::Update;

@@ -1,0 +1,89 @@
+// The map, and what is asked of it.
+ghost use Rattle.std.specs.Prelude.{◌≡◌, ◌+◌, ◌-◌, ◌*◌, ◌/◌, ◌%◌, ◌^◌, ◌<◌, ◌≤◌, ◌↔◌, ℕ};
+ghost use Rattle.std.specs.Prelude.{List, [], length, Option, Some, None, IsSome, IsNone, IfOk};
+ghost use Rattle.std.specs.Option.{option_map, option_copied};
+ghost use Rattle.std.specs.Int.{bit_at};
+ghost use Rattle.tombstones.specs.declared.entry.Entry.{Entry};
+ghost use Rattle.tombstones.specs.Entries.{IsAscending};
+ghost use Rattle.levels.specs.Indexes.{IsIndex};
+ghost use Rattle.log_levels.specs.declared.update.Update.{Update};
+ghost use Rattle.log_levels.specs.Shapes.{StandsFor, capacity_of, level_of, level_keys};
+
+use crate::level::{EPS, EPS_REC, Level};
+use budget::NoMemory;
+use levels::Index;
+use std::alloc::Global;
+use std::marker::Model;
+use std::sync::Arc;
+use tombstones::Entry;
+
+/// How many entries a flush takes from the buffer.
+pub(crate) const BLOCK: u64 = 64;
+
+/// A map of keys to values that changes, kept by the logarithmic method. Seen as what it holds: how
+/// many entries it accepted, its buffer and its levels.
+///
+/// It stands for a list of updates. What it answers is what the ordered map after these updates
+/// has, and what it holds are their entries, cut: a put or a deletion is an entry, and a sweep is a
+/// deletion of each key that it takes away. With `f` the whole part of a 64th of their number, the
+/// first `64f` entries are cut into blocks of `64 * 2^i` of them, one for each bit `i` of `f`, the
+/// highest first. Level `i` holds the last entry of each key of its block, and the deepest level no
+/// deletion. The rest is in the buffer.
+///
+/// A level is never changed. Copies share it.
+///
+/// Source: Bentley and Saxe, Decomposable searching problems, J. Algorithms 1(4), 1980.
+#[derive(Drop)]
+pub struct LogMap {
+    pub(crate) accepted: u64,
+    pub(crate) buffer: Vec<Entry>,
+    pub(crate) stored: Vec<Option<Arc<Level>>>,
+}
+
+impl Model for LogMap {
+    ghost use Rattle.std.specs.Prelude.{vec_capacity};
+    ghost use Rattle.log_levels.specs.Shapes.{Held};
+
+    ghost Value = { Held };
+
+    ghost use Rattle.log_levels.specs.Kept.{IsKept, held_of};
+
+    ghost view = { λ map. held_of map.accepted map.buffer.items map.stored.items };
+
+    ghost invariant = { λ map. IsKept (held_of map.accepted map.buffer.items map.stored.items)
+        (vec_capacity map.buffer) };
+}
+
+impl LogMap {
+    /// How many entries were accepted.
+    pub fn accepted(&self) -> u64
+        ensures { result ≡ self.now.accepted }
+    {
+        self.accepted
+    }
+
+    /// How many entries can be accepted: `64 * 2^levels - 1`.
+    pub fn capacity(&self) -> u64
+        ensures { result ≡ capacity_of self.now }
+    {
+        (BLOCK << self.stored.len()) - 1
+    }
+
+    /// How many entries came since the last flush.
+    pub fn buffered(&self) -> u64
+        ensures held { result ≡ length self.now.buffer }
+        ensures rest { result ≡ self.now.accepted % BLOCK }
+    {
+        self.buffer.len() as u64
+    }
+
+    /// A level, if it is occupied.
+    pub(crate) fn level(&self, i: usize) -> Option<&Level>
+        ensures { option_copied result ≡ level_of self.now i }
+    {
+        match self.stored.get(i) {
+            Some(Some(level)) => Some(level),
+            _ => None,
+        }
+    }
+}
