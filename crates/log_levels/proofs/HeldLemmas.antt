@@ -1,14 +1,16 @@
 -- What a map holds, by how it is kept.
-use Rattle.std.proofs.Common.{◌≡◌, ℕ, ◌+◌, ◌*◌, ◌-◌, ◌%◌, ◌^◌, ◌<◌, ◌≤◌, List, length, Option, sym, ap, ◌∙◌, arith, vec_len}
+use Rattle.std.proofs.Common.{◌≡◌, ℕ, ◌+◌, ◌*◌, ◌-◌, ◌%◌, ◌^◌, ◌<◌, ◌≤◌, List, [], ◌∷◌, ◌++◌, length, slice_index_or, Option, None, Greater, nat_cmp, inl, inr, sym, ap, ◌∙◌, arith, vec_len}
 use Rattle.std.proofs.Math.Nat.{pow-le-pow_right}
 use Rattle.std.proofs.lemmas.Nat.{shl_whole, pow_pos}
-use Rattle.std.proofs.lemmas.List.{length-map}
+use Rattle.std.proofs.lemmas.List.{length-map, map_push, get_or_append_left, get_or_push}
+use Rattle.std.proofs.lemmas.Bool.{cases_lt}
+use Rattle.std.proofs.lemmas.Bool.Decides.{nat_tests}
 use Rattle.std.specs.Option.{option_map}
 use Rattle.std.specs.declared.sync.Arc.{Arc}
 use Rattle.std.specs.Arc.{arc_value}
 use Rattle.tombstones.specs.declared.entry.Entry.{Entry}
 use Rattle.log_levels.specs.Shapes.{Held, capacity_of}
-use Rattle.log_levels.specs.Kept.{levels_of}
+use Rattle.log_levels.specs.Kept.{levels_of, shared_of}
 
 pub length-levels_of : {Z : Type 0} (stored : List (Option (Arc (List Entry) Z))) → length (levels_of stored) ≡ length stored
 length-levels_of {Z} stored = length-map stored (option_map (λ (level : Arc (List Entry) Z). arc_value level))
@@ -19,3 +21,26 @@ capacity_is levels count same few =
     let whole : (64 * 2 ^ levels) % 2 ^ 64 ≡ 64 * 2 ^ levels = shl_whole 64 7 levels 64 (omega arith) (omega arith) in
     let most : 2 ^ levels ≤ 2 ^ 26 = pow-le-pow_right (omega arith) few in
     (ap (λ k. (64 * 2 ^ k) % 2 ^ 64) (sym same) ∙ whole, omega (arith, pow_pos levels), omega arith)
+
+-- one level more
+pub levels_of-push : {Z : Type 0} (stored : List (Option (Arc (List Entry) Z))) (level : Option (Arc (List Entry) Z)) → levels_of (stored ++ level ∷ []) ≡ levels_of stored ++ shared_of level ∷ []
+levels_of-push {Z} stored level = map_push (option_map (λ (level : Arc (List Entry) Z). arc_value level)) stored level
+
+pub levels_of-before : {Z : Type 0} (stored next : List (Option (Arc (List Entry) Z))) (level : Option (Arc (List Entry) Z)) (i : ℕ) → next ≡ stored ++ level ∷ [] → i < length stored
+    → slice_index_or (levels_of next) i None ≡ slice_index_or (levels_of stored) i None
+levels_of-before stored next level i is inside =
+    ap (λ list. slice_index_or (levels_of list) i None) is ∙ ap (λ list. slice_index_or list i None) (levels_of-push stored level)
+    ∙ get_or_append_left (levels_of stored) (shared_of level ∷ []) None i (omega (arith, length-levels_of stored))
+
+pub levels_of-last : {Z : Type 0} (stored next : List (Option (Arc (List Entry) Z))) (level : Option (Arc (List Entry) Z)) (i : ℕ) → next ≡ stored ++ level ∷ [] → length stored ≡ i
+    → slice_index_or (levels_of next) i None ≡ shared_of level
+levels_of-last stored next level i is count =
+    ap (λ list. slice_index_or (levels_of list) i None) is ∙ ap (λ list. slice_index_or list i None) (levels_of-push stored level)
+    ∙ get_or_push (levels_of stored) (shared_of level) None i (length-levels_of stored ∙ count)
+
+-- `cmp` of two numbers
+pub above-greater : (a b : ℕ) → Greater ≡ nat_cmp a b → b < a
+above-greater a b greater = elim (cases_lt b a) [
+    | inl less ↦ less
+    | inr at_least ↦ absurd (grind (arith, nat_tests))
+  ]

@@ -4,3 +4,5 @@ pub mod HeldLemmas
 pub mod LastLemmas
 pub mod ResultLemmas
 pub mod LevelLemmas
+pub mod GrowthLemmas
+pub mod LengthLemmas

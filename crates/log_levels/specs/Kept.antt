@@ -42,3 +42,7 @@ pub record IsHighestChange (accepted count top : ℕ) : Type 0 where
   pub above : accepted / 64 / 2 ^ (top + 1) ≡ (accepted + count) / 64 / 2 ^ (top + 1)
   pub was_clear : bit_at (accepted / 64) top ≡ 0
   pub is_set : bit_at ((accepted + count) / 64) top ≡ 1
+
+-- the entries of a level, if there is one
+abbrev pub shared_of : {Z : Type 0} → Option (Arc (List Entry) Z) → Option (List Entry)
+shared_of {Z} level = option_map (λ (level : Arc (List Entry) Z). arc_value level) level

@@ -2,6 +2,7 @@
 #![tactic(auto)]
 
 mod fault;
+mod growth;
 mod latest;
 mod level;
 mod log_map;
