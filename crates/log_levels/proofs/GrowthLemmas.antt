@@ -1,9 +1,9 @@
 -- What the levels become when entries are added.
-use Rattle.std.proofs.Common.{◌≡◌, ℕ, zero, suc, ◌+◌, ◌-◌, ◌*◌, ◌/◌, ◌%◌, ◌^◌, ◌<◌, ◌≤◌, eqb, Bool, true, false, List, [], ◌∷◌, ◌++◌, length, take, drop, map, Option, Some, None, is_some, IsSome, IsTrue, refl, sym, ap, ◌∙◌, subst, inl, inr, arith, length-append, length-drop, length-take}
+use Rattle.std.proofs.Common.{◌≡◌, ℕ, zero, suc, ◌+◌, ◌-◌, ◌*◌, ◌/◌, ◌%◌, ◌^◌, ◌<◌, ◌≤◌, eqb, Bool, true, false, List, [], ◌∷◌, ◌++◌, length, take, drop, map, slice_index_or, Option, Some, None, is_some, IsSome, IsTrue, refl, sym, ap, ◌∙◌, subst, inl, inr, arith, length-append, length-drop, length-take}
 use Rattle.std.specs.Int.{bit_at}
 use Rattle.std.specs.Option.{option_or, option_map}
 use Rattle.std.proofs.lemmas.Bool.{eq-eqb, ne_eqb}
-use Rattle.std.proofs.lemmas.List.{append_assoc}
+use Rattle.std.proofs.lemmas.List.{append_assoc, drop-append-le}
 use Rattle.std.proofs.lemmas.Nat.{div-add-mod', mod_below}
 use Rattle.tombstones.specs.declared.entry.Entry.{Entry}
 use Rattle.tombstones.specs.Entries.{IsAscending, entry_at, winner_at, kept}
@@ -223,3 +223,30 @@ grown held map entries new b cut flush room same_b accepted buffer count levels 
       buffer = buffer ∙ sym (drop-append-ge (64 * (length (entries ++ new) / 64)) entries new behind ∙ ap (λ k. drop k new) place);
       levels = λ i inside. subst (λ k. IsLevelFor (entries ++ new) k i (level_of map i)) (sym g) (levels i (omega arith));
     }
+
+-- a map with new entries that fill no block
+pub buffered : (held map : Held) (entries new : List Entry) → IsCutOf held entries → (held.accepted + length new) / 64 ≤ held.accepted / 64
+    → held.accepted + length new < 64 * 2 ^ length held.levels → map.accepted ≡ held.accepted + length new → map.buffer ≡ held.buffer ++ new → map.levels ≡ held.levels → IsCutOf map (entries ++ new)
+buffered held map entries new cut none room accepted buffer levels =
+    let n = length entries in
+    let all : length (entries ++ new) ≡ held.accepted + length new = omega (arith, length-append entries new, cut.accepted) in
+    let rest = div-add-mod' held.accepted 64 in
+    let below = mod_below held.accepted 64 (omega arith) in
+    let rest' = div-add-mod' (held.accepted + length new) 64 in
+    let below' = mod_below (held.accepted + length new) 64 (omega arith) in
+    let f : length (entries ++ new) / 64 ≡ n / 64 = ap (λ k. k / 64) all ∙ omega arith ∙ ap (λ k. k / 64) cut.accepted in
+    let inside : 64 * (n / 64) ≤ n = omega (arith, div-add-mod' n 64) in
+    let count = ap (λ (l : List (Option (List Entry))). length l) levels in
+    record {
+      accepted = accepted ∙ sym all;
+      fits = omega (arith, ap (λ k. 64 * 2 ^ k) count);
+      buffer = buffer ∙ ap (λ list. list ++ new) cut.buffer ∙ sym (ap (λ k. drop (64 * k) (entries ++ new)) f ∙ drop-append-le (64 * (n / 64)) entries new inside);
+      levels = λ i at. subst (λ k. IsLevelFor (entries ++ new) k i (level_of map i)) (sym f)
+          (subst (IsLevelFor (entries ++ new) (n / 64) i) (sym (ap (λ l. slice_index_or l i None) levels)) (stays i (level_of held i) (cut.levels i (omega arith)) inside));
+    }
+  where
+    stays : (i : ℕ) (level : Option (List Entry)) → IsLevelFor entries (length entries / 64) i level → 64 * (length entries / 64) ≤ length entries → IsLevelFor (entries ++ new) (length entries / 64) i level
+    stays i None clear inside = clear
+    stays i (Some level) (set, last) inside =
+        let f = length entries / 64 in
+        (set, subst (λ list. IsLastOfEach (eqb (f / 2 ^ (i + 1)) 0) list level) (sym (block-before entries new f i (omega (arith, from_bit-le i f)))) last)

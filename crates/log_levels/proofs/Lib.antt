@@ -6,3 +6,4 @@ pub mod ResultLemmas
 pub mod LevelLemmas
 pub mod GrowthLemmas
 pub mod LengthLemmas
+pub mod UpdateLemmas

@@ -156,6 +156,24 @@ impl LogMap {
         })
     }
 
+    /// Adds entries. After an error the map is as it was.
+    pub(crate) fn append(&mut self, alloc: Global, new: &[Entry]) -> Result<(), NoMemory>
+        requires room { self.old.accepted + length new.now ≤ capacity_of self.old }
+        ensures cut { OnOk result ((entries : List Entry) → IsCutOf self.old entries →
+            IsCutOf self.new (entries ++ new.now)) }
+        ensures levels { length self.new.levels ≡ length self.old.levels }
+        ensures unchanged { OnErr result (self.new ≡ self.old) }
+    {
+        let after = self.accepted + new.len() as u64;
+        if self.accepted / BLOCK < after / BLOCK {
+            *self = self.with_entries(alloc, new)?;
+            return Ok(());
+        }
+        self.buffer.extend_from_slice(new)?;
+        self.accepted = after;
+        Ok(())
+    }
+
     /// How many blocks there are with so many entries more.
     fn blocks_with(&self, more: usize) -> u64
         requires { self.now.accepted + more ≤ capacity_of self.now }

@@ -7,6 +7,7 @@ mod latest;
 mod level;
 mod log_map;
 mod update;
+mod updates;
 
 pub use fault::MapFault;
 pub use log_map::LogMap;

@@ -55,9 +55,12 @@ impl Model for LogMap {
 }
 
 impl LogMap {
-    /// How many entries were accepted.
+    /// How many entries were accepted. They are at most as many as the map can accept, and it
+    /// stands for some updates.
     pub fn accepted(&self) -> u64
-        ensures { result ≡ self.now.accepted }
+        ensures count { result ≡ self.now.accepted }
+        ensures within { result ≤ capacity_of self.now }
+        ensures stands { (updates : List Update) × StandsFor self.now updates }
     {
         self.accepted
     }
