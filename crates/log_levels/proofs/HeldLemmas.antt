@@ -1,15 +1,16 @@
 -- What a map holds, by how it is kept.
-use Rattle.std.proofs.Common.{◌≡◌, ℕ, ◌+◌, ◌*◌, ◌-◌, ◌%◌, ◌^◌, ◌<◌, ◌≤◌, List, [], ◌∷◌, ◌++◌, length, slice_index_or, Option, None, Greater, nat_cmp, inl, inr, sym, ap, ◌∙◌, arith, vec_len}
+use Rattle.std.proofs.Common.{◌≡◌, ℕ, ◌+◌, ◌*◌, ◌-◌, ◌%◌, ◌^◌, ◌<◌, ◌≤◌, List, [], ◌∷◌, ◌++◌, length, slice_index_or, Option, None, Greater, nat_cmp, inl, inr, refl, sym, ap, subst, ◌∙◌, arith, vec_len}
 use Rattle.std.proofs.Math.Nat.{pow-le-pow_right}
 use Rattle.std.proofs.lemmas.Nat.{shl_whole, pow_pos}
-use Rattle.std.proofs.lemmas.List.{length-map, map_push, get_or_append_left, get_or_push}
+use Rattle.std.proofs.lemmas.List.{length-map, map_push, get_or_append_left, get_or_push, ext_get_or}
+use Rattle.std.proofs.lemmas.Nat.Bits.{bit_at-zero}
 use Rattle.std.proofs.lemmas.Bool.{cases_lt}
 use Rattle.std.proofs.lemmas.Bool.Decides.{nat_tests}
 use Rattle.std.specs.Option.{option_map}
 use Rattle.std.specs.declared.sync.Arc.{Arc}
 use Rattle.std.specs.Arc.{arc_value}
 use Rattle.tombstones.specs.declared.entry.Entry.{Entry}
-use Rattle.log_levels.specs.Shapes.{Held, capacity_of}
+use Rattle.log_levels.specs.Shapes.{Held, IsCutOf, IsLevelFor, level_of, capacity_of}
 use Rattle.log_levels.specs.Kept.{levels_of, shared_of}
 
 pub length-levels_of : {Z : Type 0} (stored : List (Option (Arc (List Entry) Z))) → length (levels_of stored) ≡ length stored
@@ -44,3 +45,19 @@ above-greater a b greater = elim (cases_lt b a) [
     | inl less ↦ less
     | inr at_least ↦ absurd (grind (arith, nat_tests))
   ]
+
+-- a map without entries
+pub empty-cut : (held : Held) → held.accepted ≡ 0 → held.buffer ≡ [] → ((i : ℕ) → i < length held.levels → level_of held i ≡ None) → IsCutOf held []
+empty-cut held accepted buffer none = record {
+    accepted = accepted;
+    fits = omega (arith, pow_pos (length held.levels));
+    buffer = buffer;
+    levels = λ i inside. subst (IsLevelFor [] 0 i) (sym (none i inside)) (bit_at-zero i);
+  }
+
+-- two maps that hold the same
+pub held-same : (held : Held) (accepted : ℕ) (buffer : List Entry) (levels : List (Option (List Entry))) → accepted ≡ held.accepted → buffer ≡ held.buffer → length levels ≡ length held.levels
+    → ((i : ℕ) → i < length levels → slice_index_or levels i None ≡ level_of held i) → (let copy : Held = record { accepted = accepted; buffer = buffer; levels = levels } in copy) ≡ held
+held-same held accepted buffer levels same_accepted same_buffer count same =
+    let all : levels ≡ held.levels = ext_get_or None levels held.levels count same in
+    rw (same_accepted, same_buffer, all) refl

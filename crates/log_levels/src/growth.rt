@@ -186,7 +186,7 @@ impl LogMap {
     }
 
     /// A level above it, which is shared.
-    fn shared_level(&self, i: usize) -> Result<Option<Arc<Level>>, NoMemory>
+    pub(crate) fn shared_level(&self, i: usize) -> Result<Option<Arc<Level>>, NoMemory>
         requires { i < length self.now.levels }
         ensures { IfOk result (λ level. shared_of level ≡ level_of self.now i) }
     {

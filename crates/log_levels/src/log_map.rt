@@ -55,6 +55,52 @@ impl Model for LogMap {
 }
 
 impl LogMap {
+    /// The empty map with so many levels, 1 to 26. It can accept `64 * 2^levels - 1` entries.
+    ///
+    /// # Errors
+    ///
+    /// `NoMemory` alone.
+    pub fn new(alloc: Global, levels: u32) -> Result<LogMap, NoMemory>
+        requires some { 1 ≤ levels }
+        requires few { levels ≤ 26 }
+        ensures empty { IfOk result (λ map. StandsFor map []) }
+        ensures levels { IfOk result (λ map. length map.levels ≡ levels) }
+    {
+        let mut stored = Vec::with_capacity(alloc, levels as usize)?;
+        for i in 0..levels {
+            let _ = i;
+            stored.push(None)?;
+        }
+        let buffer = Vec::with_capacity(alloc, BLOCK as usize)?;
+        Ok(LogMap {
+            accepted: 0,
+            buffer,
+            stored,
+        })
+    }
+
+    /// An equal map. It shares the levels.
+    ///
+    /// # Errors
+    ///
+    /// `NoMemory` alone.
+    pub fn copy(&self, alloc: Global) -> Result<LogMap, NoMemory>
+        ensures { IfOk result (λ copy. copy ≡ self.now) }
+    {
+        let count = self.stored.len();
+        let mut stored = Vec::with_capacity(alloc, count)?;
+        for i in 0..count {
+            stored.push(self.shared_level(i)?)?;
+        }
+        let mut buffer = Vec::with_capacity(alloc, BLOCK as usize)?;
+        buffer.extend_from_slice(&self.buffer)?;
+        Ok(LogMap {
+            accepted: self.accepted,
+            buffer,
+            stored,
+        })
+    }
+
     /// How many entries were accepted. They are at most as many as the map can accept, and it
     /// stands for some updates.
     pub fn accepted(&self) -> u64
