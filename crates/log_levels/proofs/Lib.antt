@@ -7,3 +7,5 @@ pub mod LevelLemmas
 pub mod GrowthLemmas
 pub mod LengthLemmas
 pub mod UpdateLemmas
+pub mod MapLemmas
+pub mod ValueLemmas

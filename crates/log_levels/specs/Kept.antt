@@ -1,5 +1,5 @@
 -- How levels and maps are kept. No public clause cites it.
-use Rattle.std.specs.Prelude.{◌≡◌, ℕ, ◌+◌, ◌*◌, ◌/◌, ◌≤◌, ◌<◌, ◌^◌, ◌==◌, List, ◌++◌, length, map, drop, Option}
+use Rattle.std.specs.Prelude.{◌≡◌, ℕ, ◌+◌, ◌*◌, ◌/◌, ◌≤◌, ◌<◌, ◌^◌, ◌==◌, List, ◌++◌, length, map, drop, Option, Some, None}
 use Rattle.std.specs.Int.{bit_at}
 use Rattle.std.specs.Option.{option_map}
 use Rattle.std.specs.declared.sync.Arc.{Arc}
@@ -46,3 +46,8 @@ pub record IsHighestChange (accepted count top : ℕ) : Type 0 where
 -- the entries of a level, if there is one
 abbrev pub shared_of : {Z : Type 0} → Option (Arc (List Entry) Z) → Option (List Entry)
 shared_of {Z} level = option_map (λ (level : Arc (List Entry) Z). arc_value level) level
+
+-- the value that an entry gives its key, if there is an entry
+abbrev pub value_of : Option Entry → Option ℕ
+value_of None = None
+value_of (Some entry) = entry.value
