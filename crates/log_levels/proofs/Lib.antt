@@ -9,3 +9,4 @@ pub mod LengthLemmas
 pub mod UpdateLemmas
 pub mod MapLemmas
 pub mod ValueLemmas
+pub mod SearchLemmas

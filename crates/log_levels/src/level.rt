@@ -1,7 +1,9 @@
 // A level as it is kept.
-ghost use Rattle.std.specs.Prelude.{◌≡◌, ◌^◌, ◌<◌, length, vec_len, IfOk};
+ghost use Rattle.std.specs.Prelude.{◌≡◌, ◌^◌, ◌<◌, ◌≤◌, length, vec_len, IfOk};
+ghost use Rattle.std.specs.Option.{option_copied};
 ghost use Rattle.levels.specs.Indexes.{IsIndex};
-ghost use Rattle.tombstones.specs.Entries.{IsAscending};
+ghost use Rattle.tombstones.specs.Entries.{IsAscending, entry_at};
+ghost use Rattle.window_search.specs.Searches.{lb};
 ghost use Rattle.log_levels.specs.Shapes.{level_keys};
 
 use budget::{NoMemory, Steps};
@@ -56,6 +58,33 @@ impl Level {
         ensures few { length self.now < 2 ^ 32 }
     {
         &self.entries
+    }
+
+    /// How many keys are below `q`: the place of the first entry whose key is not.
+    #[inline]
+    pub fn place(&self, q: u64) -> usize
+        ensures place { result ≡ lb (level_keys self.now) q }
+        ensures within { result ≤ length self.now }
+    {
+        let _ = &self.entries;
+        self.index.position(q) as usize
+    }
+
+    /// The entry with a key, if there is one.
+    #[inline]
+    pub fn entry(&self, key: u64) -> Option<&Entry>
+        ensures { option_copied result ≡ entry_at self.now key }
+    {
+        let entries = self.entries();
+        let place = self.place(key);
+        if place == entries.len() {
+            return None;
+        }
+        let entry = &entries[place];
+        if entry.key != key {
+            return None;
+        }
+        Some(entry)
     }
 
     /// The index of the keys.

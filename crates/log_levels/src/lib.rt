@@ -6,6 +6,7 @@ mod growth;
 mod latest;
 mod level;
 mod log_map;
+mod questions;
 mod update;
 mod updates;
 

@@ -126,6 +126,14 @@ impl LogMap {
         self.buffer.len() as u64
     }
 
+    /// How many levels there are, occupied or not.
+    pub(crate) fn level_count(&self) -> usize
+        ensures count { result ≡ length self.now.levels }
+        ensures few { result ≤ 26 }
+    {
+        self.stored.len()
+    }
+
     /// A level, if it is occupied.
     pub(crate) fn level(&self, i: usize) -> Option<&Level>
         ensures { option_copied result ≡ level_of self.now i }

@@ -1,0 +1,81 @@
+-- A search for a key from the newest level on.
+use Rattle.std.proofs.Common.{◌≡◌, ℕ, zero, suc, ◌+◌, ◌*◌, ◌/◌, ◌^◌, ◌<◌, ◌≤◌, eqb, Bool, true, false, List, [], ◌∷◌, ◌++◌, length, take, drop, Option, Some, None, is_some, refl, sym, ap, ◌∙◌, subst, inl, inr, ◌⊎◌, arith}
+use Rattle.std.specs.Int.{bit_at}
+use Rattle.std.specs.Option.{option_or}
+use Rattle.std.proofs.lemmas.Bool.{cases_Bool, eqb-true, cond-true, cond-false}
+use Rattle.std.proofs.lemmas.List.{take-append-drop, append-nil}
+use Rattle.std.proofs.lemmas.Nat.{div_below}
+use Rattle.tombstones.specs.declared.entry.Entry.{Entry}
+use Rattle.tombstones.specs.Entries.{entry_at, kept, with_value}
+use Rattle.log_levels.specs.Shapes.{Held, IsCutOf, IsLevelFor, IsLastOfEach, last_at, level_of, from_bit, block_of}
+use Rattle.log_levels.specs.Kept.{value_of}
+use Rattle.log_levels.proofs.BitLemmas.{from_bit-zero, from_bit-small, from_bit-set}
+use Rattle.log_levels.proofs.CutLemmas.{before, before-more, block-clear}
+use Rattle.log_levels.proofs.LastLemmas.{last_at-append}
+
+-- at the start: no entry in the buffer
+pub search-none : (entries buffer : List Entry) (f key : ℕ) → buffer ≡ drop (64 * f) entries → last_at buffer key ≡ None → last_at entries key ≡ last_at (before entries f 0) key
+search-none entries buffer f key is none =
+    let start : before entries f 0 ≡ take (64 * f) entries = ap (λ k. take (64 * k) entries) (from_bit-zero f) in
+    ap (λ list. last_at list key) (sym (take-append-drop (64 * f) entries)) ∙ last_at-append (take (64 * f) entries) (drop (64 * f) entries) key
+    ∙ ap (λ last. option_or last (last_at (take (64 * f) entries) key)) (ap (λ list. last_at list key) (sym is) ∙ none) ∙ ap (λ list. last_at list key) (sym start)
+
+last-before : (entries : List Entry) (f i key : ℕ) → last_at (before entries f i) key ≡ option_or (last_at (block_of entries f i) key) (last_at (before entries f (i + 1)) key)
+last-before entries f i key = ap (λ list. last_at list key) (before-more entries f i) ∙ last_at-append (before entries f (i + 1)) (block_of entries f i) key
+
+-- a level that isn't occupied
+pub search-clear : (entries : List Entry) (f i key : ℕ) → bit_at f i ≡ 0 → last_at (before entries f i) key ≡ last_at (before entries f (i + 1)) key
+search-clear entries f i key clear = last-before entries f i key ∙ ap (λ list. option_or (last_at list key) (last_at (before entries f (i + 1)) key)) (block-clear entries f i clear)
+
+kept-some : (deepest : Bool) (winner : Option Entry) (entry : Entry) → kept deepest winner ≡ Some entry → winner ≡ Some entry
+kept-some false winner entry is = is
+kept-some true None entry is = cc
+kept-some true (Some other) entry is = same (cases_Bool (is_some other.value))
+  where
+    same : (is_some other.value ≡ true) ⊎ (is_some other.value ≡ false) → Some other ≡ Some entry
+    same (inl has) = sym (cond-true (is_some other.value) (Some other) None has) ∙ is
+    same (inr hasnt) = let gone = sym (cond-false (is_some other.value) (Some other) None hasnt) ∙ is in cc
+
+-- a level with an entry of the key: it is the last one
+pub search-found : (entries level : List Entry) (f i key : ℕ) (entry : Entry) → IsLevelFor entries f i (Some level) → entry_at level key ≡ Some entry → last_at (before entries f i) key ≡ Some entry
+search-found entries level f i key entry (set, last) found =
+    let here = kept-some (eqb (f / 2 ^ (i + 1)) 0) (last_at (block_of entries f i) key) entry (sym (last.lasts key) ∙ found) in
+    last-before entries f i key ∙ ap (λ winner. option_or winner (last_at (before entries f (i + 1)) key)) here
+
+-- a deletion alone has no value
+dead : (winner : Option Entry) → with_value winner ≡ None → value_of (option_or winner None) ≡ None
+dead None absent = refl
+dead (Some entry) absent = go entry.value refl
+  where
+    go : (value : Option ℕ) → entry.value ≡ value → entry.value ≡ None
+    go None is = is
+    go (Some value) is = let gone = sym (cond-true (is_some entry.value) (Some entry) None (ap is_some is)) ∙ absent in cc
+
+-- a level without one: it is before the level's block, or nothing is there
+pub search-missed : (entries level : List Entry) (f i key : ℕ) → IsLevelFor entries f i (Some level) → entry_at level key ≡ None
+    → value_of (last_at (before entries f i) key) ≡ value_of (last_at (before entries f (i + 1)) key)
+search-missed entries level f i key (set, last) none = ap value_of (last-before entries f i key) ∙ missed (eqb (f / 2 ^ (i + 1)) 0) refl (sym (last.lasts key) ∙ none)
+  where
+    missed : (deepest : Bool) → eqb (f / 2 ^ (i + 1)) 0 ≡ deepest → kept deepest (last_at (block_of entries f i) key) ≡ None
+        → value_of (option_or (last_at (block_of entries f i) key) (last_at (before entries f (i + 1)) key)) ≡ value_of (last_at (before entries f (i + 1)) key)
+    missed false is absent = ap (λ winner. value_of (option_or winner (last_at (before entries f (i + 1)) key))) absent
+    missed true is absent =
+        let top : from_bit (i + 1) f ≡ 0 = ap (λ q. q * 2 ^ (i + 1)) (eqb-true _ _ is) ∙ omega arith in
+        let nothing : before entries f (i + 1) ≡ [] = ap (λ k. take (64 * k) entries) top in
+        ap (λ list. value_of (option_or (last_at (block_of entries f i) key) (last_at list key))) nothing
+        ∙ dead (last_at (block_of entries f i) key) absent ∙ sym (ap (λ list. value_of (last_at list key)) nothing)
+
+-- past the last level nothing is left
+pub search-end : (entries : List Entry) (f i key : ℕ) → f < 2 ^ i → last_at (before entries f i) key ≡ None
+search-end entries f i key small = ap (λ k. last_at (take (64 * k) entries) key) (from_bit-small i f small)
+
+-- an entry in the buffer is the last one
+pub search-buffer : (entries buffer : List Entry) (key : ℕ) (entry : Entry) → buffer ≡ drop (64 * (length entries / 64)) entries → last_at buffer key ≡ Some entry → last_at entries key ≡ Some entry
+search-buffer entries buffer key entry is found =
+    let k = 64 * (length entries / 64) in
+    ap (λ list. last_at list key) (sym (take-append-drop k entries)) ∙ last_at-append (take k entries) (drop k entries) key
+    ∙ ap (λ last. option_or last (last_at (take k entries) key)) (ap (λ list. last_at list key) (sym is) ∙ found)
+
+-- all blocks are in the levels
+pub blocks-few : (held : Held) (entries : List Entry) → IsCutOf held entries → length entries / 64 < 2 ^ length held.levels
+blocks-few held entries cut = div_below (length entries) 64 (2 ^ length held.levels) (omega arith) (omega (arith, cut.fits))
