@@ -7,10 +7,11 @@ use Rattle.std.proofs.lemmas.List.{append_assoc, drop-append-le}
 use Rattle.std.proofs.lemmas.Nat.{div-add-mod', mod_below}
 use Rattle.tombstones.specs.declared.entry.Entry.{Entry}
 use Rattle.tombstones.specs.Entries.{IsAscending, entry_at, winner_at, kept}
-use Rattle.log_levels.specs.Shapes.{Held, IsCutOf, IsLevelFor, IsLastOfEach, last_at, level_of, from_bit, block_of}
+use Rattle.log_levels.specs.Shapes.{Held, capacity_of, IsCutOf, IsLevelFor, IsLastOfEach, last_at, level_of, from_bit, block_of}
 use Rattle.log_levels.specs.Kept.{IsMergedTo, IsHighestChange}
 use Rattle.log_levels.proofs.BitLemmas.{from_bit-zero, from_bit-le, from_bit-gt, from_bit-antitone, from_bit-clear, from_bit-set, none-left, some-left, some-left-below, same-above}
 use Rattle.log_levels.proofs.CutLemmas.{behind, behind-more, drop-append-ge, block-clear, block-behind, block-before, block-across}
+use Rattle.log_levels.proofs.HeldLemmas.{room_is}
 use Rattle.log_levels.proofs.LastLemmas.{last_at-append, kept-winner}
 use Rattle.log_levels.proofs.LengthLemmas.{length-latest}
 
@@ -250,3 +251,14 @@ buffered held map entries new cut none room accepted buffer levels =
     stays i (Some level) (set, last) inside =
         let f = length entries / 64 in
         (set, subst (λ list. IsLastOfEach (eqb (f / 2 ^ (i + 1)) 0) list level) (sym (block-before entries new f i (omega (arith, from_bit-le i f)))) last)
+
+-- the same by how the maps are kept
+pub buffered-kept : (inside held : Held) (new buffer : List Entry) (entries : List Entry) → inside ≡ held → length inside.levels ≤ 26 → held.accepted + length new ≤ capacity_of held
+    → (inside.accepted + length new) / 64 ≤ inside.accepted / 64 → buffer ≡ inside.buffer ++ new → IsCutOf held entries
+    → IsCutOf (record { accepted = inside.accepted + length new; buffer = buffer; levels = inside.levels }) (entries ++ new)
+buffered-kept inside held new buffer entries same few room none added cut =
+    let accepted = ap (λ (h : Held). h.accepted) same in
+    let flush = ap (λ k. k / 64) accepted in
+    let flush' = ap (λ k. (k + length new) / 64) accepted in
+    buffered held (record { accepted = inside.accepted + length new; buffer = buffer; levels = inside.levels }) entries new cut (omega arith) (room_is inside held (length new) same few room)
+    (omega arith) (added ∙ ap (λ (h : Held). h.buffer ++ new) same) (ap (λ (h : Held). h.levels) same)

@@ -61,3 +61,9 @@ pub held-same : (held : Held) (accepted : ℕ) (buffer : List Entry) (levels : L
 held-same held accepted buffer levels same_accepted same_buffer count same =
     let all : levels ≡ held.levels = ext_get_or None levels held.levels count same in
     rw (same_accepted, same_buffer, all) refl
+
+-- the room of a map, by how it is kept
+pub room_is : (inside held : Held) (more : ℕ) → inside ≡ held → length inside.levels ≤ 26 → held.accepted + more ≤ capacity_of held → held.accepted + more < 64 * 2 ^ length held.levels
+room_is inside held more same few room =
+    let count = ap (λ (h : Held). length h.levels) same in
+    omega (arith, (capacity_is (length held.levels) _ refl (omega arith)).1)

@@ -18,7 +18,7 @@ member-entry_at [] key = refl
 member-entry_at (entry ∷ entries) key = grind (arith, nat_tests, member-entry_at entries key)
 
 -- there is a last entry of a key just where there is a first one
-some-last_at : (entries : List Entry) (key : ℕ) → is_some (last_at entries key) ≡ is_some (entry_at entries key)
+pub some-last_at : (entries : List Entry) (key : ℕ) → is_some (last_at entries key) ≡ is_some (entry_at entries key)
 some-last_at [] key = refl
 some-last_at (entry ∷ entries) key = ap is_some (last_at-cons entry entries key) ∙ both (last_at entries key) (entry_at entries key) (entry.key == key) (some-last_at entries key)
   where

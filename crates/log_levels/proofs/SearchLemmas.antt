@@ -1,5 +1,5 @@
 -- A search for a key from the newest level on.
-use Rattle.std.proofs.Common.{◌≡◌, ℕ, zero, suc, ◌+◌, ◌*◌, ◌/◌, ◌^◌, ◌<◌, ◌≤◌, eqb, Bool, true, false, List, [], ◌∷◌, ◌++◌, length, take, drop, Option, Some, None, is_some, refl, sym, ap, ◌∙◌, subst, inl, inr, ◌⊎◌, arith}
+use Rattle.std.proofs.Common.{◌≡◌, ℕ, zero, suc, ◌+◌, ◌*◌, ◌/◌, ◌^◌, ◌<◌, ◌≤◌, eqb, Bool, true, false, List, [], ◌∷◌, ◌++◌, length, take, drop, slice_index_or, Option, Some, None, is_some, refl, sym, ap, ◌∙◌, subst, inl, inr, ◌⊎◌, arith, add-one}
 use Rattle.std.specs.Int.{bit_at}
 use Rattle.std.specs.Option.{option_or}
 use Rattle.std.proofs.lemmas.Bool.{cases_Bool, eqb-true, cond-true, cond-false}
@@ -8,7 +8,9 @@ use Rattle.std.proofs.lemmas.Nat.{div_below}
 use Rattle.tombstones.specs.declared.entry.Entry.{Entry}
 use Rattle.tombstones.specs.Entries.{entry_at, kept, with_value}
 use Rattle.log_levels.specs.Shapes.{Held, IsCutOf, IsLevelFor, IsLastOfEach, last_at, level_of, from_bit, block_of}
-use Rattle.log_levels.specs.Kept.{value_of}
+use Rattle.log_levels.specs.Kept.{value_of, IsAbsent}
+use Rattle.tombstones.proofs.CallerLemmas.{Contains-entry_at, key-entry_at}
+use Rattle.log_levels.proofs.LengthLemmas.{some-last_at}
 use Rattle.log_levels.proofs.BitLemmas.{from_bit-zero, from_bit-small, from_bit-set}
 use Rattle.log_levels.proofs.CutLemmas.{before, before-more, block-clear}
 use Rattle.log_levels.proofs.LastLemmas.{last_at-append}
@@ -79,3 +81,31 @@ search-buffer entries buffer key entry is found =
 -- all blocks are in the levels
 pub blocks-few : (held : Held) (entries : List Entry) → IsCutOf held entries → length entries / 64 < 2 ^ length held.levels
 blocks-few held entries cut = div_below (length entries) 64 (2 ^ length held.levels) (omega arith) (omega (arith, cut.fits))
+
+-- a key that no entry has isn't in the map
+pub absent-value : (held : Held) (entries : List Entry) (key : ℕ) → IsCutOf held entries → IsAbsent held key → value_of (last_at entries key) ≡ None
+absent-value held entries key cut absent =
+    let f = length entries / 64 in
+    down (length held.levels) (omega arith) ∙ ap value_of (search-end entries f (length held.levels) key (blocks-few held entries cut))
+  where
+    step : (i : ℕ) (level : Option (List Entry)) → i < length held.levels → level_of held i ≡ level
+        → value_of (last_at (before entries (length entries / 64) i) key) ≡ value_of (last_at (before entries (length entries / 64) (i + 1)) key)
+    step i None inside is = ap value_of (search-clear entries (length entries / 64) i key (subst (IsLevelFor entries (length entries / 64) i) is (cut.levels i inside)))
+    step i (Some level) inside is =
+        search-missed entries level (length entries / 64) i key (subst (IsLevelFor entries (length entries / 64) i) is (cut.levels i inside)) (absent.levels i level inside is)
+    down : (i : ℕ) → i ≤ length held.levels → value_of (last_at entries key) ≡ value_of (last_at (before entries (length entries / 64) i) key)
+    down zero within = ap value_of (search-none entries held.buffer (length entries / 64) key cut.buffer absent.buffer)
+    down (suc i) within = down i (omega arith) ∙ step i (level_of held i) (omega arith) refl ∙ ap (λ k. value_of (last_at (before entries (length entries / 64) k) key)) (add-one i)
+
+-- where no entry has the key, there is no last one
+pub last-absent : (entries : List Entry) (key : ℕ) → ((k : ℕ) (d : Entry) → k < length entries → (slice_index_or entries k d).key ≡ key → ⊥) → last_at entries key ≡ None
+last-absent entries key absent = none (last_at entries key) (some-last_at entries key ∙ ap is_some (first (entry_at entries key) refl))
+  where
+    first : (found : Option Entry) → entry_at entries key ≡ found → entry_at entries key ≡ None
+    first None is = is
+    first (Some e) is =
+        let (i, inside, at) = Contains-entry_at entries key e is in
+        absurd (absent i e inside (ap (λ (x : Entry). x.key) at ∙ key-entry_at entries key e is))
+    none : (found : Option Entry) → is_some found ≡ false → found ≡ None
+    none None is = refl
+    none (Some e) is = cc

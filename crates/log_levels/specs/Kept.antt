@@ -1,5 +1,6 @@
 -- How levels and maps are kept. No public clause cites it.
-use Rattle.std.specs.Prelude.{◌≡◌, ℕ, ◌+◌, ◌*◌, ◌/◌, ◌≤◌, ◌<◌, ◌^◌, ◌==◌, List, ◌++◌, length, map, drop, Option, Some, None}
+use Rattle.std.specs.Prelude.{◌≡◌, ℕ, ◌+◌, ◌*◌, ◌/◌, ◌≤◌, ◌<◌, ◌^◌, ◌==◌, List, ◌++◌, length, map, drop, Option, Some, None, slice_index, ⊤}
+use Rattle.window_search.specs.Searches.{lb}
 use Rattle.std.specs.Int.{bit_at}
 use Rattle.std.specs.Option.{option_map}
 use Rattle.std.specs.declared.sync.Arc.{Arc}
@@ -7,7 +8,7 @@ use Rattle.std.specs.Arc.{arc_value}
 use Rattle.tombstones.specs.declared.entry.Entry.{Entry}
 use Rattle.tombstones.specs.Entries.{IsAscending, entry_at, kept}
 use Rattle.levels.specs.Indexes.{PgmIndex}
-use Rattle.log_levels.specs.Shapes.{Held, IsCutOf, level_keys, from_bit, last_at}
+use Rattle.log_levels.specs.Shapes.{Held, IsCutOf, level_keys, level_of, from_bit, last_at}
 
 -- the index is that of the entries' keys
 pub record IsIndexed (entries : List Entry) (index : PgmIndex) : Type 0 where
@@ -51,3 +52,18 @@ shared_of {Z} level = option_map (λ (level : Arc (List Entry) Z). arc_value lev
 abbrev pub value_of : Option Entry → Option ℕ
 value_of None = None
 value_of (Some entry) = entry.value
+
+-- no entry has the key
+pub record IsAbsent (held : Held) (key : ℕ) : Type 0 where
+  pub buffer : last_at held.buffer key ≡ None
+  pub levels : (i : ℕ) (level : List Entry) → i < length held.levels → level_of held i ≡ Some level → entry_at level key ≡ None
+
+-- the places of a key in the levels: how many keys are below it
+pub record ArePlaces (held : Held) (places : List ℕ) (key : ℕ) : Type 0 where
+  pub count : length places ≡ 26
+  pub each : (i : ℕ) (level : List Entry) → i < length held.levels → level_of held i ≡ Some level → slice_index places i ≡ lb (level_keys level) key
+
+-- the key is below the least one, if there is one
+abbrev pub IsBelow : ℕ → Option ℕ → Type 0
+IsBelow key None = ⊤
+IsBelow key (Some least) = key < least

@@ -1,8 +1,9 @@
 // A level as it is kept.
-ghost use Rattle.std.specs.Prelude.{◌≡◌, ◌^◌, ◌<◌, ◌≤◌, length, vec_len, IfOk};
+ghost use Rattle.std.specs.Prelude.{◌≡◌, ◌^◌, ◌<◌, ◌≤◌, ℕ, None, IfSome, length, vec_len, IfOk};
 ghost use Rattle.std.specs.Option.{option_copied};
 ghost use Rattle.levels.specs.Indexes.{IsIndex};
 ghost use Rattle.tombstones.specs.Entries.{IsAscending, entry_at};
+ghost use Rattle.log_levels.specs.Kept.{IsBelow};
 ghost use Rattle.window_search.specs.Searches.{lb};
 ghost use Rattle.log_levels.specs.Shapes.{level_keys};
 
@@ -75,9 +76,17 @@ impl Level {
     pub fn entry(&self, key: u64) -> Option<&Entry>
         ensures { option_copied result ≡ entry_at self.now key }
     {
+        self.entry_from(self.place(key), key)
+    }
+
+    /// The same, where the place of the key is known.
+    #[inline]
+    pub fn entry_from(&self, place: usize, key: u64) -> Option<&Entry>
+        requires { place ≡ lb (level_keys self.now) key }
+        ensures { option_copied result ≡ entry_at self.now key }
+    {
         let entries = self.entries();
-        let place = self.place(key);
-        if place == entries.len() {
+        if place >= entries.len() {
             return None;
         }
         let entry = &entries[place];
@@ -85,6 +94,21 @@ impl Level {
             return None;
         }
         Some(entry)
+    }
+
+    /// The least key from `from` on, which is at this place, if there is one.
+    #[inline]
+    pub fn key_from(&self, place: usize, from: u64) -> Option<u64>
+        requires { place ≡ lb (level_keys self.now) from }
+        ensures from { IfSome result (λ key. from ≤ key) }
+        ensures least { (key : ℕ) → from ≤ key → IsBelow key result →
+            entry_at self.now key ≡ None }
+    {
+        let entries = self.entries();
+        if place >= entries.len() {
+            return None;
+        }
+        Some(entries[place].key)
     }
 
     /// The index of the keys.

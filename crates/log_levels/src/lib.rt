@@ -9,6 +9,7 @@ mod log_map;
 mod questions;
 mod update;
 mod updates;
+mod walk;
 
 pub use fault::MapFault;
 pub use log_map::LogMap;

@@ -44,7 +44,7 @@ impl LogMap {
 }
 
 /// The last of the entries with a key, if there is one.
-fn last_of(entries: &[Entry], key: u64) -> Option<&Entry>
+pub fn last_of(entries: &[Entry], key: u64) -> Option<&Entry>
     ensures { option_copied result ≡ last_at entries.now key }
 {
     entries.iter().rev().find(|entry| entry.key == key)
