@@ -1,7 +1,7 @@
 -- The keys of a level, and what it has at a key.
 use Rattle.std.proofs.Common.{◌≡◌, ℕ, zero, suc, ◌+◌, ◌<◌, ◌≤◌, List, [], ◌∷◌, length, take, slice_index, slice_index_or, Option, Some, None, refl, sym, ap, ◌∙◌, subst, inl, inr, arith}
 use Rattle.std.proofs.lemmas.List.{length-map, get_or-map, get_or_default}
-use Rattle.std.proofs.lemmas.Bool.{cases_lt, cases_order}
+use Rattle.std.proofs.lemmas.Bool.{cases_lt, cases_eq, cases_order}
 use Rattle.std.specs.List.Sorted.{IsNonDecreasing}
 use Rattle.tombstones.specs.declared.entry.Entry.{Entry}
 use Rattle.tombstones.specs.Entries.{IsAscending, entry_at}
@@ -150,3 +150,16 @@ read-between list entries from place j same ascending at le below =
         let read = ap (λ (l : List Entry). (slice_index_or l place no_entry).key) same in
         let key = key-at entries place 0 no_entry (omega arith) in
         omega (arith, below (omega arith), ap (λ k. slice_index_or (level_keys entries) k 0) at))
+
+-- the place of the next key, by whether there is an entry with the key
+pub next-some : (entries : List Entry) (key : ℕ) (e : Entry) → IsAscending entries → entry_at entries key ≡ Some e → (lb (level_keys entries) key < length entries) × (lb (level_keys entries) (key + 1) ≡ lb (level_keys entries) key + 1)
+next-some entries key e ascending found = elim (cases_lt (lb (level_keys entries) key) (length entries)) [
+    | inr past ↦ let apart : Some e ≡ None = sym found ∙ missing-past entries key ascending past in cc
+    | inl inside ↦ elim (cases_eq (slice_index_or (level_keys entries) (lb (level_keys entries) key) 0) key) [
+      | inl here ↦ (inside, place-next entries key ascending inside here)
+      | inr other ↦ let apart : Some e ≡ None = sym found ∙ missing-at entries key ascending (λ inside here. other here) in cc
+    ]
+  ]
+
+pub next-none : (entries : List Entry) (key : ℕ) → IsAscending entries → entry_at entries key ≡ None → lb (level_keys entries) (key + 1) ≡ lb (level_keys entries) key
+next-none entries key ascending absent = sym (place-stays entries key (key + 1) ascending (omega arith) (λ j from to. let same : key ≡ j = omega arith in ap (entry_at entries) (sym same) ∙ absent))

@@ -10,3 +10,4 @@ pub mod UpdateLemmas
 pub mod MapLemmas
 pub mod ValueLemmas
 pub mod SearchLemmas
+pub mod WalkLemmas

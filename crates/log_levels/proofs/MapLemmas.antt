@@ -1,6 +1,8 @@
 -- The ordered map: its keys rise, and its answers follow from its values.
-use Rattle.std.proofs.Common.{◌≡◌, ℕ, zero, suc, ◌+◌, ◌<◌, ◌≤◌, ◌==◌, eqb, ltb, leb, Bool, true, false, not, cond, ◌&&◌, if◌then◌else◌, List, [], ◌∷◌, ◌++◌, length, map, filter, find, Option, Some, None, refl, sym, ap, ◌∙◌, subst, inl, inr, arith, nat_cmp, Less, Equal, Greater}
-use Rattle.std.proofs.lemmas.Bool.{cases_lt, cases_eq, cases_order, eqb-true, eqb-false, eq-eqb, ne_eqb, ltb-true, ltb-false, lt-ltb, le-ltb, le-leb, lt-leb, cases_Bool, both_ways, cond-true, cond-false}
+use Rattle.std.proofs.Common.{◌≡◌, ℕ, zero, suc, ◌+◌, ◌<◌, ◌≤◌, ◌==◌, eqb, ltb, leb, Bool, true, false, not, cond, ◌&&◌, if◌then◌else◌, List, [], ◌∷◌, ◌++◌, length, map, filter, find, Option, Some, None, refl, sym, ap, ◌∙◌, subst, inl, inr, arith, nat_cmp, Less, Equal, Greater, length-append}
+use Rattle.std.proofs.lemmas.List.{length-map}
+use Rattle.std.proofs.lemmas.List.Sums.{sum_by-cons}
+use Rattle.std.proofs.lemmas.Bool.{cases_lt, cases_eq, cases_order, eqb-true, eqb-false, eq-eqb, ne_eqb, ltb-true, ltb-false, lt-ltb, le-ltb, le-leb, lt-leb, leb-true, and_from, and_left, and_right, and_parts, cases_Bool, both_ways, cond-true, cond-false}
 use Rattle.std.proofs.lemmas.Bool.Decides.{nat_tests}
 use Rattle.std.specs.List.{fold}
 use Rattle.std.specs.Ordering.{is_eq, match_ordering}
@@ -9,7 +11,7 @@ use Rattle.std.specs.BTreeMap.{insert_entry, is_at}
 use Rattle.log_levels.specs.declared.update.Update.{Update}
 use Rattle.log_levels.specs.declared.update.Update.TheVariants.{Put, Del, Sweep}
 use Rattle.log_levels.specs.Maps.{is_between, updated, map_after, value_at, next_from, count_between}
-use Rattle.log_levels.specs.Accepted.{keys_between}
+use Rattle.log_levels.specs.Accepted.{keys_between, entries_for, entries_from, entries_of}
 
 -- `cmp` of two numbers
 cmp-less : (a b : ℕ) → a < b → nat_cmp a b ≡ Less
@@ -164,3 +166,150 @@ rises-fold pairs (update ∷ updates) rises = rises-fold (updated pairs update) 
 pub rises-after : (updates : List Update) → RisesFrom 0 (map_after updates)
 unfolding map_after
 rises-after updates = rises-fold [] updates tt
+
+-- the least key from a bound on that the map has
+find-first : (p : ℕ × ℕ → Bool) (pair : ℕ × ℕ) (pairs : List (ℕ × ℕ)) → p pair ≡ true → find p (pair ∷ pairs) ≡ Some pair
+find-first p pair pairs passes = cond-true (p pair) (Some pair) (find p pairs) passes
+
+find-later : (p : ℕ × ℕ → Bool) (pair : ℕ × ℕ) (pairs : List (ℕ × ℕ)) → p pair ≡ false → find p (pair ∷ pairs) ≡ find p pairs
+find-later p pair pairs fails = cond-false (p pair) (Some pair) (find p pairs) fails
+
+pub next-is : (low : ℕ) (pairs : List (ℕ × ℕ)) (q key value : ℕ) → RisesFrom low pairs → q ≤ key → value_at pairs key ≡ Some value
+    → ((other : ℕ) → q ≤ other → other < key → value_at pairs other ≡ None) → next_from pairs q ≡ Some (key, value)
+next-is low [] q key value rises le is none = cc
+next-is low (pair ∷ pairs) q key value (from, rest) le is none = elim (cases_lt pair.0 q) [
+    | inl below ↦ find-later (λ pair. leb q pair.0) pair pairs (lt-leb q pair.0 below)
+        ∙ next-is (pair.0 + 1) pairs q key value rest le (sym (value-later pair pairs key (λ same. absurd (omega arith))) ∙ is)
+            (λ other above less. sym (value-later pair pairs other (λ same. absurd (omega arith))) ∙ none other above less)
+    | inr at_least ↦ find-first (λ pair. leb q pair.0) pair pairs (le-leb q pair.0 at_least) ∙ elim (cases_order pair.0 key) [
+      | inl here ↦
+          let same : Some pair.1 ≡ Some value = sym (value-here pair pairs key (sym here)) ∙ is in
+          pair-is pair key value here same
+      | inr (inl less) ↦ let apart : Some pair.1 ≡ None = sym (value-here pair pairs pair.0 refl) ∙ none pair.0 at_least less in cc
+      | inr (inr greater) ↦
+          let apart : Some value ≡ None = sym is ∙ value-later pair pairs key (λ same. absurd (omega arith)) ∙ value-below (pair.0 + 1) pairs key rest (omega arith) in cc
+    ]
+  ]
+  where
+    pair-is : (pair : ℕ × ℕ) (key value : ℕ) → pair.0 ≡ key → Some pair.1 ≡ Some value → Some pair ≡ Some (key, value)
+    pair-is (k, v) key value same_key same_value = cc
+
+pub next-none : (pairs : List (ℕ × ℕ)) (q : ℕ) → ((other : ℕ) → q ≤ other → value_at pairs other ≡ None) → (low : ℕ) → RisesFrom low pairs → next_from pairs q ≡ None
+next-none [] q none low rises = refl
+next-none (pair ∷ pairs) q none low (from, rest) = elim (cases_lt pair.0 q) [
+    | inl below ↦ find-later (λ pair. leb q pair.0) pair pairs (lt-leb q pair.0 below)
+        ∙ next-none pairs q (λ other above. sym (value-later pair pairs other (λ same. absurd (omega arith))) ∙ none other above) (pair.0 + 1) rest
+    | inr at_least ↦ let apart : Some pair.1 ≡ None = sym (value-here pair pairs pair.0 refl) ∙ none pair.0 at_least in cc
+  ]
+
+-- the keys from one bound to another
+between-inside : (low high key : ℕ) → low ≤ key → key ≤ high → is_between low high key ≡ true
+between-inside low high key above below = and_from _ _ (le-leb low key above) (le-leb key high below)
+
+between-below : (low high key : ℕ) → key < low → is_between low high key ≡ false
+between-below low high key less = and_left _ _ (lt-leb low key less)
+
+between-above : (low high key : ℕ) → high < key → is_between low high key ≡ false
+between-above low high key greater = and_right _ _ (lt-leb key high greater)
+
+pub keys-kept : (pair : ℕ × ℕ) (pairs : List (ℕ × ℕ)) (low high : ℕ) → is_between low high pair.0 ≡ true → keys_between (pair ∷ pairs) low high ≡ pair.0 ∷ keys_between pairs low high
+keys-kept pair pairs low high inside = cond-true _ _ _ inside
+
+pub keys-dropped : (pair : ℕ × ℕ) (pairs : List (ℕ × ℕ)) (low high : ℕ) → is_between low high pair.0 ≡ false → keys_between (pair ∷ pairs) low high ≡ keys_between pairs low high
+keys-dropped pair pairs low high outside = cond-false _ _ _ outside
+
+-- below the first key a bound makes no difference
+keys-same : (bound : ℕ) (pairs : List (ℕ × ℕ)) (low high : ℕ) → RisesFrom bound pairs → low ≤ bound → keys_between pairs low high ≡ keys_between pairs bound high
+keys-same bound [] low high rises le = refl
+keys-same bound (pair ∷ pairs) low high (from, rest) le =
+    let rest-same : keys_between pairs low high ≡ keys_between pairs bound high =
+            keys-same (pair.0 + 1) pairs low high rest (omega arith) ∙ sym (keys-same (pair.0 + 1) pairs bound high rest (omega arith)) in
+    elim (cases_lt high pair.0) [
+    | inl past ↦ keys-dropped pair pairs low high (between-above low high pair.0 past) ∙ rest-same ∙ sym (keys-dropped pair pairs bound high (between-above bound high pair.0 past))
+    | inr inside ↦ keys-kept pair pairs low high (between-inside low high pair.0 (omega arith) inside) ∙ ap (λ keys. pair.0 ∷ keys) rest-same
+        ∙ sym (keys-kept pair pairs bound high (between-inside bound high pair.0 from inside))
+  ]
+
+pub keys-step : (bound : ℕ) (pairs : List (ℕ × ℕ)) (low high key value : ℕ) → RisesFrom bound pairs → low ≤ key → key ≤ high → value_at pairs key ≡ Some value
+    → ((other : ℕ) → low ≤ other → other < key → value_at pairs other ≡ None) → keys_between pairs low high ≡ key ∷ keys_between pairs (key + 1) high
+keys-step bound [] low high key value rises above below is none = cc
+keys-step bound (pair ∷ pairs) low high key value (from, rest) above below is none = elim (cases_lt pair.0 low) [
+    | inl before ↦ keys-dropped pair pairs low high (between-below low high pair.0 before)
+        ∙ keys-step (pair.0 + 1) pairs low high key value rest above below (sym (value-later pair pairs key (λ same. absurd (omega arith))) ∙ is)
+            (λ other least less. sym (value-later pair pairs other (λ same. absurd (omega arith))) ∙ none other least less)
+        ∙ ap (λ keys. key ∷ keys) (sym (keys-dropped pair pairs (key + 1) high (between-below (key + 1) high pair.0 (omega arith))))
+    | inr at_least ↦ elim (cases_order pair.0 key) [
+      | inl here ↦ keys-kept pair pairs low high (between-inside low high pair.0 at_least (omega arith))
+          ∙ ap (λ k. k ∷ keys_between pairs low high) here
+          ∙ ap (λ keys. key ∷ keys) (keys-same (key + 1) pairs low high (subst (λ k. RisesFrom (k + 1) pairs) here rest) (omega arith)
+          ∙ sym (keys-dropped pair pairs (key + 1) high (between-below (key + 1) high pair.0 (omega arith))))
+      | inr (inl less) ↦ let apart : Some pair.1 ≡ None = sym (value-here pair pairs pair.0 refl) ∙ none pair.0 at_least less in cc
+      | inr (inr greater) ↦
+          let apart : Some value ≡ None = sym is ∙ value-later pair pairs key (λ same. absurd (omega arith)) ∙ value-below (pair.0 + 1) pairs key rest (omega arith) in cc
+    ]
+  ]
+
+pub keys-end : (pairs : List (ℕ × ℕ)) (low high : ℕ) → ((other : ℕ) → low ≤ other → other ≤ high → value_at pairs other ≡ None) → (bound : ℕ) → RisesFrom bound pairs → keys_between pairs low high ≡ []
+keys-end [] low high none bound rises = refl
+keys-end (pair ∷ pairs) low high none bound (from, rest) =
+    let later : keys_between pairs low high ≡ [] = keys-end pairs low high (λ other above below. elim (cases_lt other (pair.0 + 1)) [
+        | inl before ↦ value-below (pair.0 + 1) pairs other rest before
+        | inr after ↦ sym (value-later pair pairs other (λ same. absurd (omega arith))) ∙ none other above below
+      ]) (pair.0 + 1) rest in
+    elim (cases_Bool (is_between low high pair.0)) [
+    | inl inside ↦
+        let bounds = and_parts (leb low pair.0) (leb pair.0 high) inside in
+        let apart : Some pair.1 ≡ None = sym (value-here pair pairs pair.0 refl) ∙ none pair.0 (leb-true _ _ bounds.0) (leb-true _ _ bounds.1) in cc
+    | inr outside ↦ keys-dropped pair pairs low high outside ∙ later
+  ]
+
+pub count-keys : (pairs : List (ℕ × ℕ)) (low high : ℕ) → count_between pairs low high ≡ length (keys_between pairs low high)
+count-keys [] low high = refl
+count-keys (pair ∷ pairs) low high = elim (cases_Bool (is_between low high pair.0)) [
+    | inl inside ↦ sum_by-cons (λ (pair : ℕ × ℕ). cond (is_between low high pair.0) 1 0) pair pairs ∙ ap (λ b. cond b 1 0 + count_between pairs low high) inside
+        ∙ omega (arith, count-keys pairs low high, ap (λ (l : List ℕ). length l) (keys-kept pair pairs low high inside))
+    | inr outside ↦ sum_by-cons (λ (pair : ℕ × ℕ). cond (is_between low high pair.0) 1 0) pair pairs ∙ ap (λ b. cond b 1 0 + count_between pairs low high) outside
+        ∙ omega (arith, count-keys pairs low high, ap (λ (l : List ℕ). length l) (keys-dropped pair pairs low high outside))
+  ]
+
+-- a map has no more pairs than entries were accepted
+length-insert : (pairs : List (ℕ × ℕ)) (key value : ℕ) → length (insert_entry nat_cmp pairs key value) ≤ length pairs + 1
+length-insert [] key value = omega arith
+length-insert (pair ∷ pairs) key value = elim (cases_order key pair.0) [
+    | inl same ↦ omega (arith, ap (λ (l : List (ℕ × ℕ)). length l) (insert-equal pair pairs key value same))
+    | inr (inl less) ↦ omega (arith, ap (λ (l : List (ℕ × ℕ)). length l) (insert-less pair pairs key value less))
+    | inr (inr greater) ↦ omega (arith, ap (λ (l : List (ℕ × ℕ)). length l) (insert-greater pair pairs key value greater), length-insert pairs key value)
+  ]
+
+length-remove : (pairs : List (ℕ × ℕ)) (key : ℕ) → length (remove_entry (is_at (nat_cmp key)) pairs) ≤ length pairs
+length-remove [] key = omega arith
+length-remove (pair ∷ pairs) key = elim (cases_eq key pair.0) [
+    | inl same ↦ omega (arith, ap (λ (l : List (ℕ × ℕ)). length l) (remove-here pair pairs key same))
+    | inr other ↦ omega (arith, ap (λ (l : List (ℕ × ℕ)). length l) (remove-later pair pairs key other), length-remove pairs key)
+  ]
+
+length-filter : {A : Type 0} (p : A → Bool) (xs : List A) → length (filter p xs) ≤ length xs
+length-filter p [] = omega arith
+length-filter p (x ∷ xs) = elim (cases_Bool (p x)) [
+    | inl keeps ↦ omega (arith, ap length (cond-true (p x) (x ∷ filter p xs) (filter p xs) keeps), length-filter p xs)
+    | inr drops ↦ omega (arith, ap length (cond-false (p x) (x ∷ filter p xs) (filter p xs) drops), length-filter p xs)
+  ]
+
+length-updated : (pairs : List (ℕ × ℕ)) (update : Update) → length (updated pairs update) ≤ length pairs + length (entries_for pairs update)
+length-updated pairs (Put key value) = omega (arith, length-insert pairs key value)
+length-updated pairs (Del key) = omega (arith, length-remove pairs key)
+length-updated pairs (Sweep low high) = omega (arith, length-filter (λ pair. not (is_between low high pair.0)) pairs)
+
+length-fold : (pairs : List (ℕ × ℕ)) (updates : List Update) → length (fold updated pairs updates) ≤ length pairs + length (entries_from pairs updates)
+unfolding entries_from
+length-fold pairs [] = omega arith
+length-fold pairs (update ∷ updates) =
+    omega (arith, length-updated pairs update, length-fold (updated pairs update) updates, length-append (entries_for pairs update) (entries_from (updated pairs update) updates))
+
+pub length-after : (updates : List Update) → length (map_after updates) ≤ length (entries_of updates)
+unfolding map_after
+length-after updates = omega (arith, length-fold [] updates)
+
+pub count-few : (updates : List Update) (low high : ℕ) → count_between (map_after updates) low high ≤ length (entries_of updates)
+count-few updates low high =
+    omega (arith, count-keys (map_after updates) low high, length-filter (is_between low high) (keys_of (map_after updates)), length-map (map_after updates) (λ (pair : ℕ × ℕ). pair.0), length-after updates)

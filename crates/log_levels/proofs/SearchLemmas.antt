@@ -8,7 +8,7 @@ use Rattle.std.proofs.lemmas.Nat.{div_below}
 use Rattle.tombstones.specs.declared.entry.Entry.{Entry}
 use Rattle.tombstones.specs.Entries.{entry_at, kept, with_value}
 use Rattle.log_levels.specs.Shapes.{Held, IsCutOf, IsLevelFor, IsLastOfEach, last_at, level_of, from_bit, block_of}
-use Rattle.log_levels.specs.Kept.{value_of, IsAbsent}
+use Rattle.log_levels.specs.Kept.{value_of, IsAbsent, entry_in}
 use Rattle.tombstones.proofs.CallerLemmas.{Contains-entry_at, key-entry_at}
 use Rattle.log_levels.proofs.LengthLemmas.{some-last_at}
 use Rattle.log_levels.proofs.BitLemmas.{from_bit-zero, from_bit-small, from_bit-set}
@@ -109,3 +109,14 @@ last-absent entries key absent = none (last_at entries key) (some-last_at entrie
     none : (found : Option Entry) → is_some found ≡ false → found ≡ None
     none None is = refl
     none (Some e) is = cc
+
+-- the same by what a level has, occupied or not
+pub search-in-found : (entries : List Entry) (f i key : ℕ) (stored : Option (List Entry)) (entry : Entry) → IsLevelFor entries f i stored → Some entry ≡ entry_in stored key
+    → last_at (before entries f i) key ≡ Some entry
+search-in-found entries f i key None entry has found = cc
+search-in-found entries f i key (Some level) entry has found = search-found entries level f i key entry has (sym found)
+
+pub search-in-missed : (entries : List Entry) (f i key : ℕ) (stored : Option (List Entry)) → IsLevelFor entries f i stored → None ≡ entry_in stored key
+    → value_of (last_at (before entries f i) key) ≡ value_of (last_at (before entries f (i + 1)) key)
+search-in-missed entries f i key None has missed = ap value_of (search-clear entries f i key has)
+search-in-missed entries f i key (Some level) has missed = search-missed entries level f i key has (sym missed)

@@ -67,3 +67,13 @@ pub record ArePlaces (held : Held) (places : List ℕ) (key : ℕ) : Type 0 wher
 abbrev pub IsBelow : ℕ → Option ℕ → Type 0
 IsBelow key None = ⊤
 IsBelow key (Some least) = key < least
+
+-- what a level has at a key, if it is occupied
+abbrev pub entry_in : Option (List Entry) → ℕ → Option Entry
+entry_in None key = None
+entry_in (Some level) key = entry_at level key
+
+-- the first key from a bound on that has a value, if there is one
+abbrev pub IsNextLive : List Entry → ℕ → Option (ℕ × ℕ) → Type 0
+IsNextLive entries from None = (key : ℕ) → from ≤ key → value_of (last_at entries key) ≡ None
+IsNextLive entries from (Some (key, value)) = (from ≤ key) × (value_of (last_at entries key) ≡ Some value) × ((other : ℕ) → from ≤ other → other < key → value_of (last_at entries other) ≡ None)

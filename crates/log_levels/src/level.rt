@@ -1,5 +1,5 @@
 // A level as it is kept.
-ghost use Rattle.std.specs.Prelude.{◌≡◌, ◌^◌, ◌<◌, ◌≤◌, ℕ, None, IfSome, length, vec_len, IfOk};
+ghost use Rattle.std.specs.Prelude.{◌≡◌, ◌+◌, ◌^◌, ◌<◌, ◌≤◌, ℕ, None, IfSome, length, vec_len, IfOk};
 ghost use Rattle.std.specs.Option.{option_copied};
 ghost use Rattle.levels.specs.Indexes.{IsIndex};
 ghost use Rattle.tombstones.specs.Entries.{IsAscending, entry_at};
@@ -98,7 +98,7 @@ impl Level {
 
     /// The least key from `from` on, which is at this place, if there is one.
     #[inline]
-    pub fn key_from(&self, place: usize, from: u64) -> Option<u64>
+    pub fn key_from(&self, place: usize, from: u128) -> Option<u64>
         requires { place ≡ lb (level_keys self.now) from }
         ensures from { IfSome result (λ key. from ≤ key) }
         ensures least { (key : ℕ) → from ≤ key → IsBelow key result →
@@ -109,6 +109,19 @@ impl Level {
             return None;
         }
         Some(entries[place].key)
+    }
+
+    /// The place of the next key, by that of a key.
+    #[inline]
+    pub fn place_past(&self, place: usize, key: u64) -> usize
+        requires { place ≡ lb (level_keys self.now) key }
+        ensures { result ≡ lb (level_keys self.now) (key + 1) }
+    {
+        let _ = self.entries();
+        match self.entry_from(place, key) {
+            Some(_) => place + 1,
+            None => place,
+        }
     }
 
     /// The index of the keys.

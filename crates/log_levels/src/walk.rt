@@ -6,7 +6,7 @@ ghost use Rattle.tombstones.specs.declared.entry.Entry.{Entry};
 ghost use Rattle.log_levels.specs.Shapes.{IsCutOf, last_at, level_of, level_keys};
 ghost use Rattle.window_search.specs.Searches.{lb};
 ghost use Rattle.tombstones.specs.Entries.{entry_at};
-ghost use Rattle.log_levels.specs.Kept.{ArePlaces, IsAbsent, IsBelow, value_of};
+ghost use Rattle.log_levels.specs.Kept.{ArePlaces, IsAbsent, IsBelow, IsNextLive, entry_in, value_of};
 
 use crate::log_map::LogMap;
 use crate::questions::last_of;
@@ -29,11 +29,32 @@ impl LogMap {
         places
     }
 
+    /// The least key from `from` on that the map has, with its value, if there is one, by the places
+    /// of `from`. They become those of the key.
+    pub(crate) fn next_live(&self, places: &mut Places, from: u128) -> Option<(u64, u64)>
+        requires at { ArePlaces self.now places.old from }
+        requires few { from ≤ 2 ^ 64 }
+        ensures live { (entries : List Entry) → IsCutOf self.now entries →
+            IsNextLive entries from result }
+        ensures places { IfSome result (λ pair. ArePlaces self.now places.new pair.0) }
+    {
+        let mut low = from;
+        while let Some(key) = self.least_key(places, low) {
+            if let Some(value) = self.value_from(places, key) {
+                return Some((key, value));
+            }
+            self.pass(places, key);
+            low = u128::from(key) + 1;
+        }
+        None
+    }
+
     /// The least key from `from` on with an entry, if there is one, by the places of `from`.
-    fn least_key(&self, places: &Places, from: u64) -> Option<u64>
+    fn least_key(&self, places: &Places, from: u128) -> Option<u64>
         requires { ArePlaces self.now places.now from }
         ensures from { IfSome result (λ key. from ≤ key) }
         ensures least { (key : ℕ) → from ≤ key → IsBelow key result → IsAbsent self.now key }
+        ensures places { IfSome result (λ key. ArePlaces self.now places.now key) }
     {
         let mut least = least_from(&self.buffer, from);
         for i in 0..self.level_count() {
@@ -42,8 +63,47 @@ impl LogMap {
         least
     }
 
+    /// The value at a key, by its places.
+    fn value_from(&self, places: &Places, key: u64) -> Option<u64>
+        requires { ArePlaces self.now places.now key }
+        ensures { (entries : List Entry) → IsCutOf self.now entries →
+            result ≡ value_of (last_at entries key) }
+    {
+        if let Some(entry) = last_of(&self.buffer, key) {
+            return entry.value;
+        }
+        for i in 0..self.level_count() {
+            if let Some(entry) = self.entry_in_level(i, places[i], key) {
+                return entry.value;
+            }
+        }
+        None
+    }
+
+    /// The entry of a level with a key, which is at this place, if there is one.
+    fn entry_in_level(&self, i: usize, place: usize, key: u64) -> Option<&Entry>
+        requires { (level : List Entry) → level_of self.now i ≡ Some level →
+            place ≡ lb (level_keys level) key }
+        ensures { option_copied result ≡ entry_in (level_of self.now i) key }
+    {
+        let level = self.level(i)?;
+        level.entry_from(place, key)
+    }
+
+    /// Moves the places of a key to those of the next one.
+    pub(crate) fn pass(&self, places: &mut Places, key: u64)
+        requires { ArePlaces self.now places.old key }
+        ensures { ArePlaces self.now places.new (key + 1) }
+    {
+        for i in 0..self.level_count() {
+            if let Some(level) = self.level(i) {
+                places[i] = level.place_past(places[i], key);
+            }
+        }
+    }
+
     /// The least key of a level from `from` on, which is at this place, if there is one.
-    fn key_in_level(&self, i: usize, place: usize, from: u64) -> Option<u64>
+    fn key_in_level(&self, i: usize, place: usize, from: u128) -> Option<u64>
         requires { (level : List Entry) → level_of self.now i ≡ Some level →
             place ≡ lb (level_keys level) from }
         ensures from { IfSome result (λ key. from ≤ key) }
@@ -56,7 +116,7 @@ impl LogMap {
 }
 
 /// The least key from `from` on, if there is one.
-fn least_from(entries: &[Entry], from: u64) -> Option<u64>
+fn least_from(entries: &[Entry], from: u128) -> Option<u64>
     ensures from { IfSome result (λ key. from ≤ key) }
     ensures least { (key : ℕ) → from ≤ key → IsBelow key result → last_at entries.now key ≡ None }
 {
@@ -68,11 +128,11 @@ fn least_from(entries: &[Entry], from: u64) -> Option<u64>
 }
 
 /// A key, where it isn't below `from`.
-fn key_above(key: u64, from: u64) -> Option<u64>
+fn key_above(key: u64, from: u128) -> Option<u64>
     ensures from { IfSome result (λ key. from ≤ key) }
     ensures least { from ≤ key → result ≡ Some key }
 {
-    if key < from { None } else { Some(key) }
+    if u128::from(key) < from { None } else { Some(key) }
 }
 
 /// The lesser of two keys, where there are two.

@@ -1,6 +1,7 @@
 use Rattle.std.proofs.Common.{◌≡◌, ◌+◌, ◌<◌, ◌≤◌, ℕ, List, Some, IfSome, subst, sym, ap, ◌∙◌, inl, inr, arith}
 use Rattle.std.proofs.lemmas.Bool.{cases_lt}
-use Rattle.log_levels.specs.Shapes.{level_of}
+use Rattle.log_levels.specs.Shapes.{level_of, IsCutOf}
+use Rattle.log_levels.proofs.WalkLemmas.{places-stay}
 use Rattle.log_levels.proofs.log_map.LogMap.least_key.Goals as goal
 
 pub loop-i-preserved : goal.loop-i-preserved
@@ -17,3 +18,12 @@ loop-i-preserved c = record {
           c.key_in_level.ensures.least key level above (c.lesser-least.ensures.other key below) (ap (level_of c.args.self.now) (sym at) ∙ is)
     ];
 }
+
+pub returns-clause-places : goal.returns-clause-places
+returns-clause-places c =
+    let (entries, cut) = c.self.invariant.cut in
+    places-stay c.args.self.now entries c.args.places.now c.args.from c.loop-i.least (subst (λ held. IsCutOf held entries) c.self.view_is cut) c.requires c.loop-i.invariant.from
+    (λ key above below. record {
+      buffer = c.loop-i.invariant.buffer key above below;
+      levels = λ i level inside is. c.loop-i.invariant.levels key i level above below (omega arith) is;
+    })
