@@ -313,3 +313,24 @@ length-after updates = omega (arith, length-fold [] updates)
 pub count-few : (updates : List Update) (low high : ℕ) → count_between (map_after updates) low high ≤ length (entries_of updates)
 count-few updates low high =
     omega (arith, count-keys (map_after updates) low high, length-filter (is_between low high) (keys_of (map_after updates)), length-map (map_after updates) (λ (pair : ℕ × ℕ). pair.0), length-after updates)
+
+-- two maps with the same value at each key are the same
+pub same-pairs : (low : ℕ) (xs ys : List (ℕ × ℕ)) → RisesFrom low xs → RisesFrom low ys → ((key : ℕ) → value_at xs key ≡ value_at ys key) → xs ≡ ys
+same-pairs low [] [] xs_rise ys_rise same = refl
+same-pairs low [] (y ∷ ys) xs_rise ys_rise same = let apart : None ≡ Some y.1 = same y.0 ∙ value-here y ys y.0 refl in cc
+same-pairs low (x ∷ xs) [] xs_rise ys_rise same = let apart : Some x.1 ≡ None = sym (value-here x xs x.0 refl) ∙ same x.0 in cc
+same-pairs low (x ∷ xs) (y ∷ ys) (x_from, xs_rise) (y_from, ys_rise) same =
+    elim (cases_order x.0 y.0) [
+      | inr (inl less) ↦ let apart : Some x.1 ≡ None = sym (value-here x xs x.0 refl) ∙ same x.0 ∙ value-below y.0 (y ∷ ys) x.0 (omega arith, ys_rise) less in cc
+      | inr (inr greater) ↦ let apart : None ≡ Some y.1 = sym (value-below x.0 (x ∷ xs) y.0 (omega arith, xs_rise) greater) ∙ same y.0 ∙ value-here y ys y.0 refl in cc
+      | inl equal ↦
+          let value : Some x.1 ≡ Some y.1 = sym (value-here x xs x.0 refl) ∙ same x.0 ∙ value-here y ys x.0 equal in
+          let rest : xs ≡ ys = same-pairs (x.0 + 1) xs ys xs_rise (subst (λ k. RisesFrom (k + 1) ys) (sym equal) ys_rise) (λ key. elim (cases_lt key (x.0 + 1)) [
+              | inl before ↦ value-below (x.0 + 1) xs key xs_rise before ∙ sym (value-below (y.0 + 1) ys key ys_rise (omega arith))
+              | inr after ↦ sym (value-later x xs key (λ is. absurd (omega arith))) ∙ same key ∙ value-later y ys key (λ is. absurd (omega arith))
+            ]) in
+          pair-same x y xs ys equal value rest
+    ]
+  where
+    pair-same : (x y : ℕ × ℕ) (xs ys : List (ℕ × ℕ)) → x.0 ≡ y.0 → Some x.1 ≡ Some y.1 → xs ≡ ys → x ∷ xs ≡ y ∷ ys
+    pair-same (k, v) (l, w) xs ys keys values rest = cc

@@ -1,5 +1,5 @@
 -- A search for a key from the newest level on.
-use Rattle.std.proofs.Common.{◌≡◌, ℕ, zero, suc, ◌+◌, ◌*◌, ◌/◌, ◌^◌, ◌<◌, ◌≤◌, eqb, Bool, true, false, List, [], ◌∷◌, ◌++◌, length, take, drop, slice_index_or, Option, Some, None, is_some, refl, sym, ap, ◌∙◌, subst, inl, inr, ◌⊎◌, arith, add-one}
+use Rattle.std.proofs.Common.{◌≡◌, ℕ, zero, suc, ◌+◌, ◌*◌, ◌/◌, ◌^◌, ◌<◌, ◌≤◌, eqb, Bool, true, false, List, [], ◌∷◌, ◌++◌, length, take, drop, slice_index_or, Option, Some, None, is_some, refl, sym, ap, ◌∙◌, subst, inl, inr, ◌⊎◌, arith, add-one, add-zero}
 use Rattle.std.specs.Int.{bit_at}
 use Rattle.std.specs.Option.{option_or}
 use Rattle.std.proofs.lemmas.Bool.{cases_Bool, eqb-true, cond-true, cond-false}
@@ -120,3 +120,29 @@ pub search-in-missed : (entries : List Entry) (f i key : ℕ) (stored : Option (
     → value_of (last_at (before entries f i) key) ≡ value_of (last_at (before entries f (i + 1)) key)
 search-in-missed entries f i key None has missed = ap value_of (search-clear entries f i key has)
 search-in-missed entries f i key (Some level) has missed = search-missed entries level f i key has (sym missed)
+
+-- a map has one value at each key
+pub one-value : (held : Held) (one two : List Entry) (key : ℕ) → IsCutOf held one → IsCutOf held two → value_of (last_at one key) ≡ value_of (last_at two key)
+one-value held one two key cut_one cut_two = in-buffer (last_at held.buffer key) refl
+  where
+    same : length one ≡ length two
+    same = sym cut_one.accepted ∙ cut_two.accepted
+    step : (i : ℕ) (level : Option (List Entry)) (found : Option Entry) → i < length held.levels → level_of held i ≡ level → entry_in level key ≡ found
+        → value_of (last_at (before one (length one / 64) (i + 1)) key) ≡ value_of (last_at (before two (length two / 64) (i + 1)) key)
+        → value_of (last_at (before one (length one / 64) i) key) ≡ value_of (last_at (before two (length two / 64) i) key)
+    step i level (Some e) inside is found rest =
+        ap value_of (search-in-found one (length one / 64) i key level e (subst (IsLevelFor one (length one / 64) i) is (cut_one.levels i inside)) (sym found)
+        ∙ sym (search-in-found two (length two / 64) i key level e (subst (IsLevelFor two (length two / 64) i) is (cut_two.levels i inside)) (sym found)))
+    step i level None inside is found rest =
+        search-in-missed one (length one / 64) i key level (subst (IsLevelFor one (length one / 64) i) is (cut_one.levels i inside)) (sym found) ∙ rest
+        ∙ sym (search-in-missed two (length two / 64) i key level (subst (IsLevelFor two (length two / 64) i) is (cut_two.levels i inside)) (sym found))
+    up : (n i : ℕ) → i + n ≡ length held.levels → value_of (last_at (before one (length one / 64) i) key) ≡ value_of (last_at (before two (length two / 64) i) key)
+    up zero i end =
+        let small_one = subst (λ k. length one / 64 < 2 ^ k) (sym end ∙ add-zero i) (blocks-few held one cut_one) in
+        let small_two = subst (λ k. length two / 64 < 2 ^ k) (sym end ∙ add-zero i) (blocks-few held two cut_two) in
+        ap value_of (search-end one (length one / 64) i key small_one ∙ sym (search-end two (length two / 64) i key small_two))
+    up (suc n) i end = step i (level_of held i) (entry_in (level_of held i) key) (omega arith) refl refl (up n (i + 1) (omega arith))
+    in-buffer : (found : Option Entry) → last_at held.buffer key ≡ found → value_of (last_at one key) ≡ value_of (last_at two key)
+    in-buffer (Some e) found = ap value_of (search-buffer one held.buffer key e cut_one.buffer found ∙ sym (search-buffer two held.buffer key e cut_two.buffer found))
+    in-buffer None found = ap value_of (search-none one held.buffer (length one / 64) key cut_one.buffer found) ∙ up (length held.levels) 0 (omega arith)
+        ∙ sym (ap value_of (search-none two held.buffer (length two / 64) key cut_two.buffer found))

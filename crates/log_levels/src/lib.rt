@@ -12,6 +12,6 @@ mod updates;
 mod walk;
 
 pub use fault::MapFault;
-pub use log_map::LogMap;
+pub use log_map::{LogMap, one_map};
 pub use tombstones::Entry;
 pub use update::Update;

@@ -7,7 +7,9 @@ ghost use Rattle.tombstones.specs.declared.entry.Entry.{Entry};
 ghost use Rattle.tombstones.specs.Entries.{IsAscending};
 ghost use Rattle.levels.specs.Indexes.{IsIndex};
 ghost use Rattle.log_levels.specs.declared.update.Update.{Update};
-ghost use Rattle.log_levels.specs.Shapes.{StandsFor, capacity_of, level_of, level_keys};
+ghost use Rattle.log_levels.specs.Shapes.{Held, StandsFor, capacity_of, level_of, level_keys};
+ghost use Rattle.log_levels.specs.Maps.{map_after};
+ghost use Rattle.log_levels.specs.Accepted.{entries_of};
 
 use crate::level::{EPS, EPS_REC, Level};
 use budget::NoMemory;
@@ -126,6 +128,47 @@ impl LogMap {
         self.buffer.len() as u64
     }
 
+    /// How many entries level `i` has, if it is occupied. It is where bit `i` of a 64th of
+    /// [`LogMap::accepted`] is 1.
+    pub fn shape(&self, i: u32) -> Option<u64>
+        requires { i < length self.now.levels }
+        ensures count { result ≡ option_map length (level_of self.now i) }
+        ensures free { IsNone result ↔ (bit_at (self.now.accepted / BLOCK) i ≡ 0) }
+    {
+        let _ = &self.accepted;
+        match self.level(i as usize) {
+            Some(level) => Some(level.entries().len() as u64),
+            None => None,
+        }
+    }
+
+    /// The entries of level `i`, which is occupied, by rising key: the last one of each key of its
+    /// block, in the deepest level those with a value alone.
+    pub fn entries(&self, i: u32) -> &[Entry]
+        requires { IsSome (level_of self.now i) }
+        ensures entries { level_of self.now i ≡ Some result.now }
+        ensures ascending { IsAscending result.now }
+    {
+        match self.level(i as usize) {
+            Some(level) => level.entries(),
+            None => unreachable!(),
+        }
+    }
+
+    /// The index of the keys of level `i`, which is occupied.
+    pub fn index(&self, i: u32) -> &Index
+        requires { IsSome (level_of self.now i) }
+        ensures keys { option_map level_keys (level_of self.now i) ≡ Some result.now.keys }
+        ensures eps { result.now.eps ≡ EPS }
+        ensures eps_rec { result.now.eps_rec ≡ EPS_REC }
+        ensures index { IsIndex result.now.keys EPS EPS_REC result.now.levels }
+    {
+        match self.level(i as usize) {
+            Some(level) => level.index(),
+            None => unreachable!(),
+        }
+    }
+
     /// How many levels there are, occupied or not.
     pub(crate) fn level_count(&self) -> usize
         ensures count { result ≡ length self.now.levels }
@@ -144,3 +187,12 @@ impl LogMap {
         }
     }
 }
+
+/// A map stands for one map and one number of entries: two lists of updates for which it stands
+/// leave the same pairs and have as many entries.
+pub fn one_map()
+    ensures map { (held : Held) (one two : List Update) → StandsFor held one →
+        StandsFor held two → map_after one ≡ map_after two }
+    ensures accepted { (held : Held) (one two : List Update) → StandsFor held one →
+        StandsFor held two → length (entries_of one) ≡ length (entries_of two) }
+{}
