@@ -1,12 +1,15 @@
 -- A walk over the keys of a map.
-use Rattle.std.proofs.Common.{◌≡◌, ℕ, zero, suc, ◌+◌, ◌/◌, ◌<◌, ◌≤◌, List, [], ◌∷◌, length, slice_index, Option, Some, None, IfSome, refl, sym, ap, ◌∙◌, subst, inl, inr, arith}
+use Rattle.std.proofs.Common.{◌≡◌, ℕ, zero, suc, ◌+◌, ◌/◌, ◌<◌, ◌≤◌, List, [], ◌∷◌, ◌++◌, length, length-append, slice_index, Option, Some, None, IfSome, refl, sym, ap, ◌∙◌, subst, inl, inr, arith}
 use Rattle.std.proofs.lemmas.Bool.{cases_lt}
 use Rattle.window_search.specs.Searches.{lb}
 use Rattle.tombstones.specs.declared.entry.Entry.{Entry}
 use Rattle.tombstones.specs.Entries.{IsAscending}
 use Rattle.log_levels.specs.declared.update.Update.{Update}
+use Rattle.log_levels.specs.declared.update.Update.TheVariants.{Sweep}
+use Rattle.log_levels.proofs.UpdateLemmas.{entries_of-sweep}
+use Rattle.std.proofs.lemmas.List.{length-map}
 use Rattle.log_levels.specs.Maps.{map_after, next_from, value_at, count_between}
-use Rattle.log_levels.specs.Accepted.{entries_of, keys_between}
+use Rattle.log_levels.specs.Accepted.{entries_of, entries_for, keys_between, del_entry}
 use Rattle.log_levels.specs.Shapes.{Held, IsCutOf, StandsFor, IsLevelFor, last_at, level_of, level_keys}
 use Rattle.log_levels.specs.Kept.{IsAbsent, ArePlaces, IsBelow, IsNextLive, value_of}
 use Rattle.log_levels.proofs.LevelLemmas.{place-stays}
@@ -85,3 +88,9 @@ count-past updates from high key value live past = omega (arith, count-keys (map
 
 pub count-none : (updates : List Update) (from high : ℕ) → IsNextLive (entries_of updates) from None → count_between (map_after updates) from high ≡ 0
 count-none updates from high none = omega (arith, count-keys (map_after updates) from high, ap (λ (l : List ℕ). length l) (keys-none updates from high none))
+
+-- how many entries there are with a sweep
+pub length-sweep : (updates : List Update) (low high : ℕ) → length (entries_of (updates ++ Sweep low high ∷ [])) ≡ length (entries_of updates) + count_between (map_after updates) low high
+length-sweep updates low high =
+    ap (λ (l : List Entry). length l) (entries_of-sweep updates low high) ∙ length-append (entries_of updates) (entries_for (map_after updates) (Sweep low high))
+    ∙ omega (arith, length-map (keys_between (map_after updates) low high) del_entry, count-keys (map_after updates) low high)

@@ -36,6 +36,7 @@ impl LogMap {
         requires few { from ≤ 2 ^ 64 }
         ensures live { (entries : List Entry) → IsCutOf self.now entries →
             IsNextLive entries from result }
+        ensures from { IfSome result (λ pair. from ≤ pair.0) }
         ensures places { IfSome result (λ pair. ArePlaces self.now places.new pair.0) }
     {
         let mut low = from;
