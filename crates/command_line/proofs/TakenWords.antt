@@ -28,7 +28,7 @@ use Rattle.command_line.specs.Application.{application, box_rules, build_rules, 
 use Rattle.command_line.specs.declared.request.Request as declared
 use Rattle.command_line.specs.Requests.{Request, asked_of, request_for}
 use Rattle.command_line.specs.Words.{AreTaken, AskFor, request_of}
-use Rattle.command_line.specs.Passed.{ArePassed, AreIndexOptions, AreReplayOptions, IsDimensionOption, IsFlag}
+use Rattle.command_line.specs.Passed.{ArePassed, AreIndexOptions, AreQueryOptions, AreReplayOptions, IsDimensionOption}
 use Rattle.command_line.proofs.PassedRows.{all_set, level_good, quiet}
 use Rattle.command_line.proofs.OptionReads.{number_reads, flag_reads, takes_numbers, takes_flag}
 
@@ -118,7 +118,7 @@ module _ (a : App) (once : list_all sets_once a.subs ≡ true) (required : a.top
 abbrev pub IsCommand : Text × List Row → Type 0
 IsCommand p = ((p.0 ≡ codes "build") × AreIndexOptions p.1)
     ⊎ ((p.0 ≡ codes "explain") × AreIndexOptions p.1)
-    ⊎ ((p.0 ≡ codes "query") × AreIndexOptions p.1 × IsFlag (codes "windows") p.1)
+    ⊎ ((p.0 ≡ codes "query") × AreIndexOptions p.1 × AreQueryOptions p.1)
     ⊎ ((p.0 ≡ codes "box") × IsDimensionOption p.1)
     ⊎ ((p.0 ≡ codes "replay") × AreReplayOptions p.1)
 
@@ -139,6 +139,13 @@ build_filled = filled_from 1 build_rules
 abbrev query_filled : List Rule
 query_filled = filled_from 1 query_rules
 
+query_options : (rows : List Row) → ArePassed query_filled rows → AreQueryOptions rows
+unfolding clap_on_literals
+query_options rows passed = record {
+  windows = flag_reads query_filled (codes "windows") rows refl passed;
+  buckets = number_reads query_filled 0 20 (codes "buckets") rows refl passed;
+}
+
 abbrev box_filled : List Rule
 box_filled = filled_from 1 box_rules
 
@@ -158,7 +165,7 @@ unfolding clap_on_literals
 is_command p (inl s) = inl (s.name, index_options build_filled p.1 refl refl refl refl s.passed)
 is_command p (inr (inl s)) = inr (inl (s.name, index_options build_filled p.1 refl refl refl refl s.passed))
 is_command p (inr (inr (inl s))) =
-    inr (inr (inl (s.name, index_options query_filled p.1 refl refl refl refl s.passed, flag_reads query_filled (codes "windows") p.1 refl s.passed)))
+    inr (inr (inl (s.name, index_options query_filled p.1 refl refl refl refl s.passed, query_options p.1 s.passed)))
 is_command p (inr (inr (inr (inl s)))) = inr (inr (inr (inl (s.name, number_reads box_filled 2 4 (codes "dims") p.1 refl s.passed))))
 is_command p (inr (inr (inr (inr (inl s))))) = inr (inr (inr (inr (s.name, replay_options p.1 s.passed))))
 is_command p (inr (inr (inr (inr (inr none))))) = absurd none
@@ -233,7 +240,7 @@ has_explain p (inr (inr (inl c))) same = other_name p _ _ c.0 refl same
 has_explain p (inr (inr (inr (inl c)))) same = other_name p _ _ c.0 refl same
 has_explain p (inr (inr (inr (inr c)))) same = other_name p _ _ c.0 refl same
 
-pub has_query : (p : Text × List Row) → IsCommand p → bytes_eq p.0 (codes "query") ≡ true → AreIndexOptions p.1 × IsFlag (codes "windows") p.1
+pub has_query : (p : Text × List Row) → IsCommand p → bytes_eq p.0 (codes "query") ≡ true → AreIndexOptions p.1 × AreQueryOptions p.1
 has_query p (inl c) same = other_name p _ _ c.0 refl same
 has_query p (inr (inl c)) same = other_name p _ _ c.0 refl same
 has_query p (inr (inr (inl c))) same = (c.1, c.2)

@@ -36,9 +36,10 @@ index_rules = positional (codes "FILE") ∷ number (codes "eps") 0 MAX_EPSILON (
 abbrev pub build_rules : List Rule
 build_rules = index_rules ++ flag (codes "narrow") ∷ []
 
--- and a script of questions
+-- and a script of questions, and how many bits of a key a table goes by, if there is one
 abbrev pub query_rules : List Rule
-query_rules = build_rules ++ positional (codes "SCRIPT") ∷ flag (codes "windows") ∷ []
+query_rules = build_rules ++ positional (codes "SCRIPT") ∷ flag (codes "windows")
+    ∷ number (codes "buckets") 0 20 (codes "0") ∷ []
 
 -- a file of points with so many coordinates each, and a script of boxes
 abbrev pub box_rules : List Rule

@@ -30,6 +30,11 @@ IsNumberIn low high id rows = (text : Text) → one_of id rows ≡ Some text →
 abbrev pub IsFlag : Text → List Row → Type 0
 IsFlag id rows = (text : Text) → one_of id rows ≡ Some text → (text ≡ codes "true") ⊎ (text ≡ codes "false")
 
+-- what the options of a query hold, beside those of its index
+pub record AreQueryOptions (rows : List Row) : Type 0 where
+  pub windows : IsFlag (codes "windows") rows
+  pub buckets : IsNumberIn 0 20 (codes "buckets") rows
+
 -- what the option of a search in points holds
 abbrev pub IsDimensionOption : List Row → Type 0
 IsDimensionOption rows = IsNumberIn 2 4 (codes "dims") rows

@@ -27,7 +27,7 @@ pub record Replaying : Type 0 where
   pub script : Text
   pub levels : ℕ
 
--- each command, with the names of its files and its options
+-- each command, with the names of its files and its options; the table of a query isn't told, since no answer depends on it
 pub data Request : Type 0 where
   build : (building : Building) → Request
   explain : (building : Building) → Request
@@ -88,7 +88,7 @@ replayed_of r = record { script = r.script.now; levels = r.levels }
 abbrev pub asked_of : declared.Request → Request
 asked_of (variant.Build building) = build (built_of building)
 asked_of (variant.Explain building) = explain (built_of building)
-asked_of (variant.Query building script windows) = query (built_of building) script.now windows
+asked_of (variant.Query building script windows table) = query (built_of building) script.now windows
 asked_of (variant.Box searching) = box (searched_of searching)
 asked_of (variant.Replay replaying) = replay (replayed_of replaying)
 

@@ -13,6 +13,9 @@ use std::alloc::{AllocError, Global};
 /// How many workers build an index at most.
 const MOST_WORKERS: u32 = 64;
 
+/// How many bits of a key a table goes by at most.
+const MOST_BITS: u32 = 20;
+
 /// The program and its commands.
 pub fn application<'a>(alloc: Global) -> Result<Command<'a>, AllocError>
     ensures { IfOk result (λ program. app_of program ≡ application) }
@@ -58,7 +61,8 @@ fn query_command<'a>(alloc: Global) -> Result<Command<'a>, AllocError>
 {
     index_command(alloc, "query")?
         .arg(positional(alloc, "SCRIPT"))?
-        .arg(flag(alloc, "windows"))
+        .arg(flag(alloc, "windows"))?
+        .arg(number(alloc, "buckets", 0, MOST_BITS, "0"))
 }
 
 fn box_command<'a>(alloc: Global) -> Result<Command<'a>, AllocError>

@@ -21,6 +21,14 @@ pub struct Building<'a> {
     pub ghost few_workers: { workers ≤ 64 },
 }
 
+/// Whether a table takes the place of the levels above level 0, which no answer depends on.
+#[derive(Clone, Copy, Debug)]
+pub struct Table {
+    /// How many bits of a key the table goes by, at most 20; 0 where there is no table.
+    pub bits: u32,
+    pub ghost few: { bits ≤ 20 },
+}
+
 /// A file of points, and a script of boxes to search them.
 #[derive(Clone, Copy, Debug)]
 pub struct Searching<'a> {
@@ -71,6 +79,8 @@ pub enum Request<'a> {
         script: &'a str,
         /// Write the windows that are searched, too.
         windows: bool,
+        /// How the segments are found.
+        table: Table,
     },
     /// Write the points in each box of a script.
     Box {

@@ -111,7 +111,7 @@ struct Refused {
     words: &'static [&'static str],
 }
 
-const REFUSED: [Refused; 43] = [
+const REFUSED: [Refused; 45] = [
     Refused {
         name: "no command",
         words: &[],
@@ -249,6 +249,14 @@ const REFUSED: [Refused; 43] = [
         words: &["replay", "script", "--eps", "4"],
     },
     Refused {
+        name: "a table of too many bits",
+        words: &["query", "keys", "script", "--buckets", "21"],
+    },
+    Refused {
+        name: "a table to build",
+        words: &["build", "keys", "--buckets", "4"],
+    },
+    Refused {
         name: "help as a command",
         words: &["help"],
     },
@@ -284,6 +292,13 @@ const REFUSED: [Refused; 43] = [
         name: "the version of a command",
         words: &["explain", "--version"],
     },
+];
+
+// Queries of the keys `-` by the script of no name, with their windows, and the bits of their table.
+const QUERIES: [(&[&str], u32); 3] = [
+    (&["query", "-", "", "--windows"], 0),
+    (&["query", "-", "--buckets", "1", "--windows", ""], 1),
+    (&["query", "--buckets=20", "-", "", "--windows"], 20),
 ];
 
 // Searches of the points `points` by the script `script`, and how many coordinates they ask for.
@@ -358,16 +373,22 @@ fn other_words_are_no_command(rt: HostRuntime) -> Result<(), Fail> {
 
 #[test]
 fn questions_have_a_script(rt: HostRuntime) -> Result<(), Fail> {
-    let words = words_of(&rt, &["query", "-", "", "--windows"])?;
-    let Request::Query {
-        building,
-        script,
-        windows,
-    } = requested(rt.alloc(), &words)?
-    else {
-        return Err(Fail::from("no query"));
-    };
-    assert_eq!(rt; (building.file, script, windows), ("-", "", true));
+    for (words, bits) in QUERIES {
+        let words = words_of(&rt, words)?;
+        let Request::Query {
+            building,
+            script,
+            windows,
+            table,
+        } = requested(rt.alloc(), &words)?
+        else {
+            return Err(Fail::from("no query"));
+        };
+        assert_eq!(rt;
+            (building.file, script, windows, table.bits),
+            ("-", "", true, bits)
+        );
+    }
     Ok(())
 }
 

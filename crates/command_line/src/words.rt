@@ -9,11 +9,11 @@ ghost use Rattle.command_line.specs.Requests.{asked_of, building_of, built_of, i
 ghost use Rattle.command_line.specs.Requests.{number_in, query_of, request_for, searched_of};
 ghost use Rattle.command_line.specs.Requests.{searching_of, replayed_of, replaying_of};
 ghost use Rattle.command_line.specs.Words.{AreRefused, AreTaken, AskFor, request_of};
-ghost use Rattle.command_line.specs.Passed.{AreIndexOptions, AreReplayOptions};
+ghost use Rattle.command_line.specs.Passed.{AreIndexOptions, AreQueryOptions, AreReplayOptions};
 ghost use Rattle.command_line.specs.Passed.{IsDimensionOption, IsFlag, IsNumberIn};
 
 use crate::definition::application;
-use crate::request::{Building, Replaying, Request, Searching};
+use crate::request::{Building, Replaying, Request, Searching, Table};
 use clap::ArgMatches;
 use clap::error::ErrorKind;
 use std::alloc::{AllocError, Global};
@@ -87,13 +87,22 @@ fn request_in<'a>(matches: &ArgMatches<'a>) -> Option<Request<'a>>
 
 fn query_in<'a>(found: &ArgMatches<'a>) -> Request<'a>
     requires index { AreIndexOptions (rows_of (found_of found.now)) }
-    requires windows { IsFlag (codes "windows") (rows_of (found_of found.now)) }
+    requires options { AreQueryOptions (rows_of (found_of found.now)) }
     ensures { asked_of result ≡ query_of (rows_of (found_of found.now)) }
 {
     Request::Query {
         building: building_in(found),
         script: name_in(found, "SCRIPT"),
         windows: is_given(found, "windows"),
+        table: table_in(found),
+    }
+}
+
+fn table_in(found: &ArgMatches<'_>) -> Table
+    requires { AreQueryOptions (rows_of (found_of found.now)) }
+{
+    Table {
+        bits: number_in(found, "buckets", 0),
     }
 }
 

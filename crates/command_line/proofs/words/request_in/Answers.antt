@@ -18,8 +18,8 @@ query_in-requires-clause-index c =
     (has_query (c.in_ok-name.name.now, rows_of (found_of c.in_ok-name.found.now)) (is_met c.args.matches.now _ _ c.in_ok-name.ensures.name c.in_ok-name.ensures.rows
     c.requires.0 c.requires.1 c.requires.2) (sym c.if-eq-3.ensures)).0
 
-pub query_in-requires-clause-windows : goal.query_in-requires-clause-windows
-query_in-requires-clause-windows c =
+pub query_in-requires-clause-options : goal.query_in-requires-clause-options
+query_in-requires-clause-options c =
     (has_query (c.in_ok-name.name.now, rows_of (found_of c.in_ok-name.found.now)) (is_met c.args.matches.now _ _ c.in_ok-name.ensures.name c.in_ok-name.ensures.rows
     c.requires.0 c.requires.1 c.requires.2) (sym c.if-eq-3.ensures)).1
 
