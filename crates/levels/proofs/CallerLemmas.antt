@@ -8,3 +8,4 @@ pub use Rattle.levels.proofs.HeightLemmas.{long_level, levels_low}
 pub use Rattle.levels.proofs.RunsApart.{HasRun-each, HasRun-within, HasRun-unique}
 pub use Rattle.levels.proofs.WindowLists.{AreWindows-unique}
 pub use Rattle.levels.proofs.WindowsExist.{AreWindows-some}
+pub use Rattle.levels.proofs.RunLemmas.{first_x-order, lb-before_runs, no_runs}
