@@ -9,3 +9,4 @@ pub use Rattle.levels.proofs.RunsApart.{HasRun-each, HasRun-within, HasRun-uniqu
 pub use Rattle.levels.proofs.WindowLists.{AreWindows-unique}
 pub use Rattle.levels.proofs.WindowsExist.{AreWindows-some}
 pub use Rattle.levels.proofs.RunLemmas.{first_x-order, lb-before_runs, no_runs}
+pub use Rattle.levels.proofs.CostLemmas.{TakesAtMost-more, TakesAtMost-raise}
