@@ -1,5 +1,8 @@
 -- Halving the runs of a bucket.
-use Rattle.std.proofs.Common.{◌≡◌, ℕ, ◌+◌, ◌-◌, ◌*◌, ◌/◌, ◌^◌, ◌<◌, ◌≤◌, ap, ◌∙◌, add-one, arith}
+use Rattle.std.proofs.Common.{◌≡◌, ℕ, ◌+◌, ◌-◌, ◌*◌, ◌/◌, ◌^◌, ◌<◌, ◌≤◌, List, length, slice_index, sym, subst, inl, inr, ap, ◌∙◌, add-one, arith}
+use Rattle.std.specs.Prelude.{slice_set}
+use Rattle.std.proofs.lemmas.Bool.{cases_lt}
+use Rattle.std.proofs.lemmas.List.{get_or-set_same, get_or-set_other}
 use Rattle.std.proofs.Math.Nat.{pow-suc, pow-zero, mul-le-mul_left}
 use Rattle.window_search.proofs.Halving.{IsHalved}
 
@@ -32,3 +35,15 @@ halved_none before places left same = record {
   left = omega (arith, pow-zero 2, same);
   bound = omega (arith, pow-zero 2);
 }
+
+-- two lists, after a write to one lane of both
+pub lanes_done : (R : ℕ → ℕ → Type 0) (asked places : List ℕ) (lane q place : ℕ) → lane < length asked → lane < length places → ((k : ℕ) → k < lane → R (slice_index asked k) (slice_index places k)) → R q place →
+    (k : ℕ) → k < lane + 1 → R (slice_index (slice_set asked lane q) k) (slice_index (slice_set places lane place) k)
+lanes_done R asked places lane q place in_asked in_places before here k less = elim (cases_lt k lane) [
+  | inl under ↦ subst (λ (a : ℕ). R a (slice_index (slice_set places lane place) k)) (sym (get_or-set_other asked lane k q 0 (omega arith)))
+      (subst (R (slice_index asked k)) (sym (get_or-set_other places lane k place 0 (omega arith))) (before k under))
+  | inr from ↦
+      let same : lane ≡ k = omega arith in
+      subst (λ (j : ℕ). R (slice_index (slice_set asked lane q) j) (slice_index (slice_set places lane place) j)) same
+      (subst (λ (a : ℕ). R a (slice_index (slice_set places lane place) lane)) (sym (get_or-set_same asked lane q 0 in_asked)) (subst (R q) (sym (get_or-set_same places lane place 0 in_places)) here))
+]

@@ -12,6 +12,7 @@
 
 mod buckets;
 mod lookup;
+mod positions;
 mod table;
 
 pub use buckets::{Buckets, MAX_BITS};

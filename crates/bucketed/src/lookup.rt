@@ -43,7 +43,7 @@ impl<'a> Buckets<'a> {
 
     /// How many runs of level 0 begin at or before `q`.
     #[inline(always)]
-    fn begun<L: Ledger>(&self, q: u64, steps: &mut Steps<L>) -> u32
+    pub(crate) fn begun<L: Ledger>(&self, q: u64, steps: &mut Steps<L>) -> u32
         ensures runs { AreBegun (xs_at self.now.index.keys self.now.index.levels 1) q result }
         ensures cost { TakesAtMost (2 * (runs_beside self.now.index self.now.bits q + 1)) steps.old
             steps.new }
@@ -75,4 +75,16 @@ fn position_from<L: Ledger>(buckets: &Buckets<'_>, q: u64, blank: Blank) -> u32
 {
     let mut steps = Steps::<L>::new(blank);
     buckets.lower_bound(q, &mut steps)
+}
+
+/// How many runs begin at or before `q`, with a counter of its own.
+#[inline(always)]
+pub fn begun_from<L: Ledger>(buckets: &Buckets<'_>, q: u64, blank: Blank) -> u32
+    requires name { blank.name ≡ L.name }
+    requires parts { blank.parts ≡ L.parts }
+    requires one { blank.parts ≡ 1 }
+    ensures { AreBegun (xs_at buckets.now.index.keys buckets.now.index.levels 1) q result }
+{
+    let mut steps = Steps::<L>::new(blank);
+    buckets.begun(q, &mut steps)
 }

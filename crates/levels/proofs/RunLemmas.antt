@@ -36,6 +36,15 @@ first_x-order keys eps eps_rec levels order index = elim (cases_lt 0 (length lev
   | inr none ↦ λ i j d less inside. absurd (omega (arith, no_runs keys levels (omega arith)))
 ]
 
+-- where there is a key, the first run begins at the first one
+pub first_run : (keys : List ℕ) (eps eps_rec : ℕ) (levels : List (List Segment)) → IsNonDecreasing keys → IsIndex keys eps eps_rec levels → 0 < length keys →
+    (0 < length (xs_at keys levels 1)) × (slice_index (xs_at keys levels 1) 0 ≡ slice_index keys 0)
+first_run keys eps eps_rec levels order index some =
+    let level = index.some some in (
+      some_at keys eps eps_rec levels order some 1 (λ k less. index.each k (omega arith)),
+      first_at keys eps eps_rec levels order index some no_segment 1 (omega arith),
+    )
+
 -- where all runs begin behind a question, no key is below it
 pub lb-before_runs : (keys : List ℕ) (eps eps_rec : ℕ) (levels : List (List Segment)) (q : ℕ) → IsNonDecreasing keys → IsIndex keys eps eps_rec levels →
     ((k : ℕ) → k < length (xs_at keys levels 1) → q < slice_index (xs_at keys levels 1) k) → 0 ≡ lb keys q
@@ -43,7 +52,4 @@ lb-before_runs keys eps eps_rec levels q order index behind =
     sym (lb-is keys q 0 (omega arith) (λ k less. absurd (omega arith)) (λ k low inside. omega (arith, first (omega arith), order 0 k 0 low inside)))
   where
     first : 0 < length keys → q ≤ slice_index keys 0
-    first some =
-        let level = index.some some in
-        let runs : 0 < length (xs_at keys levels 1) = some_at keys eps eps_rec levels order some 1 (λ k less. index.each k (omega arith)) in
-        omega (arith, behind 0 runs, first_at keys eps eps_rec levels order index some no_segment 1 (omega arith))
+    first some = let run = first_run keys eps eps_rec levels order index some in omega (arith, run.1, behind 0 run.0)

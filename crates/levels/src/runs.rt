@@ -1,9 +1,10 @@
 // Lookups that begin at a run of level 0, for callers that find the run by other means.
-ghost use Rattle.std.specs.Prelude.{◌≡◌, ◌+◌, ◌*◌, ◌<◌, ◌≤◌, ◌^◌, length, slice_index};
+ghost use Rattle.std.specs.Prelude.{◌≡◌, ◌+◌, ◌*◌, ◌<◌, ◌≤◌, ◌^◌, ℕ, length, slice_index};
 ghost use Rattle.std.specs.List.Sorted.{IsNonDecreasing};
 ghost use Rattle.window_search.specs.Searches.{lb, IsPredecessor};
 ghost use Rattle.levels.specs.Costs.{TakesAtMost};
 ghost use Rattle.levels.specs.Indexes.{IsIndex, xs_at};
+ghost use Rattle.levels.specs.InStep.{AreRuns};
 
 use crate::index::Index;
 use budget::Steps;
@@ -63,5 +64,17 @@ impl Index {
         let keys = self.keys().file();
         let (low, high) = self.window_by_model(0, run, q);
         lower_in(keys, low, high, q, steps)
+    }
+
+    /// The lower bounds of sixteen questions, in step, each in the window of its run of level 0: from
+    /// the runs to how many keys of the file are below the questions.
+    pub fn lower_bounds_in(&self, qs: &[u64; 16], runs: &mut [u32; 16])
+        requires { AreRuns (xs_at self.now.keys self.now.levels 1) qs.now runs.old }
+        ensures lanes { length runs.new ≡ 16 }
+        ensures found { (k : ℕ) → k < 16 → slice_index runs.new k ≡ lb self.now.keys
+            (slice_index qs.now k) }
+    {
+        let _runs = self.runs();
+        self.bounds_below(qs, runs);
     }
 }
