@@ -8,3 +8,6 @@ pub use Rattle.levels.proofs.HeightLemmas.{long_level, levels_low}
 pub use Rattle.levels.proofs.RunsApart.{HasRun-each, HasRun-within, HasRun-unique}
 pub use Rattle.levels.proofs.WindowLists.{AreWindows-unique}
 pub use Rattle.levels.proofs.WindowsExist.{AreWindows-some}
+pub use Rattle.levels.proofs.RunLemmas.{first_x-order, first_run, lb-before_runs}
+pub use Rattle.levels.proofs.CostLemmas.{TakesAtMost-more, TakesAtMost-raise}
+pub use Rattle.levels.proofs.LaneLemmas.{block_positions, blocks_more, lane_done}

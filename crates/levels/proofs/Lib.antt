@@ -12,4 +12,5 @@ pub mod ModelLookup
 pub mod LaneLemmas
 pub mod HeightLemmas
 pub mod IndexLemmas
+pub mod RunLemmas
 pub mod CallerLemmas

@@ -45,7 +45,7 @@ module _ (keys : List ℕ) (eps eps_rec : ℕ) (levels : List (List Segment)) (o
   ascends i within = ascends_at keys eps eps_rec levels order i (λ k less. index.each k (omega arith))
 
   -- each level's first x is the first key
-  first_at : 0 < length keys → (d : Segment) (i : ℕ) → i ≤ length levels → slice_index (xs_at keys levels i) 0 ≡ slice_index keys 0
+  pub first_at : 0 < length keys → (d : Segment) (i : ℕ) → i ≤ length levels → slice_index (xs_at keys levels i) 0 ≡ slice_index keys 0
   first_at some d zero within = ap (λ (xs : List ℕ). slice_index xs 0) (xs_at-base keys levels) ∙ (xs-first keys some).1
   first_at some d (suc i) within =
       let points = some_at keys eps eps_rec levels order some (suc i) (λ k less. index.each k (omega arith)) in

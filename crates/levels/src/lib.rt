@@ -16,6 +16,7 @@ mod level;
 mod lookup;
 mod model;
 mod positions;
+mod runs;
 mod windows;
 
 pub use index::{Index, one_index};

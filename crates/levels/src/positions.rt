@@ -119,7 +119,7 @@ impl Index {
     }
 
     /// From runs of level 0 to the positions in the file.
-    fn bounds_below(&self, qs: &[u64; 16], runs: &mut [u32; 16])
+    pub(crate) fn bounds_below(&self, qs: &[u64; 16], runs: &mut [u32; 16])
         requires never_falls { IsNonDecreasing self.now.keys }
         requires few { length self.now.keys < 2 ^ 32 }
         requires index { IsIndex self.now.keys self.now.eps self.now.eps_rec self.now.levels }

@@ -1,0 +1,5 @@
+-- The counter's ledger is the new one.
+use Rattle.bucketed.proofs.buckets.Buckets.position.Given as goal
+
+abbrev pub ghosts-position_from : goal.ghosts-position_from
+ghosts-position_from a = record { name = a.blank.name; parts = a.blank.parts }

@@ -1,0 +1,90 @@
+// Lookups through the table.
+ghost use Rattle.std.specs.Prelude.{◌≡◌, ◌+◌, ◌-◌, ◌*◌, ◌<◌, ◌≤◌, ◌^◌, ℕ, length, slice_index};
+ghost use Rattle.window_search.specs.Searches.{lb, IsPredecessor};
+ghost use Rattle.levels.specs.Costs.{TakesAtMost};
+ghost use Rattle.levels.specs.Indexes.{xs_at};
+ghost use Rattle.bucketed.specs.Tables.{lookup_bound, runs_beside, AreBegun};
+
+use crate::Buckets;
+use budget::Steps;
+use std::marker::Brand;
+use std::sync::ledger::{Blank, Ledger};
+
+impl<'a> Buckets<'a> {
+    /// The position of `q` in the file: how many of its keys are below `q`.
+    ///
+    /// It takes the steps of [`Buckets::lower_bound`], and counts nothing. Cannot fail and takes no
+    /// memory.
+    pub fn position(&self, q: u64) -> u32
+        ensures { result ≡ lb self.now.index.keys q }
+    {
+        position_from::<Brand>(self, q, Blank::new(1))
+    }
+
+    /// The lower bound of `q`: how many keys of the file are below `q`.
+    ///
+    /// The run that begins last at or before `q` is searched among those that begin in the bucket
+    /// of `q`, and is the last one before them where none of them does. A step is a key read; two
+    /// to their number is at most 16 times a window's places, times one more than the runs that
+    /// begin in the bucket. Cannot fail and takes no memory.
+    pub fn lower_bound<L: Ledger>(&self, q: u64, steps: &mut Steps<L>) -> u32
+        ensures found { result ≡ lb self.now.index.keys q }
+        ensures cost { TakesAtMost (lookup_bound self.now.index self.now.bits q) steps.old
+            steps.new }
+    {
+        let index = self.index();
+        let _runs = index.runs();
+        let begun = self.begun(q, steps);
+        if begun == 0 {
+            return 0;
+        }
+        index.lower_bound_in(begun - 1, q, steps)
+    }
+
+    /// How many runs of level 0 begin at or before `q`.
+    #[inline(always)]
+    pub(crate) fn begun<L: Ledger>(&self, q: u64, steps: &mut Steps<L>) -> u32
+        ensures runs { AreBegun (xs_at self.now.index.keys self.now.index.levels 1) q result }
+        ensures cost { TakesAtMost (2 * (runs_beside self.now.index self.now.bits q + 1)) steps.old
+            steps.new }
+    {
+        let bucket = (q >> (64 - self.bits())) as u32;
+        let index = self.index();
+        let _runs = index.runs();
+        let mut begun = self.entry(bucket);
+        let mut left = self.entry(bucket + 1) - begun;
+        while left > 0 {
+            let half = left / 2;
+            if index.read_first(begun + half, steps) <= q {
+                begun += half + 1;
+                left -= half + 1;
+            } else {
+                left = half;
+            }
+        }
+        begun
+    }
+}
+
+/// The same with a counter of its own, from a new ledger.
+fn position_from<L: Ledger>(buckets: &Buckets<'_>, q: u64, blank: Blank) -> u32
+    requires name { blank.name ≡ L.name }
+    requires parts { blank.parts ≡ L.parts }
+    requires one { blank.parts ≡ 1 }
+    ensures { result ≡ lb buckets.now.index.keys q }
+{
+    let mut steps = Steps::<L>::new(blank);
+    buckets.lower_bound(q, &mut steps)
+}
+
+/// How many runs begin at or before `q`, with a counter of its own.
+#[inline(always)]
+pub fn begun_from<L: Ledger>(buckets: &Buckets<'_>, q: u64, blank: Blank) -> u32
+    requires name { blank.name ≡ L.name }
+    requires parts { blank.parts ≡ L.parts }
+    requires one { blank.parts ≡ 1 }
+    ensures { AreBegun (xs_at buckets.now.index.keys buckets.now.index.levels 1) q result }
+{
+    let mut steps = Steps::<L>::new(blank);
+    buckets.begun(q, &mut steps)
+}

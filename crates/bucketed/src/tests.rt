@@ -1,0 +1,99 @@
+//! Tables worked out by hand.
+ghost use Rattle.std.specs.Prelude.{◌≡◌, ◌+◌, ◌<◌, ◌≤◌, ◌^◌, length, vec_len, IsTrue};
+ghost use Rattle.std.specs.List.Sorted.{IsNonDecreasing};
+
+use crate::{Buckets, MAX_BITS};
+use budget::{NoMemory, Steps};
+use levels::{Index, Keys};
+use std::alloc::Global;
+use std::marker::Brand;
+use std::process::Abort;
+use std::sync::ledger::{Blank, Ledger};
+use std::test::Fail;
+
+fn is_ordered(keys: &[u64]) -> bool
+    ensures { IsTrue result → IsNonDecreasing keys.now }
+{
+    keys.is_sorted()
+}
+
+/// The index, built with a counter of its own.
+fn built<L: Ledger>(alloc: Global, keys: Keys, eps: u32, blank: Blank) -> Result<Index, NoMemory>
+    requires bounded { eps ≤ 1048576 }
+    requires name { blank.name ≡ L.name }
+    requires parts { blank.parts ≡ L.parts }
+    requires one { blank.parts ≡ 1 }
+{
+    let mut steps = Steps::<L>::new(blank);
+    Index::build_here(alloc, keys, eps, 0, &mut steps)
+}
+
+/// The index of these keys, with the bound 0 above level 0.
+fn index_of<R: Abort + AllocGlobal>(rt: &R, keys: &[u64], eps: u32) -> Result<Index, NoMemory> {
+    assert!(rt; eps <= 1_048_576);
+    assert!(rt; is_ordered(keys));
+    assert!(rt; keys.len() < 1000);
+    let keys = Keys::of(rt.alloc(), Vec::from_slice(rt.alloc(), keys)?)?;
+    built::<Brand>(rt.alloc(), keys, eps, Blank::new(1))
+}
+
+/// Compares positions by tables of 1, 4 and 20 bits.
+fn expect_positions<R: Abort + AllocGlobal>(
+    rt: &R,
+    keys: &[u64],
+    eps: u32,
+    positions: &[(u64, u32)],
+) -> Result<(), NoMemory> {
+    let index = index_of(rt, keys, eps)?;
+    for bits in [1, 4, MAX_BITS] {
+        assert!(rt; 1 <= bits && bits <= MAX_BITS);
+        let buckets = Buckets::build(rt.alloc(), &index, bits)?;
+        for (q, position) in positions {
+            assert_eq!(rt; buckets.position(*q), *position);
+        }
+    }
+    Ok(())
+}
+
+const LAST: u64 = u64::MAX;
+
+// The runs begin at 0, 4 and 16, all of them in the lowest of 16 buckets.
+#[test]
+fn squares(rt: HostRuntime) -> Result<(), Fail> {
+    let index = index_of(&rt, &[0, 1, 4, 9, 16, 25], 0)?;
+    let buckets = Buckets::build(rt.alloc(), &index, 4)?;
+    assert_eq!(rt; buckets.bits(), 4);
+    assert_eq!(rt; buckets.entry(0), 0);
+    for h in 1..17 {
+        assert_eq!(rt; buckets.entry(h), 3);
+    }
+    let asked = [(17, 5), (1 << 60, 6), (0, 0), (16, 4), (LAST, 6)];
+    for (q, position) in asked {
+        assert_eq!(rt; buckets.position(q), position);
+    }
+    Ok(())
+}
+
+#[test]
+fn any_bits(rt: HostRuntime) -> Result<(), Fail> {
+    expect_positions(&rt, &[], 0, &[(5, 0), (LAST, 0)])?;
+    expect_positions(&rt, &[7], 0, &[(6, 0), (7, 0), (8, 1)])?;
+    expect_positions(&rt, &[0, LAST], 1_048_576, &[(0, 0), (1, 1), (LAST, 1)])?;
+    expect_positions(&rt, &[5, 5, 5, 9], 0, &[(4, 0), (6, 3), (10, 4)])?;
+    expect_positions(
+        &rt,
+        &[LAST - 2, LAST - 2, LAST],
+        0,
+        &[(LAST - 1, 2), (LAST, 2)],
+    )?;
+    let halves = [0, 1, 1 << 63, (1 << 63) + 5, (1 << 63) + 6];
+    let asked = [
+        (2, 2),
+        ((1 << 63) - 1, 2),
+        (1 << 63, 2),
+        ((1 << 63) + 1, 3),
+        (LAST, 5),
+    ];
+    expect_positions(&rt, &halves, 0, &asked)?;
+    Ok(())
+}

@@ -1,0 +1,21 @@
+-- The first x of the runs are one for each run.
+use Rattle.std.proofs.Common.{◌≡◌, ℕ, List, length, sym, ap, ◌∙◌, subst, arith}
+use Rattle.std.specs.List.Sorted.{IsNonDecreasing}
+use Rattle.exact_cross.specs.declared.segment.Segment.{Segment}
+use Rattle.levels.proofs.LookupLemmas.{ascends}
+use Rattle.levels.proofs.RunLemmas.{runs-are, no_runs}
+use Rattle.levels.proofs.index.Index.runs.Goals as goal
+
+pub returns-then-levels-eq0-clause-count : goal.returns-then-levels-eq0-clause-count
+returns-then-levels-eq0-clause-count c = no_runs c.args.self.now.keys c.args.self.now.levels (omega (arith, c.levels.ensures.count, c.if-levels-eq0.true))
+
+pub overflow_cast-result : goal.overflow_cast-result
+overflow_cast-result c =
+    let value = c.args.self.now in
+    let file : c.file-file.result.now ≡ value.keys = c.file-file.ensures.keys ∙ c.keys-keys.ensures in
+    let order : IsNonDecreasing value.keys = subst IsNonDecreasing file c.file-file.ensures.never_falls in
+    let here = ascends value.keys value.eps value.eps_rec value.levels order c.levels.ensures.index 1 (omega (arith, c.levels.ensures.count, c.if-levels-eq0.false)) in
+    omega (arith, ap length c.level.ensures.segments, runs-are value.keys value.levels, here.few, ap length file, c.file-file.ensures.few)
+
+pub returns-clause-count : goal.returns-clause-count
+returns-clause-count c = ap length c.level.ensures.segments ∙ sym (runs-are c.args.self.now.keys c.args.self.now.levels)
