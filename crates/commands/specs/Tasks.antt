@@ -24,6 +24,6 @@ bounds_of b = record { eps = b.eps; eps_rec = b.eps_rec }
 abbrev pub task_of : declared.Task → Task
 task_of (variant.Build keys bounds workers) = build keys.keys.items (bounds_of bounds)
 task_of (variant.Explain keys bounds workers) = explain keys.keys.items (bounds_of bounds)
-task_of (variant.Query keys bounds workers questions windows) =
+task_of (variant.Query keys bounds workers questions windows table) =
     query keys.keys.items (bounds_of bounds) questions.items windows
 task_of (variant.Box search) = box search.dims search.coords.items search.regions.items

@@ -18,6 +18,7 @@ ghost use Rattle.commands.specs.Texts.{IsText};
 
 mod build;
 mod explain;
+mod finder;
 mod indexing;
 mod positions;
 mod query;
@@ -27,7 +28,7 @@ mod task;
 use edge::{Gate, Sink};
 use std::alloc::Global;
 use std::thread::Threads;
-pub use task::{Bounds, Search, SortedKeys, Task, Workers};
+pub use task::{Bounds, Search, SortedKeys, Table, Task, Workers};
 use written::Unfinished;
 
 /// Writes the text of the task. An index is built by workers, which pass the gate before and after
@@ -58,8 +59,9 @@ pub fn write<R: Threads + Sync, S: Sink, G: Gate>(
             workers,
             questions,
             windows,
+            table,
         } => query::write(
-            rt, alloc, keys, bounds, workers, &questions, windows, out, gate,
+            rt, alloc, keys, bounds, workers, &questions, windows, table, out, gate,
         ),
         Task::Box { search } => regions::write(rt, alloc, search, out),
     }

@@ -3,10 +3,11 @@ ghost use Rattle.std.specs.Prelude.{◌≡◌, ◌+◌, ◌*◌, ◌++◌, ◌<�
 ghost use Rattle.std.specs.Prelude.{take, vec_capacity, vec_len, IfOk, OnOk};
 ghost use Rattle.std.specs.List.{flat_map};
 ghost use Rattle.window_search.specs.Searches.{lb};
+ghost use Rattle.commands.specs.Finders.{keys_of};
 ghost use Rattle.commands.specs.Pieces.{piece_of};
 
+use crate::finder::Finder;
 use budget::NoMemory;
-use levels::Index;
 use rayon::slice::par_for_each_mut;
 use std::alloc::Global;
 use std::thread::Threads;
@@ -19,15 +20,15 @@ pub const PIECE: usize = 2048;
 pub fn positions_of<R: Threads + Sync>(
     rt: &R,
     alloc: Global,
-    index: &Index,
+    finder: &Finder<'_>,
     questions: &[u64],
 ) -> Result<Vec<u32>, NoMemory>
     ensures { IfOk result
-        (λ positions. positions.items ≡ map (lb index.now.keys) questions.now) }
+        (λ positions. positions.items ≡ map (lb (keys_of finder.now)) questions.now) }
 {
     let mut positions = Vec::with_capacity(alloc, questions.len())?;
     if questions.len() <= PIECE {
-        index.positions(questions, &mut positions);
+        finder.positions(questions, &mut positions);
         return Ok(positions);
     }
     let mut pieces = empty_pieces(alloc, questions.len().div_ceil(PIECE))?;
@@ -38,9 +39,9 @@ pub fn positions_of<R: Threads + Sync>(
             requires empty { vec_len piece.old ≡ 0 }
             requires room { PIECE ≤ vec_capacity piece.old }
             ensures positions { piece.new.items
-                ≡ map (lb index.entry.now.keys) (piece_of questions.entry.now i) }
+                ≡ map (lb (keys_of finder.entry.now)) (piece_of questions.entry.now i) }
         {
-            index.positions(piece_of(questions, i), piece);
+            finder.positions(piece_of(questions, i), piece);
         },
     );
     join_pieces(&pieces, &mut positions)?;

@@ -9,9 +9,10 @@ ghost use Rattle.commands.specs.Tasks.{bounds_of};
 ghost use Rattle.commands.specs.Texts.Query.{IsAnswered, TellsAnswer, TellsAnswers, find_line};
 ghost use Rattle.commands.specs.Texts.Query.{TellsWindows, window_line, window_lines};
 
+use crate::finder::Finder;
 use crate::indexing::index_of;
 use crate::positions::positions_of;
-use crate::task::{Bounds, SortedKeys, Workers};
+use crate::task::{Bounds, SortedKeys, Table, Workers};
 use edge::{Failed, Gate, Sink};
 use levels::Index;
 use std::alloc::Global;
@@ -23,8 +24,8 @@ type Window = (u32, u32, u32);
 
 /// Writes how many keys are below each question, and the windows where they are asked for.
 ///
-/// All memory is taken before the first byte: for the index, the positions, and the windows of one
-/// question.
+/// All memory is taken before the first byte: for the index, the table, the positions, and the
+/// windows of one question.
 pub fn write<R: Threads + Sync, S: Sink, G: Gate>(
     rt: &R,
     alloc: Global,
@@ -33,6 +34,7 @@ pub fn write<R: Threads + Sync, S: Sink, G: Gate>(
     workers: Workers,
     questions: &[u64],
     windows: bool,
+    table: Table,
     out: &mut S,
     gate: &G,
 ) -> Result<(), Unfinished>
@@ -40,7 +42,8 @@ pub fn write<R: Threads + Sync, S: Sink, G: Gate>(
         (IsAnswered sorted.keys.items (bounds_of bounds) questions.now windows) }
 {
     let index = index_of(rt, alloc, sorted, bounds, workers, gate)?;
-    let positions = positions_of(rt, alloc, &index, questions)?;
+    let finder = Finder::of(alloc, &index, table.bits)?;
+    let positions = positions_of(rt, alloc, &finder, questions)?;
     let mut room = Vec::with_capacity(alloc, index.levels() as usize)?;
     match write_answers(
         out, &index, bounds, questions, &positions, windows, &mut room,

@@ -51,6 +51,14 @@ pub struct Search {
     pub ghost each: { All (IsRegionOf dims) regions.items },
 }
 
+/// Whether a table takes the place of the levels above level 0. No text depends on it.
+#[derive(Clone, Copy, Debug)]
+pub struct Table {
+    /// How many bits of a key the table goes by, at most 20; 0 where there is no table.
+    pub bits: u32,
+    pub ghost few: { bits ≤ 20 },
+}
+
 /// A command, with its inputs and its options.
 #[derive(Drop)]
 pub enum Task {
@@ -73,6 +81,7 @@ pub enum Task {
         workers: Workers,
         questions: Vec<u64>,
         windows: bool,
+        table: Table,
     },
     /// Write the points in each region, and at how many places was looked.
     Box {

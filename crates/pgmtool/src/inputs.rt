@@ -12,7 +12,7 @@ ghost use Rattle.pgmtool.specs.Stops.{Answers};
 
 use crate::refusal::{Refusal, Stopped};
 use command_line::{Building, Request};
-use commands::{Bounds, Search, SortedKeys, Task, Workers};
+use commands::{Bounds, Search, SortedKeys, Table, Task, Workers};
 use edge::Shelf;
 use pgm_script::{ScriptKind, ScriptLine, parse, read_text};
 use sosd_reader::{read_keys, read_points};
@@ -60,6 +60,7 @@ pub fn read<F: Shelf>(alloc: Global, files: &mut F, request: Request<'_>) -> Res
             building,
             script,
             windows,
+            table,
         } => {
             let keys = index_keys(alloc, files, building)?;
             let lines = script_lines(alloc, files, script, ScriptKind::Find)?;
@@ -72,6 +73,7 @@ pub fn read<F: Shelf>(alloc: Global, files: &mut F, request: Request<'_>) -> Res
                 workers,
                 questions,
                 windows,
+                table: table_in(table),
             })
         }
         Request::Box { searching } => {
@@ -102,6 +104,10 @@ fn workers_in(building: Building<'_>) -> Workers {
     Workers {
         count: building.workers,
     }
+}
+
+fn table_in(table: command_line::Table) -> Table {
+    Table { bits: table.bits }
 }
 
 // The keys that an index is built of.

@@ -92,21 +92,28 @@ const ROWS: [Row; 9] = [
     },
 ];
 
+// No table, the smallest one, one that the keys stand in together, and the greatest.
+const BUCKETS: [&str; 4] = ["0", "1", "4", "20"];
+
 #[test]
 fn rows_have_their_text(rt: HostRuntime) -> Result<(), Fail> {
     for row in ROWS {
         let keys = key_file(&rt, row.keys)?;
-        let words = [
-            "query",
-            "keys",
-            "script",
-            "--eps",
-            row.eps,
-            "--rec",
-            "0",
-            "--windows",
-        ];
-        check_text(&rt, row.name, &words, &keys, row.script, row.text)?;
+        for buckets in BUCKETS {
+            let words = [
+                "query",
+                "keys",
+                "script",
+                "--eps",
+                row.eps,
+                "--rec",
+                "0",
+                "--windows",
+                "--buckets",
+                buckets,
+            ];
+            check_text(&rt, row.name, &words, &keys, row.script, row.text)?;
+        }
     }
     Ok(())
 }
@@ -115,6 +122,16 @@ fn rows_have_their_text(rt: HostRuntime) -> Result<(), Fail> {
 #[test]
 fn narrow_keys_are_found(rt: HostRuntime) -> Result<(), Fail> {
     let keys = b"\x02\0\0\0\0\0\0\0\x05\0\0\0\x09\0\0\0";
-    let words = ["query", "keys", "script", "--narrow"];
-    check_text(&rt, "5 and 9", &words, keys, b"find 6\n", &["find 6 1"])
+    for buckets in BUCKETS {
+        let words = [
+            "query",
+            "keys",
+            "script",
+            "--narrow",
+            "--buckets",
+            buckets,
+        ];
+        check_text(&rt, "5 and 9", &words, keys, b"find 6\n", &["find 6 1"])?;
+    }
+    Ok(())
 }

@@ -2,6 +2,7 @@ use Rattle.std.proofs.Common.{◌≡◌, ◌∙◌, ◌*◌, ◌≤◌, ◌++◌
 use Rattle.std.specs.List.{flat_map}
 use Rattle.std.proofs.lemmas.List.{take_at}
 use Rattle.window_search.specs.Searches.{lb}
+use Rattle.commands.specs.Finders.{keys_of}
 use Rattle.commands.specs.declared.positions.TheConstants.{PIECE}
 use Rattle.commands.proofs.PieceLemmas.{all_pieces}
 use Rattle.commands.proofs.positions.positions_of.Goals as goal
@@ -10,7 +11,7 @@ pub returns : goal.returns
 returns g c =
     let d = c.in_ok-positions.positions in
     let questions = c.args.questions.now in
-    let answer = lb c.args.index.now.keys in
+    let answer = lb (keys_of c.args.finder.now) in
     let pieces = c.par_for_each_mut.new.s in
     let long : length pieces ≡ c.in_ok-pieces.pieces.len = omega (arith, c.par_for_each_mut.auto.s, c.deref_mut.ensures.len) in
     let joined = c.deref.ensures.value ∙ take_at pieces (drop (length pieces) c.in_ok-pieces.pieces.items) c.in_ok-pieces.pieces.len long in
