@@ -8,7 +8,7 @@
 //! out. No contract says how long anything takes.
 #![tactic(auto)]
 
-ghost use Rattle.std.specs.Prelude.{◌≡◌, ◌^◌, ◌<◌, ◌≤◌, IsTrue, length};
+ghost use Rattle.std.specs.Prelude.{◌≡◌, ◌^◌, ◌<◌, ◌≤◌, IfOk, IsTrue, length};
 ghost use Rattle.std.specs.List.Sorted.{IsStrictlyIncreasing, IsNonDecreasing};
 
 use anyhow::{Context, Result, ensure};
@@ -37,6 +37,7 @@ fn run<R: AllocGlobal + Env + Files + Print + Clock + Threads + Sync>(rt: &R) ->
         eps <= MAX_EPSILON,
         "the error bound is at most {MAX_EPSILON}"
     );
+    let workers = workers_in(&words)?;
     let mut files = FileShelf::new(rt);
     ensure!(
         files.take_file(words[1].as_str()).is_ok(),
@@ -50,14 +51,23 @@ fn run<R: AllocGlobal + Env + Files + Print + Clock + Threads + Sync>(rt: &R) ->
         keys.len() == ys.len() && keys.len() < 1 << 32,
         "too many keys"
     );
-    match words.get(3) {
-        None => time_rounds(rt, &keys, &ys, eps),
-        Some(word) => {
-            let workers = word.parse::<u32>().context("the number of workers")?;
-            ensure!(1 <= workers && workers <= 64, "workers are from 1 to 64");
-            time_pieces(rt, &keys, &ys, eps, workers)
-        }
+    if workers == 0 {
+        time_rounds(rt, &keys, &ys, eps)
+    } else {
+        time_pieces(rt, &keys, &ys, eps, workers)
     }
+}
+
+/// How many workers are asked for; 0 where the word is missing.
+fn workers_in(words: &[String]) -> Result<u32>
+    ensures { IfOk result (λ workers. workers ≤ 64) }
+{
+    let Some(word) = words.get(3) else {
+        return Ok(0);
+    };
+    let workers = word.parse::<u32>().context("the number of workers")?;
+    ensure!(workers <= 64, "there are at most 64 workers");
+    Ok(workers)
 }
 
 /// Times three rounds over all points.
