@@ -47,6 +47,7 @@ impl<'a> Buckets<'a> {
     }
 
     /// The positions of sixteen questions, in step.
+    #[inline(always)]
     fn push_block(&self, qs: &[u64], into: &mut Vec<u32>)
         requires some { 0 < length self.now.index.keys }
         requires sixteen { length qs.now ≡ 16 }

@@ -51,6 +51,28 @@ fn expect_positions<R: Abort + AllocGlobal>(
         for (q, position) in positions {
             assert_eq!(rt; buckets.position(*q), *position);
         }
+        expect_together(rt, &buckets, positions)?;
+    }
+    Ok(())
+}
+
+/// Asks twenty questions together, each of these as often as needed.
+fn expect_together<R: Abort + AllocGlobal>(
+    rt: &R,
+    buckets: &Buckets<'_>,
+    positions: &[(u64, u32)],
+) -> Result<(), NoMemory> {
+    assert!(rt; !positions.is_empty());
+    let mut qs = Vec::with_capacity(rt.alloc(), 20)?;
+    for i in 0..20 {
+        qs.push(positions[i % positions.len()].0)?;
+    }
+    assert_eq!(rt; qs.len(), 20);
+    let mut together = Vec::with_capacity(rt.alloc(), 20)?;
+    buckets.positions(&qs, &mut together);
+    assert_eq!(rt; together.len(), 20);
+    for (i, found) in together.iter().enumerate() {
+        assert_eq!(rt; *found, positions[i % positions.len()].1);
     }
     Ok(())
 }

@@ -3,6 +3,7 @@ pub mod LevelLemmas
 pub mod StoredLemmas
 pub mod LookupLemmas
 pub mod CostLemmas
+pub mod EntryLemmas
 pub mod RunsApart
 pub mod WindowLists
 pub mod WindowsExist

@@ -1,5 +1,6 @@
 pub mod Indexes
 pub mod Stored
+pub mod Entries
 pub mod Costs
 pub mod Lookups
 pub mod Models

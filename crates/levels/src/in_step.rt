@@ -9,6 +9,7 @@ pub const LANES: usize = 16;
 /// Leaves one place of `count` for the predecessor of each of sixteen questions.
 ///
 /// Each step halves the places of all sixteen, and no branch depends on a key.
+#[inline(always)]
 pub fn predecessors_in_step(list: &[u64], qs: &[u64; 16], bases: &mut [u32; 16], count: u32)
     requires order { IsNonDecreasing list.now }
     requires few { length list.now < 2 ^ 32 }
@@ -48,6 +49,7 @@ fn halve_predecessors(list: &[u64], qs: &[u64; 16], bases: &mut [u32; 16], half:
 /// Leaves one place of `count` for the lower bound of each of sixteen questions.
 ///
 /// Each step halves the places of all sixteen, and no branch depends on a key.
+#[inline(always)]
 pub fn bounds_in_step(list: &[u64], qs: &[u64; 16], bases: &mut [u32; 16], count: u32)
     requires order { IsNonDecreasing list.now }
     requires few { length list.now < 2 ^ 32 }

@@ -8,8 +8,10 @@ ghost use Rattle.levels.specs.Indexes.{IsIndex, IsLevel, level_at, xs_at, ys_at,
 ghost use Rattle.key_points.specs.KeyPoints.{xs_of};
 ghost use Rattle.levels.specs.Heights.{IsLow, HasLongRuns, least_places};
 ghost use Rattle.levels.specs.Models.{IsEndOf, IsModelOf};
+ghost use Rattle.levels.specs.Entries.{IsEntry};
 ghost use Rattle.levels.specs.Stored.{AreLevels, AreStored, segments_of};
 
+use crate::entry::entry_of;
 use crate::level::Level;
 use crate::model::RunModel;
 use exact_cross::{MAX_EPSILON, Segment};
@@ -32,6 +34,8 @@ pub struct Index {
     eps: u32,
     eps_rec: u32,
     stored: Vec<Level>,
+    /// Where lookups start.
+    entry: u32,
 }
 
 impl Model for Index {
@@ -39,7 +43,8 @@ impl Model for Index {
 
     ghost Value = { PgmIndex };
 
-    ghost use Rattle.levels.specs.Stored.{AreStored, segments_of};
+    ghost use Rattle.levels.specs.Stored.{segments_of};
+    ghost use Rattle.levels.specs.Entries.{IsWhole};
 
     ghost view = { λ index. record {
       keys = index.keys;
@@ -48,7 +53,7 @@ impl Model for Index {
       levels = segments_of index.stored.items;
     } };
 
-    ghost invariant = { λ index. AreStored index.keys index.eps index.eps_rec index.stored.items };
+    ghost invariant = { λ index. IsWhole index.keys index.eps index.eps_rec index.stored.items index.entry };
 }
 
 impl Index {
@@ -60,12 +65,22 @@ impl Index {
         ensures eps_rec { result.eps_rec ≡ eps_rec }
         ensures levels { result.levels ≡ segments_of stored.items }
     {
+        let entry = entry_of(&keys, eps_rec, &stored);
         Index {
             keys,
             eps,
             eps_rec,
             stored,
+            entry,
         }
+    }
+
+    /// The level at which lookups start.
+    pub(crate) fn entry(&self) -> u32
+        ensures entry { IsEntry self.now.keys self.now.eps_rec self.now.levels result }
+        ensures index { IsIndex self.now.keys self.now.eps self.now.eps_rec self.now.levels }
+    {
+        self.entry
     }
 
     /// How many levels there are, none where there is no key.

@@ -10,6 +10,7 @@
 #![tactic(auto)]
 
 mod build;
+mod entry;
 mod in_step;
 mod index;
 mod level;

@@ -5,6 +5,7 @@ ghost use Rattle.std.specs.List.Sorted.{IsNonDecreasing};
 ghost use Rattle.exact_cross.specs.declared.segment.Segment.{Segment};
 ghost use Rattle.window_search.specs.Searches.{lb, IsPredecessor};
 ghost use Rattle.levels.specs.Costs.{TakesAtMost, lookup_bound};
+ghost use Rattle.levels.specs.Entries.{IsEntry};
 ghost use Rattle.levels.specs.Indexes.{IsIndex, level_at, xs_at, ys_at, points_at, eps_at};
 ghost use Rattle.levels.specs.Models.{IsEndOf};
 ghost use Rattle.levels.specs.Lookups.{IsWindowAt, IsNarrow, HoldsAnswers, extent_at};
@@ -29,9 +30,10 @@ impl Index {
 
     /// The lower bound of `q`: how many keys of the file are below `q`.
     ///
-    /// The levels are gone through from the last one down. Above level 0 the predecessor of `q` is
-    /// searched in the window of the run found, and is the run of the level below; at level 0 the
-    /// position is searched among the keys of the file. Where there is no key, or the first one is
+    /// The levels are gone through down to level 0, from the lowest one whose runs' first x are few
+    /// enough to be halved in place of the levels above, or else from the last one. Above level 0
+    /// the predecessor of `q` is searched in the window of the run found, and is the run of the
+    /// level below; at level 0 the position is searched among the keys of the file. Where there is no key, or the first one is
     /// above `q`, no window is formed. A step is a key read; two to their number is at most the
     /// product over the levels of four times a window's places. Cannot fail and takes no memory.
     ///
@@ -53,14 +55,34 @@ impl Index {
         if q < first {
             return 0;
         }
-        let mut run = 0;
-        let mut level = levels - 1;
+        let mut level = self.entry();
+        let mut run = self.entry_run(level, q, steps);
         while level > 0 {
             run = self.predecessor_below(level, run, q, steps);
             level -= 1;
         }
         let (low, high) = self.window_by_model(0, run, q);
         lower_in(keys, low, high, q, steps)
+    }
+
+    /// The run of the entry level, found among the first x of all its runs.
+    fn entry_run<L: Ledger>(&self, entry: u32, q: u64, steps: &mut Steps<L>) -> u32
+        requires never_falls { IsNonDecreasing self.now.keys }
+        requires few { length self.now.keys < 2 ^ 32 }
+        requires index { IsIndex self.now.keys self.now.eps self.now.eps_rec self.now.levels }
+        requires some { 0 < length self.now.levels }
+        requires entry { IsEntry self.now.keys self.now.eps_rec self.now.levels entry }
+        requires from_first { slice_index self.now.keys 0 ≤ q }
+        ensures found { IsPredecessor (xs_at self.now.keys self.now.levels (entry + 1)) q result }
+        ensures cost { TakesAtMost ((4 * (2 * self.now.eps_rec + 3)) ^ (length self.now.levels
+            - 1 - entry)) steps.old steps.new }
+    {
+        let levels = self.levels();
+        if entry + 1 == levels {
+            return 0;
+        }
+        let list = self.list(entry + 1);
+        predecessor_in(list, 0, list.len() as u32 - 1, q, steps)
     }
 
     /// The predecessor of `q` in the list of a level above level 0, where the run with it is known.

@@ -43,6 +43,7 @@ impl Index {
     }
 
     /// The positions of sixteen questions, in step.
+    #[inline(always)]
     fn push_block(&self, qs: &[u64], into: &mut Vec<u32>)
         requires some { 0 < length self.now.keys }
         requires sixteen { length qs.now ≡ 16 }
@@ -63,6 +64,7 @@ impl Index {
     }
 
     /// The positions of sixteen questions, none of them below the first key.
+    #[inline(always)]
     fn find_block(&self, qs: &[u64; 16], places: &mut [u32; 16])
         requires never_falls { IsNonDecreasing self.now.keys }
         requires few { length self.now.keys < 2 ^ 32 }
@@ -84,6 +86,7 @@ impl Index {
 
     /// From runs of a level above level 0 to those of the level below it, which are the
     /// predecessors in the level's list.
+    #[inline(always)]
     fn runs_below(&self, level: u32, qs: &[u64; 16], runs: &mut [u32; 16])
         requires never_falls { IsNonDecreasing self.now.keys }
         requires few { length self.now.keys < 2 ^ 32 }
@@ -119,6 +122,7 @@ impl Index {
     }
 
     /// From runs of level 0 to the positions in the file.
+    #[inline(always)]
     pub(crate) fn bounds_below(&self, qs: &[u64; 16], runs: &mut [u32; 16])
         requires never_falls { IsNonDecreasing self.now.keys }
         requires few { length self.now.keys < 2 ^ 32 }

@@ -68,6 +68,7 @@ impl Index {
 
     /// The lower bounds of sixteen questions, in step, each in the window of its run of level 0: from
     /// the runs to how many keys of the file are below the questions.
+    #[inline(always)]
     pub fn lower_bounds_in(&self, qs: &[u64; 16], runs: &mut [u32; 16])
         requires { AreRuns (xs_at self.now.keys self.now.levels 1) qs.now runs.old }
         ensures lanes { length runs.new ≡ 16 }

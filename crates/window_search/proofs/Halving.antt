@@ -9,14 +9,14 @@ pub record IsHalved (before now places count : ℕ) : Type 0 where
   pub left : 2 ^ t * (count - 1) ≤ places - 1
   pub bound : 2 ^ t ≤ 2 * places
 
-pub halved_more : (before now places count : ℕ) → 1 < count → IsHalved before now places count → IsHalved before (now + 1) places (count - count / 2)
-halved_more before now places count more halved =
+-- one step, which leaves at most half of count - 1
+pub halved_to : (before now places count rest : ℕ) → 1 < count → 2 * (rest - 1) ≤ count - 1 → IsHalved before now places count → IsHalved before (now + 1) places rest
+halved_to before now places count rest more twice halved =
     let t = halved.t in
-    let twice : 2 * (count - count / 2 - 1) ≤ count - 1 = omega arith in
     let scaled = mul-le-mul_left (2 ^ t) twice in
     let one = mul-le-mul_left (2 ^ t) (one_of count more) in
     let power : 2 ^ (t + 1) ≡ 2 * 2 ^ t = ap (λ n. 2 ^ n) (add-one t) ∙ omega (arith, pow-suc 2 t) in
-    let powers = ap (λ n. n * (count - count / 2 - 1)) power in
+    let powers = ap (λ n. n * (rest - 1)) power in
     record {
       t = t + 1;
       taken = omega (arith, halved.taken);

@@ -34,8 +34,10 @@ pub fn predecessor_in<L: Ledger>(
         let half = count / 2;
         if counted.read(base + half, steps) <= q {
             base += half;
+            count -= half;
+        } else {
+            count = half;
         }
-        count -= half;
     }
     base as u32
 }
@@ -62,8 +64,10 @@ pub fn lower_in<L: Ledger>(keys: &[u64], lo: u32, hi: u32, q: u64, steps: &mut S
         let half = count / 2;
         if counted.read(bound + half - 1, steps) < q {
             bound += half;
+            count -= half;
+        } else {
+            count = half;
         }
-        count -= half;
     }
     bound as u32
 }

@@ -15,7 +15,7 @@ returns-clause-least c =
     let inside : c.args.i < length levels = omega (arith, segments_of-count levels, rw (← c.self.view_is) at c.requires) in
     let here : c.deref.result.now ≡ level_at (segments_of levels) c.args.i =
     c.deref.ensures.value ∙ ap (λ (l : Level). l.segments.items) c.index-level.ensures ∙ sym (level_at-kept levels c.args.i c.index-level.result.now inside) in
-    rw (← c.self.view_is, here) (IsIndex-least own.keys own.eps own.eps_rec (segments_of levels) c.self.invariant.first.never_falls c.self.invariant.index c.args.i (omega (arith, inside, segments_of-count levels)))
+    rw (← c.self.view_is, here) (IsIndex-least own.keys own.eps own.eps_rec (segments_of levels) c.self.invariant.stored.first.never_falls c.self.invariant.stored.index c.args.i (omega (arith, inside, segments_of-count levels)))
 
 pub returns-clause-checked : goal.returns-clause-checked
 returns-clause-checked c =
@@ -24,8 +24,8 @@ returns-clause-checked c =
     let inside : c.args.i < length levels = omega (arith, segments_of-count levels, rw (← c.self.view_is) at c.requires) in
     let here : c.deref.result.now ≡ level_at (segments_of levels) c.args.i =
     c.deref.ensures.value ∙ ap (λ (l : Level). l.segments.items) c.index-level.ensures ∙ sym (level_at-kept levels c.args.i c.index-level.result.now inside) in
-    rw (← c.self.view_is, here) (IsIndex-checked own.keys own.eps own.eps_rec (segments_of levels) c.self.invariant.first.never_falls c.self.invariant.index c.self.invariant.first.few
-    c.self.invariant.first.bounded c.self.invariant.first.bounded_rec c.args.i (omega (arith, inside, segments_of-count levels)))
+    rw (← c.self.view_is, here) (IsIndex-checked own.keys own.eps own.eps_rec (segments_of levels) c.self.invariant.stored.first.never_falls c.self.invariant.stored.index c.self.invariant.stored.first.few
+    c.self.invariant.stored.first.bounded c.self.invariant.stored.first.bounded_rec c.args.i (omega (arith, inside, segments_of-count levels)))
 
 pub returns-clause-long : goal.returns-clause-long
 returns-clause-long c =
@@ -35,4 +35,4 @@ returns-clause-long c =
     let here : c.deref.result.now ≡ level_at (segments_of levels) c.args.i =
     c.deref.ensures.value ∙ ap (λ (l : Level). l.segments.items) c.index-level.ensures ∙ sym (level_at-kept levels c.args.i c.index-level.result.now inside) in
     rw (← c.self.view_is, here)
-    (long_level own.keys own.eps own.eps_rec (segments_of levels) c.self.invariant.first.never_falls c.self.invariant.index c.args.i (omega (arith, inside, segments_of-count levels)))
+    (long_level own.keys own.eps own.eps_rec (segments_of levels) c.self.invariant.stored.first.never_falls c.self.invariant.stored.index c.args.i (omega (arith, inside, segments_of-count levels)))

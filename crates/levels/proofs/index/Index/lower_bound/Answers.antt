@@ -1,24 +1,17 @@
 -- The last level's one run has the predecessor, and below the first key there is no key. The steps' bounds multiply.
 use Rattle.std.proofs.Common.{◌≡◌, ◌+◌, ◌-◌, ◌*◌, ◌<◌, ◌≤◌, ℕ, List, length, slice_index, sym, ap, ◌∙◌, subst, inl, inr, arith}
 use Rattle.std.specs.List.Sorted.{IsNonDecreasing}
-use Rattle.std.proofs.lemmas.Bool.{cases_lt}
 use Rattle.exact_cross.specs.declared.segment.Segment.{Segment}
 use Rattle.window_search.specs.Searches.{lb}
 use Rattle.window_search.proofs.CallerLemmas.{lb-is}
 use Rattle.levels.specs.Costs.{TakesAtMost}
-use Rattle.levels.proofs.LookupLemmas.{no_segment, top_run}
-use Rattle.levels.proofs.CostLemmas.{lookup-first, lookup-one, lookup-more, lookup-last}
+use Rattle.levels.proofs.EntryLemmas.{lookup-entry}
+use Rattle.levels.proofs.CostLemmas.{lookup-one, lookup-more, lookup-last}
 use Rattle.levels.proofs.index.Index.lower_bound.Goals as goal
 
 none_below : (keys : List ℕ) (q : ℕ) → IsNonDecreasing keys → (0 < length keys → q ≤ slice_index keys 0) → 0 ≡ lb keys q
 none_below keys q order first =
     sym (lb-is keys q 0 (omega arith) (λ k less. absurd (omega arith)) (λ k low inside. omega (arith, first (omega arith), order 0 k 0 low inside)))
-
-some_key : (keys : List ℕ) (levels : List (List Segment)) → (length keys ≡ 0 → length levels ≡ 0) → 0 < length levels → 0 < length keys
-some_key keys levels none level = elim (cases_lt 0 (length keys)) [
-  | inl some ↦ some
-  | inr empty ↦ absurd (omega (arith, none (omega arith)))
-]
 
 pub returns-then-q-first-clause-found : goal.returns-then-q-first-clause-found
 returns-then-q-first-clause-found g c =
@@ -33,21 +26,22 @@ returns-then-q-first-clause-cost g c = λ some.
     let value = c.args.self.now in
     lookup-one value.eps value.eps_rec (length value.levels) c.args.steps.now c.read-first.new.steps c.read-first.ensures.cost
 
+pub entry_run-run-requires-clause-from_first : goal.entry_run-run-requires-clause-from_first
+entry_run-run-requires-clause-from_first g c =
+    let value = c.args.self.now in
+    let file : c.file-keys.result.now ≡ value.keys = c.file-keys.ensures.keys ∙ c.keys.ensures in
+    let read : c.read-first.result ≡ slice_index value.keys 0 = c.read-first.ensures.key ∙ ap (λ (l : List ℕ). slice_index l 0) (c.new.ensures ∙ file) in
+    omega (arith, c.if-q-first.false, read)
+
 pub loop-level-init : goal.loop-level-init
 loop-level-init g c =
     let value = c.args.self.now in
-    let index = c.levels-levels.ensures.index in
-    let file : c.file-keys.result.now ≡ value.keys = c.file-keys.ensures.keys ∙ c.keys.ensures in
-    let order : IsNonDecreasing value.keys = subst IsNonDecreasing file c.file-keys.ensures.never_falls in
     let level : 0 < length value.levels = omega (arith, c.levels-levels.ensures.count, c.if-levels-eq0.false) in
-    let some : 0 < length value.keys = some_key value.keys value.levels index.none level in
-    let read : c.read-first.result ≡ slice_index value.keys 0 = c.read-first.ensures.key ∙ ap (λ (l : List ℕ). slice_index l 0) (c.new.ensures ∙ file) in
     record {
-      inside = omega (arith, c.levels-levels.ensures.count);
-      run = top_run value.keys value.eps value.eps_rec value.levels order index no_segment (c.levels-levels.result - 1) c.args.q (omega (arith, c.levels-levels.ensures.count)) some
-          (omega (arith, c.if-q-first.false, read));
-      cost = lookup-first (4 * (2 * value.eps_rec + 3)) (length value.levels - 1 - (c.levels-levels.result - 1)) c.args.steps.now c.read-first.new.steps
-          (omega (arith, c.levels-levels.ensures.count)) c.read-first.ensures.cost;
+      inside = c.entry-level.ensures.entry.inside level;
+      run = c.entry_run-run.ensures.found;
+      cost = lookup-entry (4 * (2 * value.eps_rec + 3)) (length value.levels - 1 - c.entry-level.result) c.args.steps.now c.read-first.new.steps c.entry_run-run.new.steps
+          c.read-first.ensures.cost c.entry_run-run.ensures.cost;
     }
 
 pub loop-level-preserved : goal.loop-level-preserved
