@@ -15,13 +15,13 @@ behind entries f i = drop (64 * from_bit i f) entries
 abbrev pub before : List Entry → ℕ → ℕ → List Entry
 before entries f i = take (64 * from_bit i f) entries
 
-take-nil : (n : ℕ) → take n (let none : List Entry = [] in none) ≡ []
+take-nil : {A : Type 0} (n : ℕ) → take n (let none : List A = [] in none) ≡ []
 take-nil zero = refl
 take-nil (suc n) = refl
 
-take-add : (m n : ℕ) (xs : List Entry) → take (m + n) xs ≡ take m xs ++ take n (drop m xs)
+pub take-add : {A : Type 0} (m n : ℕ) (xs : List A) → take (m + n) xs ≡ take m xs ++ take n (drop m xs)
 take-add zero n xs = ap (λ k. take k xs) (zero-add n)
-take-add (suc m) n [] = take-nil (suc m + n) ∙ sym (take-nil n)
+take-add {A} (suc m) n [] = take-nil {A = A} (suc m + n) ∙ sym (take-nil {A = A} n)
 take-add (suc m) n (x ∷ xs) = ap (λ k. take k (x ∷ xs)) (suc-add m n) ∙ ap (λ rest. x ∷ rest) (take-add m n xs)
 
 -- the block of bit i is the first of what comes behind the higher bits

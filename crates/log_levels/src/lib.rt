@@ -1,6 +1,7 @@
 //! A map.
 #![tactic(auto)]
 
+mod apply;
 mod fault;
 mod growth;
 mod latest;
