@@ -37,7 +37,7 @@ pub length-latest : (deepest : Bool) (entries level : List Entry) → IsLastOfEa
 length-latest deepest entries level last =
     let apart = IsDistinct-from_apart eqb (level_keys level) (λ i j d less inside. ne_eqb _ _ (λ same. absurd (omega (arith, keys-rise level last.ascending i j d less inside)))) in
     let members : (key : ℕ) → is_member eqb (level_keys level) key ≡ true → is_member eqb (level_keys entries) key ≡ true =
-        λ key is. member-entry_at entries key ∙ sym (some-last_at entries key)
-            ∙ some-kept deepest (last_at entries key) (ap is_some (sym (last.lasts key)) ∙ sym (member-entry_at level key) ∙ is) in
+    λ key is. member-entry_at entries key ∙ sym (some-last_at entries key)
+    ∙ some-kept deepest (last_at entries key) (ap is_some (sym (last.lasts key)) ∙ sym (member-entry_at level key) ∙ is) in
     let few = length-le_from_is_member nat_eq_equiv (level_keys level) (level_keys entries) apart members in
     omega (arith, length-level_keys level, length-level_keys entries)

@@ -94,7 +94,7 @@ length-more before updates =
 pub length-first : (count : ℕ) (before updates : List Update) → length (entries_of (before ++ take count updates)) ≤ length (entries_of (before ++ updates))
 length-first count before updates =
     let whole : (before ++ take count updates) ++ drop count updates ≡ before ++ updates =
-            append_assoc before (take count updates) (drop count updates) ∙ ap (λ list. before ++ list) (take-append-drop count updates) in
+    append_assoc before (take count updates) (drop count updates) ∙ ap (λ list. before ++ list) (take-append-drop count updates) in
     omega (arith, length-more (before ++ take count updates) (drop count updates), ap (λ list. length (entries_of list)) whole)
 
 -- some updates of the rest come behind those before it

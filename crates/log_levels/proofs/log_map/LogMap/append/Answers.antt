@@ -9,8 +9,11 @@ invariant_of-self-2 c =
     let (entries, cut) = c.self.invariant.cut in
     let inside = held_of c.self.inside.accepted c.self.inside.buffer.items c.self.inside.stored.items in
     record {
-      cut = (entries ++ c.args.new.now, buffered-kept inside c.args.self.now c.args.new.now c.extend_from_slice.new.self.items entries c.self.view_is c.self.invariant.few c.requires.room
-          (omega (arith, c.if-self-after.false)) c.in_ok-extend_from_slice.ensures.items (subst (λ held. IsCutOf held entries) c.self.view_is cut));
+      cut = (
+        entries ++ c.args.new.now,
+        buffered-kept inside c.args.self.now c.args.new.now c.extend_from_slice.new.self.items entries c.self.view_is c.self.invariant.few c.requires.room
+            (omega (arith, c.if-self-after.false)) c.in_ok-extend_from_slice.ensures.items (subst (λ held. IsCutOf held entries) c.self.view_is cut),
+      );
       roomy = omega (arith, c.in_ok-extend_from_slice.ensures.capacity, c.self.invariant.roomy);
       some = c.self.invariant.some;
       few = c.self.invariant.few;

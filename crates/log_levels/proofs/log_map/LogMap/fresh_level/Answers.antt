@@ -44,4 +44,4 @@ returns c = λ entries cut.
     let last = subst (λ block. IsLastOfEach false block c.in_ok-latest.latest.items) c.part.ensures.part c.in_ok-latest.ensures in
     subst (λ list. IsLevelFor (entries ++ c.args.new.now) ((c.args.self.now.accepted + length c.args.new.now) / 64) c.args.i (Some list)) (sym c.in_ok-shared.ensures)
     (fresh-here c.args.self.now c.args.new.now c.args.top c.requires.change entries cut c.blocks_with-blocks.result c.args.i c.entries_from_bit.result c.entries_from_bit-2.result c.accepted-accepted.result c.in_ok-latest.latest.items
-        c.requires.below c.blocks_with-blocks.ensures.blocks set c.entries_from_bit.ensures c.entries_from_bit-2.ensures c.accepted-accepted.ensures.count last)
+    c.requires.below c.blocks_with-blocks.ensures.blocks set c.entries_from_bit.ensures c.entries_from_bit-2.ensures c.accepted-accepted.ensures.count last)

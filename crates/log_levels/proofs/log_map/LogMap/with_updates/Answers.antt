@@ -12,9 +12,11 @@ use Rattle.log_levels.proofs.log_map.LogMap.with_updates.Goals as goal
 pub returns-then-are_too_many-clause-full_only : goal.returns-then-are_too_many-clause-full_only
 returns-then-are_too_many-clause-full_only c = λ accepted is.
     let same : c.accepted-accepted.result ≡ accepted = cc in
-    let over = c.are_too_many.ensures.only c.if-are_too_many.true in
-    (omega (arith, c.accepted-accepted.ensures.count), λ before stands.
-        omega (arith, over.0, c.capacity.ensures, stands.accepted, c.accepted-accepted.ensures.count, c.accepted-accepted.ensures.within, length-plain before c.args.updates.now over.1))
+    let over = c.are_too_many.ensures.only c.if-are_too_many.true in (
+      omega (arith, c.accepted-accepted.ensures.count),
+      λ before stands.
+          omega (arith, over.0, c.capacity.ensures, stands.accepted, c.accepted-accepted.ensures.count, c.accepted-accepted.ensures.within, length-plain before c.args.updates.now over.1),
+    )
 
 pub loop-done-preserved : goal.loop-done-preserved
 loop-done-preserved c =
@@ -37,8 +39,10 @@ returns-in-Err-clause-full_only c = λ accepted is.
     let behind : c.behind.result ≡ Full accepted = cc in
     let (same, was_full) = c.behind.ensures.full accepted behind in
     let (inner, fault) = full-is c.in-Err.fault was_full in
-    let rest = take_rest c.args.updates.now c.loop-done.done in
-    (same ∙ c.accepted-accepted.ensures.count, λ before stands.
-        let over = c.in-Err.ensures.full_only inner (ap (λ (f : MapFault). Err f) fault) (before ++ take c.loop-done.done c.args.updates.now) (c.loop-done.invariant.stands before stands) in
-        let whole = ap (λ (l : List Update). before ++ take c.loop-done.done c.args.updates.now ++ l) rest ∙ take-rest c.loop-done.done before c.args.updates.now in
-        omega (arith, over, ap (λ (l : List Update). length (entries_of l)) whole, ap (λ n. 64 * 2 ^ n) c.loop-done.invariant.levels))
+    let rest = take_rest c.args.updates.now c.loop-done.done in (
+      same ∙ c.accepted-accepted.ensures.count,
+      λ before stands.
+          let over = c.in-Err.ensures.full_only inner (ap (λ (f : MapFault). Err f) fault) (before ++ take c.loop-done.done c.args.updates.now) (c.loop-done.invariant.stands before stands) in
+          let whole = ap (λ (l : List Update). before ++ take c.loop-done.done c.args.updates.now ++ l) rest ∙ take-rest c.loop-done.done before c.args.updates.now in
+          omega (arith, over, ap (λ (l : List Update). length (entries_of l)) whole, ap (λ n. 64 * 2 ^ n) c.loop-done.invariant.levels),
+    )

@@ -7,7 +7,7 @@ abbrev pub invariant-loop-done : goal.invariant-loop-done
 invariant-loop-done l = record {
   within : l.done ≤ length l.updates;
   levels : length l.map.levels ≡ length l.self.levels;
-  stands : (before : List Update) → StandsFor l.self before → StandsFor l.map (before ++ take l.done l.updates)
+  stands : (before : List Update) → StandsFor l.self before → StandsFor l.map (before ++ take l.done l.updates);
 }
 
 abbrev pub decreases-loop-done : goal.decreases-loop-done
