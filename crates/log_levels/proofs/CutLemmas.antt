@@ -1,11 +1,11 @@
 -- Blocks of a list that is cut by the bits of a number, and what they become when entries are added behind.
-use Rattle.std.proofs.Common.{◌≡◌, ℕ, zero, suc, ◌+◌, ◌-◌, ◌*◌, ◌/◌, ◌^◌, ◌<◌, ◌≤◌, List, [], ◌∷◌, ◌++◌, length, take, drop, refl, sym, ap, ◌∙◌, arith, length-append, length-drop, zero-add, suc-add}
+use Rattle.std.proofs.Common.{◌≡◌, ℕ, zero, suc, ◌+◌, ◌-◌, ◌*◌, ◌^◌, ◌≤◌, List, [], ◌∷◌, ◌++◌, length, take, drop, refl, sym, ap, ◌∙◌, arith, length-drop, zero-add, suc-add}
 use Rattle.std.proofs.lemmas.List.{take-append-drop, drop-drop, take-append-le, drop-append-le}
 use Rattle.std.proofs.Math.Seq.{take-append-add, drop-append-add}
 use Rattle.std.specs.Int.{bit_at}
 use Rattle.tombstones.specs.declared.entry.Entry.{Entry}
 use Rattle.log_levels.specs.Shapes.{from_bit, block_of}
-use Rattle.log_levels.proofs.BitLemmas.{from_bit-more, from_bit-le, from_bit-zero, from_bit-small, same-above}
+use Rattle.log_levels.proofs.BitLemmas.{from_bit-more}
 
 -- what comes behind the blocks of the bits from bit i on
 abbrev pub behind : List Entry → ℕ → ℕ → List Entry

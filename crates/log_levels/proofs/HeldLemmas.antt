@@ -1,5 +1,5 @@
 -- What a map holds, by how it is kept.
-use Rattle.std.proofs.Common.{◌≡◌, ℕ, ◌+◌, ◌*◌, ◌-◌, ◌%◌, ◌^◌, ◌<◌, ◌≤◌, List, [], ◌∷◌, ◌++◌, length, slice_index_or, Option, None, Greater, nat_cmp, inl, inr, refl, sym, ap, subst, ◌∙◌, arith, vec_len}
+use Rattle.std.proofs.Common.{◌≡◌, ℕ, ◌+◌, ◌*◌, ◌%◌, ◌^◌, ◌<◌, ◌≤◌, List, [], ◌∷◌, ◌++◌, length, slice_index_or, Option, None, Greater, nat_cmp, inl, inr, refl, sym, ap, subst, ◌∙◌, arith}
 use Rattle.std.proofs.Math.Nat.{pow-le-pow_right}
 use Rattle.std.proofs.lemmas.Nat.{shl_whole, pow_pos}
 use Rattle.std.proofs.lemmas.List.{length-map, map_push, get_or_append_left, get_or_push, ext_get_or}

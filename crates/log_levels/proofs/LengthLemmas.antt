@@ -1,5 +1,5 @@
 -- The last entries of each key are no more than all.
-use Rattle.std.proofs.Common.{◌≡◌, ℕ, zero, suc, ◌+◌, ◌<◌, ◌≤◌, ◌==◌, eqb, Bool, true, false, if◌then◌else◌, List, [], ◌∷◌, length, Option, Some, None, is_some, IsSome, IsTrue, refl, sym, ap, ◌∙◌, subst, inl, inr, arith}
+use Rattle.std.proofs.Common.{◌≡◌, ℕ, ◌≤◌, ◌==◌, eqb, Bool, true, false, if◌then◌else◌, List, [], ◌∷◌, length, Option, Some, None, is_some, refl, sym, ap, ◌∙◌, arith}
 use Rattle.std.specs.Cmp.{nat_eq_equiv}
 use Rattle.std.specs.Set.{is_member}
 use Rattle.std.specs.Option.{option_or}
@@ -8,7 +8,7 @@ use Rattle.std.proofs.lemmas.Bool.Decides.{nat_tests}
 use Rattle.std.proofs.lemmas.Map.Keys.{IsDistinct-from_apart}
 use Rattle.std.proofs.lemmas.Map.Made.{length-le_from_is_member}
 use Rattle.tombstones.specs.declared.entry.Entry.{Entry}
-use Rattle.tombstones.specs.Entries.{entry_at, kept, with_value}
+use Rattle.tombstones.specs.Entries.{entry_at, kept}
 use Rattle.log_levels.specs.Shapes.{IsLastOfEach, last_at, level_keys}
 use Rattle.log_levels.proofs.LastLemmas.{last_at-cons}
 use Rattle.log_levels.proofs.LevelLemmas.{keys-rise, length-level_keys}

@@ -1,5 +1,5 @@
 -- The keys of a level, and what it has at a key.
-use Rattle.std.proofs.Common.{◌≡◌, ℕ, zero, suc, ◌+◌, ◌<◌, ◌≤◌, List, [], ◌∷◌, length, take, slice_index, slice_index_or, Option, Some, None, refl, sym, ap, ◌∙◌, subst, inl, inr, arith}
+use Rattle.std.proofs.Common.{◌≡◌, ℕ, ◌+◌, ◌<◌, ◌≤◌, List, length, slice_index_or, Option, Some, None, refl, sym, ap, ◌∙◌, subst, inl, inr, arith}
 use Rattle.std.proofs.lemmas.List.{length-map, get_or-map, get_or_default}
 use Rattle.std.proofs.lemmas.Bool.{cases_lt, cases_eq, cases_order}
 use Rattle.std.specs.List.Sorted.{IsNonDecreasing}
@@ -7,7 +7,7 @@ use Rattle.tombstones.specs.declared.entry.Entry.{Entry}
 use Rattle.tombstones.specs.Entries.{IsAscending, entry_at}
 use Rattle.tombstones.proofs.CallerLemmas.{key-entry_at, Contains-entry_at, entry_at-Contains}
 use Rattle.window_search.specs.Searches.{lb}
-use Rattle.window_search.proofs.CallerLemmas.{IsLowerBound, IsLowerBound-lb, lb-is}
+use Rattle.window_search.proofs.CallerLemmas.{IsLowerBound-lb, lb-is}
 use Rattle.log_levels.specs.Shapes.{level_keys}
 
 -- what a read of a list of entries gives past its end

@@ -1,17 +1,17 @@
 -- A search for a key from the newest level on.
-use Rattle.std.proofs.Common.{◌≡◌, ℕ, zero, suc, ◌+◌, ◌*◌, ◌/◌, ◌^◌, ◌<◌, ◌≤◌, eqb, Bool, true, false, List, [], ◌∷◌, ◌++◌, length, take, drop, slice_index_or, Option, Some, None, is_some, refl, sym, ap, ◌∙◌, subst, inl, inr, ◌⊎◌, arith, add-one, add-zero}
+use Rattle.std.proofs.Common.{◌≡◌, ℕ, zero, suc, ◌+◌, ◌*◌, ◌/◌, ◌^◌, ◌<◌, ◌≤◌, eqb, Bool, true, false, List, [], length, take, drop, slice_index_or, Option, Some, None, is_some, refl, sym, ap, ◌∙◌, subst, inl, inr, ◌⊎◌, arith, add-one, add-zero}
 use Rattle.std.specs.Int.{bit_at}
 use Rattle.std.specs.Option.{option_or}
 use Rattle.std.proofs.lemmas.Bool.{cases_Bool, eqb-true, cond-true, cond-false}
-use Rattle.std.proofs.lemmas.List.{take-append-drop, append-nil}
+use Rattle.std.proofs.lemmas.List.{take-append-drop}
 use Rattle.std.proofs.lemmas.Nat.{div_below}
 use Rattle.tombstones.specs.declared.entry.Entry.{Entry}
 use Rattle.tombstones.specs.Entries.{entry_at, kept, with_value}
-use Rattle.log_levels.specs.Shapes.{Held, IsCutOf, IsLevelFor, IsLastOfEach, last_at, level_of, from_bit, block_of}
+use Rattle.log_levels.specs.Shapes.{Held, IsCutOf, IsLevelFor, last_at, level_of, from_bit, block_of}
 use Rattle.log_levels.specs.Kept.{value_of, IsAbsent, entry_in}
 use Rattle.tombstones.proofs.CallerLemmas.{Contains-entry_at, key-entry_at}
 use Rattle.log_levels.proofs.LengthLemmas.{some-last_at}
-use Rattle.log_levels.proofs.BitLemmas.{from_bit-zero, from_bit-small, from_bit-set}
+use Rattle.log_levels.proofs.BitLemmas.{from_bit-zero, from_bit-small}
 use Rattle.log_levels.proofs.CutLemmas.{before, before-more, block-clear}
 use Rattle.log_levels.proofs.LastLemmas.{last_at-append}
 

@@ -1,16 +1,15 @@
 -- A walk over the keys of a map.
-use Rattle.std.proofs.Common.{◌≡◌, ℕ, zero, suc, ◌+◌, ◌/◌, ◌<◌, ◌≤◌, List, [], ◌∷◌, ◌++◌, length, length-append, slice_index, Option, Some, None, IfSome, refl, sym, ap, ◌∙◌, subst, inl, inr, arith}
+use Rattle.std.proofs.Common.{◌≡◌, ℕ, ◌+◌, ◌/◌, ◌<◌, ◌≤◌, List, [], ◌∷◌, ◌++◌, length, length-append, Option, Some, None, IfSome, sym, ap, ◌∙◌, subst, inl, inr, arith}
 use Rattle.std.proofs.lemmas.Bool.{cases_lt}
-use Rattle.window_search.specs.Searches.{lb}
 use Rattle.tombstones.specs.declared.entry.Entry.{Entry}
 use Rattle.tombstones.specs.Entries.{IsAscending}
 use Rattle.log_levels.specs.declared.update.Update.{Update}
 use Rattle.log_levels.specs.declared.update.Update.TheVariants.{Sweep}
 use Rattle.log_levels.proofs.UpdateLemmas.{entries_of-sweep}
 use Rattle.std.proofs.lemmas.List.{length-map}
-use Rattle.log_levels.specs.Maps.{map_after, next_from, value_at, count_between}
+use Rattle.log_levels.specs.Maps.{map_after, next_from, count_between}
 use Rattle.log_levels.specs.Accepted.{entries_of, entries_for, keys_between, del_entry}
-use Rattle.log_levels.specs.Shapes.{Held, IsCutOf, StandsFor, IsLevelFor, last_at, level_of, level_keys}
+use Rattle.log_levels.specs.Shapes.{Held, IsCutOf, IsLevelFor, last_at, level_of}
 use Rattle.log_levels.specs.Kept.{IsAbsent, ArePlaces, IsBelow, IsNextLive, value_of}
 use Rattle.log_levels.proofs.LevelLemmas.{place-stays}
 use Rattle.log_levels.proofs.SearchLemmas.{absent-value}

@@ -1,4 +1,4 @@
-use Rattle.std.proofs.Common.{◌≡◌, ◌<◌, ◌≤◌, length, eq-eqb, inl, inr, arith}
+use Rattle.std.proofs.Common.{length, eq-eqb, inl, inr, arith}
 use Rattle.std.proofs.lemmas.Bool.{cases_lt}
 use Rattle.log_levels.specs.declared.update.Update.TheVariants.{Put}
 use Rattle.log_levels.proofs.apply.are_too_many.Goals as goal

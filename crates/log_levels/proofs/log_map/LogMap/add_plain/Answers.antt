@@ -1,4 +1,4 @@
-use Rattle.std.proofs.Common.{◌≡◌, ◌++◌, List, map, subst, sym, ap, ◌∙◌}
+use Rattle.std.proofs.Common.{◌++◌, List, subst, sym, ap, ◌∙◌}
 use Rattle.tombstones.specs.declared.entry.Entry.{Entry}
 use Rattle.log_levels.specs.Shapes.{IsCutOf}
 use Rattle.log_levels.specs.Accepted.{entries_of}

@@ -1,5 +1,5 @@
-use Rattle.std.proofs.Common.{◌≡◌, ◌+◌, ◌/◌, ◌<◌, ◌≤◌, ◌++◌, length, subst, ap, arith}
-use Rattle.log_levels.specs.Shapes.{Held, IsCutOf}
+use Rattle.std.proofs.Common.{◌++◌, subst, arith}
+use Rattle.log_levels.specs.Shapes.{IsCutOf}
 use Rattle.log_levels.specs.Kept.{held_of}
 use Rattle.log_levels.proofs.GrowthLemmas.{buffered-kept}
 use Rattle.log_levels.proofs.log_map.LogMap.append.Goals as goal

@@ -1,13 +1,10 @@
-use Rattle.std.proofs.Common.{◌≡◌, ◌+◌, ◌-◌, ◌*◌, ◌/◌, ◌^◌, ◌<◌, ◌≤◌, ◌++◌, ℕ, List, Some, false, length, take, drop, vec_len, subst, sym, ap, ◌∙◌, arith, refl, inl, inr}
-use Rattle.std.proofs.lemmas.Result.{IfOk-weaker}
-use Rattle.std.proofs.lemmas.List.{length-take, length-drop}
-use Rattle.tombstones.specs.declared.entry.Entry.{Entry}
+use Rattle.std.proofs.Common.{◌≡◌, ◌+◌, ◌/◌, ◌++◌, Some, false, length, subst, sym, ap, arith, refl, inl, inr}
 use Rattle.std.specs.Int.{bit_at}
-use Rattle.log_levels.specs.Shapes.{IsCutOf, IsLevelFor, IsLastOfEach, from_bit}
+use Rattle.log_levels.specs.Shapes.{IsLevelFor, IsLastOfEach, from_bit}
 use Rattle.log_levels.proofs.BitLemmas.{bit-cases}
 use Rattle.log_levels.proofs.HeldLemmas.{capacity_is}
 use Rattle.log_levels.proofs.LengthLemmas.{length-latest}
-use Rattle.log_levels.proofs.GrowthLemmas.{fresh-from, fresh-to, few-of, fresh-here, clear-here}
+use Rattle.log_levels.proofs.GrowthLemmas.{fresh-from, fresh-to, fresh-here}
 use Rattle.log_levels.proofs.log_map.LogMap.fresh_level.Goals as goal
 
 pub overflow_sub-start : goal.overflow_sub-start

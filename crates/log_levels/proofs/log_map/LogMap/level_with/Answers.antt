@@ -1,4 +1,4 @@
-use Rattle.std.proofs.Common.{◌≡◌, ◌+◌, ◌/◌, ◌<◌, ◌++◌, length, subst, sym, arith}
+use Rattle.std.proofs.Common.{◌+◌, ◌/◌, ◌<◌, ◌++◌, length, subst, sym}
 use Rattle.std.proofs.lemmas.Result.{IfOk-weaker}
 use Rattle.log_levels.specs.Shapes.{IsLevelFor}
 use Rattle.log_levels.proofs.HeldLemmas.{above-greater}

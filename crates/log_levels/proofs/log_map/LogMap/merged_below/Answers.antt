@@ -1,7 +1,7 @@
-use Rattle.std.proofs.Common.{◌≡◌, ◌+◌, ◌*◌, ◌/◌, ◌^◌, ◌<◌, ◌≤◌, ◌∙◌, ℕ, List, false, length, subst, sym, ap, arith, Vec, Global}
+use Rattle.std.proofs.Common.{◌≡◌, ◌+◌, ◌/◌, ◌∙◌, List, false, length, subst, sym, ap, arith, Vec, Global}
 use Rattle.tombstones.specs.declared.entry.Entry.{Entry}
-use Rattle.tombstones.specs.Entries.{IsAscending, entry_at, kept}
-use Rattle.log_levels.specs.Shapes.{Held, IsCutOf, IsLastOfEach, IsLevelFor}
+use Rattle.tombstones.specs.Entries.{IsAscending}
+use Rattle.log_levels.specs.Shapes.{Held, IsCutOf, IsLastOfEach}
 use Rattle.log_levels.specs.Kept.{IsMergedTo}
 use Rattle.log_levels.proofs.GrowthLemmas.{merged-none, merged-some, merged-skip}
 use Rattle.log_levels.proofs.log_map.LogMap.merged_below.Goals as goal

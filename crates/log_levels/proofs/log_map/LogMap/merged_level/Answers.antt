@@ -1,7 +1,6 @@
-use Rattle.std.proofs.Common.{◌≡◌, ◌+◌, ◌-◌, ◌*◌, ◌/◌, ◌^◌, ◌<◌, ◌≤◌, ◌++◌, ℕ, List, Some, length, vec_len, subst, sym, ap, ◌∙◌, arith, refl}
+use Rattle.std.proofs.Common.{◌+◌, ◌/◌, ◌++◌, Some, length, subst, sym, ap, arith, refl}
 use Rattle.std.proofs.lemmas.Result.{IfOk-weaker}
-use Rattle.tombstones.specs.declared.entry.Entry.{Entry}
-use Rattle.log_levels.specs.Shapes.{IsCutOf, IsLevelFor, from_bit}
+use Rattle.log_levels.specs.Shapes.{IsLevelFor, from_bit}
 use Rattle.log_levels.proofs.HeldLemmas.{capacity_is}
 use Rattle.log_levels.proofs.GrowthLemmas.{seam, few-of, merged-here}
 use Rattle.log_levels.proofs.log_map.LogMap.merged_level.Goals as goal

@@ -1,9 +1,9 @@
-use Rattle.std.proofs.Common.{◌≡◌, ◌+◌, ◌<◌, ◌≤◌, ◌++◌, ◌∷◌, [], ℕ, List, Ok, Err, length, length-append, subst, sym, ap, ◌∙◌, arith}
+use Rattle.std.proofs.Common.{◌≡◌, ◌++◌, List, length, length-append, subst, sym, ap, ◌∙◌, arith}
 use Rattle.tombstones.specs.declared.entry.Entry.{Entry}
 use Rattle.log_levels.specs.declared.update.Update.TheVariants.{Sweep}
 use Rattle.log_levels.specs.Accepted.{entries_of, entries_for}
 use Rattle.log_levels.specs.Maps.{map_after}
-use Rattle.log_levels.specs.Shapes.{IsCutOf, capacity_of}
+use Rattle.log_levels.specs.Shapes.{IsCutOf}
 use Rattle.log_levels.proofs.UpdateLemmas.{entries_of-sweep}
 use Rattle.log_levels.proofs.WalkLemmas.{length-sweep}
 use Rattle.log_levels.proofs.log_map.LogMap.sweep.Goals as goal

@@ -1,7 +1,7 @@
-use Rattle.std.proofs.Common.{◌≡◌, ◌+◌, ◌-◌, ◌*◌, ◌/◌, ◌<◌, ◌≤◌, ◌^◌, ◌++◌, ℕ, List, None, length, take, drop, slice_index_or, subst, sym, ap, ◌∙◌, arith, refl}
+use Rattle.std.proofs.Common.{◌+◌, ◌-◌, ◌*◌, ◌++◌, List, length, take, drop, ap, ◌∙◌, arith, refl}
 use Rattle.std.proofs.lemmas.List.{take_rest}
 use Rattle.tombstones.specs.declared.entry.Entry.{Entry}
-use Rattle.log_levels.specs.Shapes.{Held, IsCutOf, IsLevelFor}
+use Rattle.log_levels.specs.Shapes.{Held, IsCutOf}
 use Rattle.log_levels.specs.Kept.{held_of}
 use Rattle.log_levels.proofs.HeldLemmas.{length-levels_of, capacity_is}
 use Rattle.log_levels.proofs.GrowthLemmas.{grown}

@@ -1,11 +1,10 @@
-use Rattle.std.proofs.Common.{◌≡◌, ◌+◌, ◌*◌, ◌^◌, ◌<◌, ◌≤◌, ◌++◌, ℕ, List, Err, true, false, length, take, drop, subst, sym, ap, ◌∙◌, arith}
-use Rattle.std.proofs.lemmas.Bool.{both_ways}
-use Rattle.std.proofs.lemmas.List.{append_assoc, take_all, take_rest, length-drop}
+use Rattle.std.proofs.Common.{◌≡◌, ◌*◌, ◌^◌, ◌++◌, List, Err, length, take, subst, ap, ◌∙◌, arith}
+use Rattle.std.proofs.lemmas.List.{take_all, take_rest, length-drop}
 use Rattle.log_levels.specs.declared.update.Update.{Update}
 use Rattle.log_levels.specs.declared.fault.MapFault.{MapFault}
 use Rattle.log_levels.specs.declared.fault.MapFault.TheVariants.{Full}
 use Rattle.log_levels.specs.Accepted.{entries_of}
-use Rattle.log_levels.specs.Shapes.{Held, IsCutOf, StandsFor, capacity_of}
+use Rattle.log_levels.specs.Shapes.{StandsFor}
 use Rattle.log_levels.proofs.UpdateLemmas.{length-plain, take-drop, take-rest, full-is}
 use Rattle.log_levels.proofs.log_map.LogMap.with_updates.Goals as goal
 
