@@ -1,5 +1,5 @@
 -- A number without its lowest bits.
-use Rattle.std.proofs.Common.{◌≡◌, ℕ, zero, suc, ◌+◌, ◌-◌, ◌*◌, ◌/◌, ◌%◌, ◌^◌, ◌<◌, ◌≤◌, eqb, true, false, refl, sym, ap, ◌∙◌, inl, inr, ◌⊎◌, arith, add-one, add-zero}
+use Rattle.std.proofs.Common.{◌≡◌, ℕ, zero, suc, ◌+◌, ◌-◌, ◌*◌, ◌/◌, ◌%◌, ◌^◌, ◌<◌, ◌≤◌, eqb, false, sym, ap, ◌∙◌, inl, inr, ◌⊎◌, arith, add-one, add-zero}
 use Rattle.std.proofs.Math.Nat.{div-div-eq-div-mul, pow-suc, mod-eq_of_lt}
 use Rattle.std.proofs.lemmas.Nat.{pow_pos, div-add-mod', div_below, shr-shr, mod_below}
 use Rattle.std.proofs.lemmas.Bool.{cases_lt, cases_eq, eq-eqb, ne_eqb}
@@ -90,8 +90,8 @@ some-left-below i top f below set =
     let place : i + (top - i) ≡ top = omega arith in
     let at_top : f / 2 ^ i / 2 ^ (top - i) ≡ f / 2 ^ top = shr-shr f i (top - i) ∙ ap (λ k. f / 2 ^ k) place in
     ne_eqb _ 0 (λ none.
-        let zero_there : f / 2 ^ top ≡ 0 = sym at_top ∙ ap (λ q. q / 2 ^ (top - i)) none ∙ quotient-small (top - i) 0 (pow_pos (top - i)) in
-        absurd (omega (arith, ap (λ q. q % 2) zero_there)))
+    let zero_there : f / 2 ^ top ≡ 0 = sym at_top ∙ ap (λ q. q / 2 ^ (top - i)) none ∙ quotient-small (top - i) 0 (pow_pos (top - i)) in
+    absurd (omega (arith, ap (λ q. q % 2) zero_there)))
 
 -- what the shifts of a number below 2 ^ 58 give
 pub shifted : (i f : ℕ) → f < 2 ^ 58 → (f / 2 ^ i * 2 ^ i) % 2 ^ 64 ≡ from_bit i f

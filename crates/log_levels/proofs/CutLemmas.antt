@@ -1,11 +1,11 @@
 -- Blocks of a list that is cut by the bits of a number, and what they become when entries are added behind.
-use Rattle.std.proofs.Common.{◌≡◌, ℕ, zero, suc, ◌+◌, ◌-◌, ◌*◌, ◌/◌, ◌^◌, ◌<◌, ◌≤◌, List, [], ◌∷◌, ◌++◌, length, take, drop, refl, sym, ap, ◌∙◌, arith, length-append, length-drop, zero-add, suc-add}
+use Rattle.std.proofs.Common.{◌≡◌, ℕ, zero, suc, ◌+◌, ◌-◌, ◌*◌, ◌^◌, ◌≤◌, List, [], ◌∷◌, ◌++◌, length, take, drop, refl, sym, ap, ◌∙◌, arith, length-drop, zero-add, suc-add}
 use Rattle.std.proofs.lemmas.List.{take-append-drop, drop-drop, take-append-le, drop-append-le}
 use Rattle.std.proofs.Math.Seq.{take-append-add, drop-append-add}
 use Rattle.std.specs.Int.{bit_at}
 use Rattle.tombstones.specs.declared.entry.Entry.{Entry}
 use Rattle.log_levels.specs.Shapes.{from_bit, block_of}
-use Rattle.log_levels.proofs.BitLemmas.{from_bit-more, from_bit-le, from_bit-zero, from_bit-small, same-above}
+use Rattle.log_levels.proofs.BitLemmas.{from_bit-more}
 
 -- what comes behind the blocks of the bits from bit i on
 abbrev pub behind : List Entry → ℕ → ℕ → List Entry
@@ -15,13 +15,13 @@ behind entries f i = drop (64 * from_bit i f) entries
 abbrev pub before : List Entry → ℕ → ℕ → List Entry
 before entries f i = take (64 * from_bit i f) entries
 
-take-nil : (n : ℕ) → take n (let none : List Entry = [] in none) ≡ []
+take-nil : {A : Type 0} (n : ℕ) → take n (let none : List A = [] in none) ≡ []
 take-nil zero = refl
 take-nil (suc n) = refl
 
-take-add : (m n : ℕ) (xs : List Entry) → take (m + n) xs ≡ take m xs ++ take n (drop m xs)
+pub take-add : {A : Type 0} (m n : ℕ) (xs : List A) → take (m + n) xs ≡ take m xs ++ take n (drop m xs)
 take-add zero n xs = ap (λ k. take k xs) (zero-add n)
-take-add (suc m) n [] = take-nil (suc m + n) ∙ sym (take-nil n)
+take-add {A} (suc m) n [] = take-nil {A = A} (suc m + n) ∙ sym (take-nil {A = A} n)
 take-add (suc m) n (x ∷ xs) = ap (λ k. take k (x ∷ xs)) (suc-add m n) ∙ ap (λ rest. x ∷ rest) (take-add m n xs)
 
 -- the block of bit i is the first of what comes behind the higher bits

@@ -1,8 +1,7 @@
 -- What the levels become when entries are added.
-use Rattle.std.proofs.Common.{◌≡◌, ℕ, zero, suc, ◌+◌, ◌-◌, ◌*◌, ◌/◌, ◌%◌, ◌^◌, ◌<◌, ◌≤◌, eqb, Bool, true, false, List, [], ◌∷◌, ◌++◌, length, take, drop, map, slice_index_or, Option, Some, None, is_some, IsSome, IsTrue, refl, sym, ap, ◌∙◌, subst, inl, inr, arith, length-append, length-drop, length-take}
+use Rattle.std.proofs.Common.{◌≡◌, ℕ, ◌+◌, ◌-◌, ◌*◌, ◌/◌, ◌%◌, ◌^◌, ◌<◌, ◌≤◌, eqb, false, List, ◌++◌, length, take, drop, map, slice_index_or, Option, Some, None, sym, ap, ◌∙◌, subst, arith, length-append, length-drop, length-take}
 use Rattle.std.specs.Int.{bit_at}
-use Rattle.std.specs.Option.{option_or, option_map}
-use Rattle.std.proofs.lemmas.Bool.{eq-eqb, ne_eqb}
+use Rattle.std.specs.Option.{option_or}
 use Rattle.std.proofs.lemmas.List.{append_assoc, drop-append-le}
 use Rattle.std.proofs.lemmas.Nat.{div-add-mod', mod_below}
 use Rattle.tombstones.specs.declared.entry.Entry.{Entry}
@@ -44,7 +43,7 @@ merged-set entries f i new merged level next (set, last) so_far ascending winner
     let deepest = eqb (f / 2 ^ (i + 1)) 0 in
     let flag : eqb (f / 2 ^ i) 0 ≡ false = some-left i f set in
     let exact : (key : ℕ) → entry_at merged key ≡ last_at (behind entries f i ++ new) key =
-        λ key. ap (λ d. kept d (entry_at merged key)) (sym flag) ∙ so_far.lasts key ∙ ap (λ d. kept d (last_at (behind entries f i ++ new) key)) flag in
+    λ key. ap (λ d. kept d (entry_at merged key)) (sym flag) ∙ so_far.lasts key ∙ ap (λ d. kept d (last_at (behind entries f i ++ new) key)) flag in
     record {
       ascending = ascending;
       lasts = λ key.
@@ -96,12 +95,14 @@ module _ (entries new : List Entry) (top : ℕ) (change : IsHighestChange (lengt
       let flag : eqb (f / 2 ^ top) 0 ≡ deepest = none-left top f change.was_clear ∙ ap (λ q. eqb q 0) change.above in
       let start : from_bit (top + 1) g ≡ from_bit top f = ap (λ q. q * 2 ^ (top + 1)) (sym change.above) ∙ sym (from_bit-clear top f change.was_clear) in
       let block : block_of (entries ++ new) g top ≡ behind entries f top ++ first =
-          block-across entries new g top at.0 at.1 change.is_set ∙ ap (λ k. drop (64 * k) entries ++ first) start in
-      (change.is_set, record {
-        ascending = ascending;
-        lasts = λ key. keeps key ∙ ap (λ d. kept d (entry_at merged key)) (sym flag) ∙ so_far.lasts key
-            ∙ ap (λ d. kept d (last_at (behind entries f top ++ first) key)) flag ∙ ap (λ list. kept deepest (last_at list key)) (sym block);
-      })
+      block-across entries new g top at.0 at.1 change.is_set ∙ ap (λ k. drop (64 * k) entries ++ first) start in (
+        change.is_set,
+        record {
+          ascending = ascending;
+          lasts = λ key. keeps key ∙ ap (λ d. kept d (entry_at merged key)) (sym flag) ∙ so_far.lasts key
+              ∙ ap (λ d. kept d (last_at (behind entries f top ++ first) key)) flag ∙ ap (λ list. kept deepest (last_at list key)) (sym block);
+        },
+      )
 
   -- a level above it stays
   pub shared-level : (i : ℕ) (level : Option (List Entry)) → top < i → IsLevelFor entries f i level → IsLevelFor (entries ++ new) g i level
@@ -114,9 +115,9 @@ module _ (entries new : List Entry) (top : ℕ) (change : IsHighestChange (lengt
       let end : from_bit i f ≡ from_bit i g = ap (λ q. q * 2 ^ i) here in
       let rest = div-add-mod' (length entries) 64 in
       let block : block_of (entries ++ new) g i ≡ block_of entries f i =
-          block-before entries new g i (omega (arith, from_bit-le i f))
-          ∙ ap (λ k. take (64 * (k * 2 ^ i)) (drop (64 * from_bit (i + 1) g) entries)) (sym bit)
-          ∙ ap (λ k. take (64 * (bit_at f i * 2 ^ i)) (drop (64 * k) entries)) (sym start) in
+      block-before entries new g i (omega (arith, from_bit-le i f))
+      ∙ ap (λ k. take (64 * (k * 2 ^ i)) (drop (64 * from_bit (i + 1) g) entries)) (sym bit)
+      ∙ ap (λ k. take (64 * (bit_at f i * 2 ^ i)) (drop (64 * k) entries)) (sym start) in
       (sym bit ∙ set, subst (λ list. IsLastOfEach (eqb (g / 2 ^ (i + 1)) 0) list level) (sym block) (subst (λ q. IsLastOfEach (eqb q 0) (block_of entries f i) level) next last))
 
 -- one level more: it is merged, where it is occupied
@@ -161,15 +162,15 @@ module _ (held : Held) (new : List Entry) (top : ℕ) (change : IsHighestChange 
       let size : 64 * from_bit i (blocks n) - n - (64 * from_bit (i + 1) (blocks n) - n) ≡ 64 * 2 ^ i = omega (arith, from_bit-set i (blocks n) set) in
       let last' = subst (λ k. IsLastOfEach false (take k (drop (64 * from_bit (i + 1) (blocks n) - n) new)) level) size last in
       let whole : (n : ℕ) → length entries ≡ n → bit_at (blocks n) i ≡ 1 → IsLastOfEach false (take (64 * 2 ^ i) (drop (64 * from_bit (i + 1) (blocks n) - n) new)) level → IsLevelFor (entries ++ new) (blocks n) i (Some level) =
-          λ n same. subst (λ n. bit_at (blocks n) i ≡ 1 → IsLastOfEach false (take (64 * 2 ^ i) (drop (64 * from_bit (i + 1) (blocks n) - n) new)) level → IsLevelFor (entries ++ new) (blocks n) i (Some level))
-              same (fresh-level entries new top at_entries i level below) in
+      λ n same. subst (λ n. bit_at (blocks n) i ≡ 1 → IsLastOfEach false (take (64 * 2 ^ i) (drop (64 * from_bit (i + 1) (blocks n) - n) new)) level → IsLevelFor (entries ++ new) (blocks n) i (Some level))
+      same (fresh-level entries new top at_entries i level below) in
       whole n (sym cut.accepted) set last'
 
   pub merged-of : (merged level : List Entry) → IsMergedTo entries (length entries / 64) top (take (64 * from_bit top (blocks held.accepted) - held.accepted) new) merged
       → IsAscending level → ((key : ℕ) → entry_at level key ≡ kept (eqb (blocks held.accepted / 2 ^ (top + 1)) 0) (entry_at merged key)) → IsLevelFor (entries ++ new) (blocks held.accepted) top (Some level)
   merged-of merged level =
       let Holds : ℕ → Type 0 = λ n. IsMergedTo entries (length entries / 64) top (take (64 * from_bit top (blocks n) - n) new) merged
-              → IsAscending level → ((key : ℕ) → entry_at level key ≡ kept (eqb (blocks n / 2 ^ (top + 1)) 0) (entry_at merged key)) → IsLevelFor (entries ++ new) (blocks n) top (Some level) in
+      → IsAscending level → ((key : ℕ) → entry_at level key ≡ kept (eqb (blocks n / 2 ^ (top + 1)) 0) (entry_at merged key)) → IsLevelFor (entries ++ new) (blocks n) top (Some level) in
       subst Holds (sym cut.accepted) (merged-level entries new top at_entries merged level)
 
   pub shared-of : (i : ℕ) → top < i → i < length held.levels → IsLevelFor (entries ++ new) (blocks held.accepted) i (level_of held i)
@@ -197,10 +198,10 @@ module _ (held : Held) (new : List Entry) (top : ℕ) (change : IsHighestChange 
   fresh-here b i start end acc level below same_b set same_start same_end same_acc last =
       let at_start : start - acc ≡ 64 * from_bit (i + 1) (blocks held.accepted) - held.accepted = omega (arith, ap (λ k. from_bit (i + 1) k) same_b) in
       let at_end : end - acc - (start - acc) ≡ 64 * from_bit i (blocks held.accepted) - held.accepted - (64 * from_bit (i + 1) (blocks held.accepted) - held.accepted) =
-          omega (arith, ap (λ k. from_bit i k) same_b) in
+      omega (arith, ap (λ k. from_bit i k) same_b) in
       fresh-of i level below (sym (ap (λ k. bit_at k i) same_b) ∙ set)
       (subst (λ k. IsLastOfEach false (take k (drop (64 * from_bit (i + 1) (blocks held.accepted) - held.accepted) new)) level) at_end
-          (subst (λ k. IsLastOfEach false (take (end - acc - (start - acc)) (drop k new)) level) at_start last))
+      (subst (λ k. IsLastOfEach false (take (end - acc - (start - acc)) (drop k new)) level) at_start last))
 
   pub clear-here : (b i : ℕ) → b ≡ blocks held.accepted → bit_at b i ≡ 0 → IsLevelFor (entries ++ new) (blocks held.accepted) i None
   clear-here b i same_b clear = sym (ap (λ k. bit_at k i) same_b) ∙ clear

@@ -1,5 +1,5 @@
 -- What a map holds, by how it is kept.
-use Rattle.std.proofs.Common.{◌≡◌, ℕ, ◌+◌, ◌*◌, ◌-◌, ◌%◌, ◌^◌, ◌<◌, ◌≤◌, List, [], ◌∷◌, ◌++◌, length, slice_index_or, Option, None, Greater, nat_cmp, inl, inr, refl, sym, ap, subst, ◌∙◌, arith, vec_len}
+use Rattle.std.proofs.Common.{◌≡◌, ℕ, ◌+◌, ◌*◌, ◌%◌, ◌^◌, ◌<◌, ◌≤◌, List, [], ◌∷◌, ◌++◌, length, slice_index_or, Option, None, Greater, nat_cmp, inl, inr, refl, sym, ap, subst, ◌∙◌, arith}
 use Rattle.std.proofs.Math.Nat.{pow-le-pow_right}
 use Rattle.std.proofs.lemmas.Nat.{shl_whole, pow_pos}
 use Rattle.std.proofs.lemmas.List.{length-map, map_push, get_or_append_left, get_or_push, ext_get_or}
@@ -42,18 +42,18 @@ levels_of-last stored next level i is count =
 -- `cmp` of two numbers
 pub above-greater : (a b : ℕ) → Greater ≡ nat_cmp a b → b < a
 above-greater a b greater = elim (cases_lt b a) [
-    | inl less ↦ less
-    | inr at_least ↦ absurd (grind (arith, nat_tests))
-  ]
+  | inl less ↦ less
+  | inr at_least ↦ absurd (grind (arith, nat_tests))
+]
 
 -- a map without entries
 pub empty-cut : (held : Held) → held.accepted ≡ 0 → held.buffer ≡ [] → ((i : ℕ) → i < length held.levels → level_of held i ≡ None) → IsCutOf held []
 empty-cut held accepted buffer none = record {
-    accepted = accepted;
-    fits = omega (arith, pow_pos (length held.levels));
-    buffer = buffer;
-    levels = λ i inside. subst (IsLevelFor [] 0 i) (sym (none i inside)) (bit_at-zero i);
-  }
+  accepted = accepted;
+  fits = omega (arith, pow_pos (length held.levels));
+  buffer = buffer;
+  levels = λ i inside. subst (IsLevelFor [] 0 i) (sym (none i inside)) (bit_at-zero i);
+}
 
 -- two maps that hold the same
 pub held-same : (held : Held) (accepted : ℕ) (buffer : List Entry) (levels : List (Option (List Entry))) → accepted ≡ held.accepted → buffer ≡ held.buffer → length levels ≡ length held.levels

@@ -1,5 +1,5 @@
 -- The last entries of each key are no more than all.
-use Rattle.std.proofs.Common.{◌≡◌, ℕ, zero, suc, ◌+◌, ◌<◌, ◌≤◌, ◌==◌, eqb, Bool, true, false, if◌then◌else◌, List, [], ◌∷◌, length, Option, Some, None, is_some, IsSome, IsTrue, refl, sym, ap, ◌∙◌, subst, inl, inr, arith}
+use Rattle.std.proofs.Common.{◌≡◌, ℕ, ◌≤◌, ◌==◌, eqb, Bool, true, false, if◌then◌else◌, List, [], ◌∷◌, length, Option, Some, None, is_some, refl, sym, ap, ◌∙◌, arith}
 use Rattle.std.specs.Cmp.{nat_eq_equiv}
 use Rattle.std.specs.Set.{is_member}
 use Rattle.std.specs.Option.{option_or}
@@ -8,7 +8,7 @@ use Rattle.std.proofs.lemmas.Bool.Decides.{nat_tests}
 use Rattle.std.proofs.lemmas.Map.Keys.{IsDistinct-from_apart}
 use Rattle.std.proofs.lemmas.Map.Made.{length-le_from_is_member}
 use Rattle.tombstones.specs.declared.entry.Entry.{Entry}
-use Rattle.tombstones.specs.Entries.{entry_at, kept, with_value}
+use Rattle.tombstones.specs.Entries.{entry_at, kept}
 use Rattle.log_levels.specs.Shapes.{IsLastOfEach, last_at, level_keys}
 use Rattle.log_levels.proofs.LastLemmas.{last_at-cons}
 use Rattle.log_levels.proofs.LevelLemmas.{keys-rise, length-level_keys}
@@ -37,7 +37,7 @@ pub length-latest : (deepest : Bool) (entries level : List Entry) → IsLastOfEa
 length-latest deepest entries level last =
     let apart = IsDistinct-from_apart eqb (level_keys level) (λ i j d less inside. ne_eqb _ _ (λ same. absurd (omega (arith, keys-rise level last.ascending i j d less inside)))) in
     let members : (key : ℕ) → is_member eqb (level_keys level) key ≡ true → is_member eqb (level_keys entries) key ≡ true =
-        λ key is. member-entry_at entries key ∙ sym (some-last_at entries key)
-            ∙ some-kept deepest (last_at entries key) (ap is_some (sym (last.lasts key)) ∙ sym (member-entry_at level key) ∙ is) in
+    λ key is. member-entry_at entries key ∙ sym (some-last_at entries key)
+    ∙ some-kept deepest (last_at entries key) (ap is_some (sym (last.lasts key)) ∙ sym (member-entry_at level key) ∙ is) in
     let few = length-le_from_is_member nat_eq_equiv (level_keys level) (level_keys entries) apart members in
     omega (arith, length-level_keys level, length-level_keys entries)

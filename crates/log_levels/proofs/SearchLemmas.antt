@@ -1,17 +1,17 @@
 -- A search for a key from the newest level on.
-use Rattle.std.proofs.Common.{◌≡◌, ℕ, zero, suc, ◌+◌, ◌*◌, ◌/◌, ◌^◌, ◌<◌, ◌≤◌, eqb, Bool, true, false, List, [], ◌∷◌, ◌++◌, length, take, drop, slice_index_or, Option, Some, None, is_some, refl, sym, ap, ◌∙◌, subst, inl, inr, ◌⊎◌, arith, add-one, add-zero}
+use Rattle.std.proofs.Common.{◌≡◌, ℕ, zero, suc, ◌+◌, ◌*◌, ◌/◌, ◌^◌, ◌<◌, ◌≤◌, eqb, Bool, true, false, List, [], length, take, drop, slice_index_or, Option, Some, None, is_some, refl, sym, ap, ◌∙◌, subst, inl, inr, ◌⊎◌, arith, add-one, add-zero}
 use Rattle.std.specs.Int.{bit_at}
 use Rattle.std.specs.Option.{option_or}
 use Rattle.std.proofs.lemmas.Bool.{cases_Bool, eqb-true, cond-true, cond-false}
-use Rattle.std.proofs.lemmas.List.{take-append-drop, append-nil}
+use Rattle.std.proofs.lemmas.List.{take-append-drop}
 use Rattle.std.proofs.lemmas.Nat.{div_below}
 use Rattle.tombstones.specs.declared.entry.Entry.{Entry}
 use Rattle.tombstones.specs.Entries.{entry_at, kept, with_value}
-use Rattle.log_levels.specs.Shapes.{Held, IsCutOf, IsLevelFor, IsLastOfEach, last_at, level_of, from_bit, block_of}
+use Rattle.log_levels.specs.Shapes.{Held, IsCutOf, IsLevelFor, last_at, level_of, from_bit, block_of}
 use Rattle.log_levels.specs.Kept.{value_of, IsAbsent, entry_in}
 use Rattle.tombstones.proofs.CallerLemmas.{Contains-entry_at, key-entry_at}
 use Rattle.log_levels.proofs.LengthLemmas.{some-last_at}
-use Rattle.log_levels.proofs.BitLemmas.{from_bit-zero, from_bit-small, from_bit-set}
+use Rattle.log_levels.proofs.BitLemmas.{from_bit-zero, from_bit-small}
 use Rattle.log_levels.proofs.CutLemmas.{before, before-more, block-clear}
 use Rattle.log_levels.proofs.LastLemmas.{last_at-append}
 
@@ -93,6 +93,7 @@ absent-value held entries key cut absent =
     step i None inside is = ap value_of (search-clear entries (length entries / 64) i key (subst (IsLevelFor entries (length entries / 64) i) is (cut.levels i inside)))
     step i (Some level) inside is =
         search-missed entries level (length entries / 64) i key (subst (IsLevelFor entries (length entries / 64) i) is (cut.levels i inside)) (absent.levels i level inside is)
+
     down : (i : ℕ) → i ≤ length held.levels → value_of (last_at entries key) ≡ value_of (last_at (before entries (length entries / 64) i) key)
     down zero within = ap value_of (search-none entries held.buffer (length entries / 64) key cut.buffer absent.buffer)
     down (suc i) within = down i (omega arith) ∙ step i (level_of held i) (omega arith) refl ∙ ap (λ k. value_of (last_at (before entries (length entries / 64) k) key)) (add-one i)
@@ -106,6 +107,7 @@ last-absent entries key absent = none (last_at entries key) (some-last_at entrie
     first (Some e) is =
         let (i, inside, at) = Contains-entry_at entries key e is in
         absurd (absent i e inside (ap (λ (x : Entry). x.key) at ∙ key-entry_at entries key e is))
+
     none : (found : Option Entry) → is_some found ≡ false → found ≡ None
     none None is = refl
     none (Some e) is = cc
@@ -127,6 +129,7 @@ one-value held one two key cut_one cut_two = in-buffer (last_at held.buffer key)
   where
     same : length one ≡ length two
     same = sym cut_one.accepted ∙ cut_two.accepted
+
     step : (i : ℕ) (level : Option (List Entry)) (found : Option Entry) → i < length held.levels → level_of held i ≡ level → entry_in level key ≡ found
         → value_of (last_at (before one (length one / 64) (i + 1)) key) ≡ value_of (last_at (before two (length two / 64) (i + 1)) key)
         → value_of (last_at (before one (length one / 64) i) key) ≡ value_of (last_at (before two (length two / 64) i) key)
@@ -136,12 +139,14 @@ one-value held one two key cut_one cut_two = in-buffer (last_at held.buffer key)
     step i level None inside is found rest =
         search-in-missed one (length one / 64) i key level (subst (IsLevelFor one (length one / 64) i) is (cut_one.levels i inside)) (sym found) ∙ rest
         ∙ sym (search-in-missed two (length two / 64) i key level (subst (IsLevelFor two (length two / 64) i) is (cut_two.levels i inside)) (sym found))
+
     up : (n i : ℕ) → i + n ≡ length held.levels → value_of (last_at (before one (length one / 64) i) key) ≡ value_of (last_at (before two (length two / 64) i) key)
     up zero i end =
         let small_one = subst (λ k. length one / 64 < 2 ^ k) (sym end ∙ add-zero i) (blocks-few held one cut_one) in
         let small_two = subst (λ k. length two / 64 < 2 ^ k) (sym end ∙ add-zero i) (blocks-few held two cut_two) in
         ap value_of (search-end one (length one / 64) i key small_one ∙ sym (search-end two (length two / 64) i key small_two))
     up (suc n) i end = step i (level_of held i) (entry_in (level_of held i) key) (omega arith) refl refl (up n (i + 1) (omega arith))
+
     in-buffer : (found : Option Entry) → last_at held.buffer key ≡ found → value_of (last_at one key) ≡ value_of (last_at two key)
     in-buffer (Some e) found = ap value_of (search-buffer one held.buffer key e cut_one.buffer found ∙ sym (search-buffer two held.buffer key e cut_two.buffer found))
     in-buffer None found = ap value_of (search-none one held.buffer (length one / 64) key cut_one.buffer found) ∙ up (length held.levels) 0 (omega arith)

@@ -1,6 +1,6 @@
 -- The map after updates has at each key the value of its last entry.
-use Rattle.std.proofs.Common.{◌≡◌, ℕ, zero, suc, ◌+◌, ◌<◌, ◌≤◌, eqb, Bool, true, false, not, cond, ◌&&◌, if◌then◌else◌, List, [], ◌∷◌, ◌++◌, map, filter, Option, Some, None, refl, sym, ap, ◌∙◌, subst, inl, inr, ◌⊎◌, arith}
-use Rattle.std.proofs.lemmas.Bool.{cases_eq, cases_Bool, both_ways, cond-true, cond-false, eq-eqb, ne_eqb, not_from_true, not_from_false}
+use Rattle.std.proofs.Common.{◌≡◌, ℕ, eqb, Bool, true, false, not, if◌then◌else◌, List, [], ◌∷◌, ◌++◌, map, Option, Some, None, refl, sym, ap, ◌∙◌, inl, inr, ◌⊎◌}
+use Rattle.std.proofs.lemmas.Bool.{cases_eq, cases_Bool, cond-true, cond-false, eq-eqb, ne_eqb, not_from_true, not_from_false}
 use Rattle.std.specs.Option.{option_or}
 use Rattle.std.specs.List.{fold}
 use Rattle.std.proofs.lemmas.List.{append_assoc, append-nil}
@@ -38,11 +38,11 @@ module _ (low high q : ℕ) where
 
   last-other : (pair : ℕ × ℕ) (pairs : List (ℕ × ℕ)) → (q ≡ pair.0 → ⊥) → last_at (deletions (pair ∷ pairs)) q ≡ last_at (deletions pairs) q
   last-other pair pairs other = elim (cases_Bool (is_between low high pair.0)) [
-      | inl keeps ↦ ap (λ list. last_at list q) (deletions-kept pair pairs keeps) ∙ last_at-cons (del_entry pair.0) (deletions pairs) q
-          ∙ ap (λ here. option_or (last_at (deletions pairs) q) (if here then Some (del_entry pair.0) else None)) (ne_eqb pair.0 q (λ is. other (sym is)))
-          ∙ or-none (last_at (deletions pairs) q)
-      | inr drops ↦ ap (λ list. last_at list q) (deletions-dropped pair pairs drops)
-    ]
+    | inl keeps ↦ ap (λ list. last_at list q) (deletions-kept pair pairs keeps) ∙ last_at-cons (del_entry pair.0) (deletions pairs) q
+        ∙ ap (λ here. option_or (last_at (deletions pairs) q) (if here then Some (del_entry pair.0) else None)) (ne_eqb pair.0 q (λ is. other (sym is)))
+        ∙ or-none (last_at (deletions pairs) q)
+    | inr drops ↦ ap (λ list. last_at list q) (deletions-dropped pair pairs drops)
+  ]
     where
       or-none : (last : Option Entry) → option_or last None ≡ last
       or-none None = refl
@@ -53,15 +53,15 @@ module _ (low high q : ℕ) where
   unfolding deletions
   last-none [] outside = refl
   last-none (pair ∷ pairs) outside = elim (cases_eq q pair.0) [
-      | inl here ↦ elim outside [
-        | inl drops ↦ ap (λ list. last_at list q) (deletions-dropped pair pairs (ap (is_between low high) (sym here) ∙ drops)) ∙ last-none pairs (inl drops)
-        | inr none ↦ absurd (some≢none pair.1 (sym (value-here pair pairs q here) ∙ none))
-      ]
-      | inr other ↦ last-other pair pairs other ∙ last-none pairs (elim outside [
-        | inl drops ↦ inl drops
-        | inr none ↦ inr (sym (value-later pair pairs q other) ∙ none)
-      ])
+    | inl here ↦ elim outside [
+      | inl drops ↦ ap (λ list. last_at list q) (deletions-dropped pair pairs (ap (is_between low high) (sym here) ∙ drops)) ∙ last-none pairs (inl drops)
+      | inr none ↦ absurd (some≢none pair.1 (sym (value-here pair pairs q here) ∙ none))
     ]
+    | inr other ↦ last-other pair pairs other ∙ last-none pairs (elim outside [
+      | inl drops ↦ inl drops
+      | inr none ↦ inr (sym (value-later pair pairs q other) ∙ none)
+    ])
+  ]
     where
       some≢none : (value : ℕ) → Some value ≡ None → ⊥
       some≢none value is = cc
@@ -71,16 +71,17 @@ module _ (low high q : ℕ) where
   unfolding deletions
   last-some [] value before inside is = cc
   last-some (pair ∷ pairs) value before inside is = elim (cases_eq q pair.0) [
-      | inl here ↦
-          ap (λ list. value_of (option_or (last_at list q) before)) (deletions-kept pair pairs (ap (is_between low high) (sym here) ∙ inside))
-          ∙ ap (λ last. value_of (option_or last before)) (last_at-cons (del_entry pair.0) (deletions pairs) q
-          ∙ ap (λ here. option_or (last_at (deletions pairs) q) (if here then Some (del_entry pair.0) else None)) (eq-eqb pair.0 q (sym here)))
-          ∙ deleted (last_at (deletions pairs) q) (none pairs)
-      | inr other ↦ ap (λ last. value_of (option_or last before)) (last-other pair pairs other) ∙ last-some pairs value before inside (sym (value-later pair pairs q other) ∙ is)
-    ]
+    | inl here ↦
+        ap (λ list. value_of (option_or (last_at list q) before)) (deletions-kept pair pairs (ap (is_between low high) (sym here) ∙ inside))
+        ∙ ap (λ last. value_of (option_or last before)) (last_at-cons (del_entry pair.0) (deletions pairs) q
+        ∙ ap (λ here. option_or (last_at (deletions pairs) q) (if here then Some (del_entry pair.0) else None)) (eq-eqb pair.0 q (sym here)))
+        ∙ deleted (last_at (deletions pairs) q) (none pairs)
+    | inr other ↦ ap (λ last. value_of (option_or last before)) (last-other pair pairs other) ∙ last-some pairs value before inside (sym (value-later pair pairs q other) ∙ is)
+  ]
     where
       none : (pairs : List (ℕ × ℕ)) → value_of (last_at (deletions pairs) q) ≡ None
       none pairs = value-deletions (keys_between pairs low high) q
+
       deleted : (last : Option Entry) → value_of last ≡ None → value_of (option_or (option_or last (Some (del_entry pair.0))) before) ≡ None
       deleted (Some entry) none = none
       deleted None none = refl
@@ -89,10 +90,10 @@ module _ (low high q : ℕ) where
       → value_at (updated pairs (Sweep low high)) q ≡ value_of (option_or (last_at (map del_entry (keys_between pairs low high)) q) before)
   unfolding deletions
   value-sweep pairs before same = elim (cases_Bool (is_between low high q)) [
-      | inl inside ↦ value-filter-dropped (λ key. not (is_between low high key)) pairs q (not_from_true _ inside) ∙ sym (swept (value_at pairs q) refl inside)
-      | inr outside ↦ value-filter-kept (λ key. not (is_between low high key)) pairs q (not_from_false _ outside) ∙ same
-          ∙ sym (ap (λ last. value_of (option_or last before)) (last-none pairs (inl outside)))
-    ]
+    | inl inside ↦ value-filter-dropped (λ key. not (is_between low high key)) pairs q (not_from_true _ inside) ∙ sym (swept (value_at pairs q) refl inside)
+    | inr outside ↦ value-filter-kept (λ key. not (is_between low high key)) pairs q (not_from_false _ outside) ∙ same
+        ∙ sym (ap (λ last. value_of (option_or last before)) (last-none pairs (inl outside)))
+  ]
     where
       swept : (value : Option ℕ) → value_at pairs q ≡ value → is_between low high q ≡ true → value_of (option_or (last_at (map del_entry (keys_between pairs low high)) q) before) ≡ None
       swept None is inside = ap (λ last. value_of (option_or last before)) (last-none pairs (inr is)) ∙ sym same ∙ is
@@ -102,13 +103,13 @@ module _ (low high q : ℕ) where
 value-update : (pairs : List (ℕ × ℕ)) (update : Update) (before : Option Entry) (q : ℕ) → RisesFrom 0 pairs → value_at pairs q ≡ value_of before
     → value_at (updated pairs update) q ≡ value_of (option_or (last_at (entries_for pairs update) q) before)
 value-update pairs (Put key value) before q rises same = elim (cases_eq q key) [
-    | inl here ↦ value-insert-same pairs key value q here ∙ sym (ap (λ b. value_of (option_or (if b then Some (put_entry key value) else None) before)) (eq-eqb key q (sym here)))
-    | inr other ↦ value-insert-other pairs key value q other ∙ same ∙ sym (ap (λ b. value_of (option_or (if b then Some (put_entry key value) else None) before)) (ne_eqb key q (λ is. other (sym is))))
-  ]
+  | inl here ↦ value-insert-same pairs key value q here ∙ sym (ap (λ b. value_of (option_or (if b then Some (put_entry key value) else None) before)) (eq-eqb key q (sym here)))
+  | inr other ↦ value-insert-other pairs key value q other ∙ same ∙ sym (ap (λ b. value_of (option_or (if b then Some (put_entry key value) else None) before)) (ne_eqb key q (λ is. other (sym is))))
+]
 value-update pairs (Del key) before q rises same = elim (cases_eq q key) [
-    | inl here ↦ value-remove-same 0 pairs key q rises here ∙ sym (ap (λ b. value_of (option_or (if b then Some (del_entry key) else None) before)) (eq-eqb key q (sym here)))
-    | inr other ↦ value-remove-other pairs key q other ∙ same ∙ sym (ap (λ b. value_of (option_or (if b then Some (del_entry key) else None) before)) (ne_eqb key q (λ is. other (sym is))))
-  ]
+  | inl here ↦ value-remove-same 0 pairs key q rises here ∙ sym (ap (λ b. value_of (option_or (if b then Some (del_entry key) else None) before)) (eq-eqb key q (sym here)))
+  | inr other ↦ value-remove-other pairs key q other ∙ same ∙ sym (ap (λ b. value_of (option_or (if b then Some (del_entry key) else None) before)) (ne_eqb key q (λ is. other (sym is))))
+]
 value-update pairs (Sweep low high) before q rises same = value-sweep low high q pairs before same
 
 value-fold : (pairs : List (ℕ × ℕ)) (before : List Entry) (updates : List Update) (q : ℕ) → RisesFrom 0 pairs → value_at pairs q ≡ value_of (last_at before q)
@@ -117,7 +118,7 @@ unfolding entries_from
 value-fold pairs before [] q rises same = same ∙ ap (λ list. value_of (last_at list q)) (sym (append-nil before))
 value-fold pairs before (update ∷ updates) q rises same =
     let next : value_at (updated pairs update) q ≡ value_of (last_at (before ++ entries_for pairs update) q) =
-        value-update pairs update (last_at before q) q rises same ∙ ap value_of (sym (last_at-append before (entries_for pairs update) q)) in
+    value-update pairs update (last_at before q) q rises same ∙ ap value_of (sym (last_at-append before (entries_for pairs update) q)) in
     value-fold (updated pairs update) (before ++ entries_for pairs update) updates q (rises-updated pairs update rises) next
     ∙ ap (λ list. value_of (last_at list q)) (append_assoc before (entries_for pairs update) (entries_from (updated pairs update) updates))
 

@@ -1,16 +1,15 @@
 -- A walk over the keys of a map.
-use Rattle.std.proofs.Common.{◌≡◌, ℕ, zero, suc, ◌+◌, ◌/◌, ◌<◌, ◌≤◌, List, [], ◌∷◌, ◌++◌, length, length-append, slice_index, Option, Some, None, IfSome, refl, sym, ap, ◌∙◌, subst, inl, inr, arith}
+use Rattle.std.proofs.Common.{◌≡◌, ℕ, ◌+◌, ◌/◌, ◌<◌, ◌≤◌, List, [], ◌∷◌, ◌++◌, length, length-append, Option, Some, None, IfSome, sym, ap, ◌∙◌, subst, inl, inr, arith}
 use Rattle.std.proofs.lemmas.Bool.{cases_lt}
-use Rattle.window_search.specs.Searches.{lb}
 use Rattle.tombstones.specs.declared.entry.Entry.{Entry}
 use Rattle.tombstones.specs.Entries.{IsAscending}
 use Rattle.log_levels.specs.declared.update.Update.{Update}
 use Rattle.log_levels.specs.declared.update.Update.TheVariants.{Sweep}
 use Rattle.log_levels.proofs.UpdateLemmas.{entries_of-sweep}
 use Rattle.std.proofs.lemmas.List.{length-map}
-use Rattle.log_levels.specs.Maps.{map_after, next_from, value_at, count_between}
+use Rattle.log_levels.specs.Maps.{map_after, next_from, count_between}
 use Rattle.log_levels.specs.Accepted.{entries_of, entries_for, keys_between, del_entry}
-use Rattle.log_levels.specs.Shapes.{Held, IsCutOf, StandsFor, IsLevelFor, last_at, level_of, level_keys}
+use Rattle.log_levels.specs.Shapes.{Held, IsCutOf, IsLevelFor, last_at, level_of}
 use Rattle.log_levels.specs.Kept.{IsAbsent, ArePlaces, IsBelow, IsNextLive, value_of}
 use Rattle.log_levels.proofs.LevelLemmas.{place-stays}
 use Rattle.log_levels.proofs.SearchLemmas.{absent-value}
@@ -25,39 +24,42 @@ pub places-stay : (held : Held) (entries : List Entry) (places : List ℕ) (from
     → ((key : ℕ) → from ≤ key → IsBelow key least → IsAbsent held key) → IfSome least (λ key. ArePlaces held places key)
 places-stay held entries places from None cut at above absent = above
 places-stay held entries places from (Some key) cut at above absent = record {
-    count = at.count;
-    each = λ i level inside is. at.each i level inside is
-        ∙ place-stays level from key (level-ascends held entries i level cut inside is) above (λ j low high. (absent j low high).levels i level inside is);
-  }
+  count = at.count;
+  each = λ i level inside is. at.each i level inside is
+      ∙ place-stays level from key (level-ascends held entries i level cut inside is) above (λ j low high. (absent j low high).levels i level inside is);
+}
 
 -- the walk goes on past a key without a value
 pub next-live : (held : Held) (entries : List Entry) (from low key value : ℕ) → IsCutOf held entries → from ≤ low → low ≤ key
     → ((other : ℕ) → from ≤ other → other < low → value_of (last_at entries other) ≡ None) → ((other : ℕ) → low ≤ other → other < key → IsAbsent held other)
     → Some value ≡ value_of (last_at entries key) → IsNextLive entries from (Some (key, value))
-next-live held entries from low key value cut le above none absent is =
-    (omega arith, sym is, λ other from_other less. elim (cases_lt other low) [
-      | inl before ↦ none other from_other before
-      | inr after ↦ absent-value held entries other cut (absent other after less)
-    ])
+next-live held entries from low key value cut le above none absent is = (
+  omega arith,
+  sym is,
+  λ other from_other less. elim (cases_lt other low) [
+    | inl before ↦ none other from_other before
+    | inr after ↦ absent-value held entries other cut (absent other after less)
+  ],
+)
 
 pub none-past : (held : Held) (entries : List Entry) (from low key : ℕ) → IsCutOf held entries
     → ((other : ℕ) → from ≤ other → other < low → value_of (last_at entries other) ≡ None) → ((other : ℕ) → low ≤ other → other < key → IsAbsent held other)
     → None ≡ value_of (last_at entries key) → (other : ℕ) → from ≤ other → other < key + 1 → value_of (last_at entries other) ≡ None
 none-past held entries from low key cut none absent is other from_other less = elim (cases_lt other low) [
-    | inl before ↦ none other from_other before
-    | inr after ↦ elim (cases_lt other key) [
-      | inl between ↦ absent-value held entries other cut (absent other after between)
-      | inr at_key ↦ let same : key ≡ other = omega arith in ap (λ k. value_of (last_at entries k)) (sym same) ∙ sym is
-    ]
+  | inl before ↦ none other from_other before
+  | inr after ↦ elim (cases_lt other key) [
+    | inl between ↦ absent-value held entries other cut (absent other after between)
+    | inr at_key ↦ let same : key ≡ other = omega arith in ap (λ k. value_of (last_at entries k)) (sym same) ∙ sym is
   ]
+]
 
 -- at the end of the walk
 pub none-left : (held : Held) (entries : List Entry) (from low : ℕ) → IsCutOf held entries
     → ((other : ℕ) → from ≤ other → other < low → value_of (last_at entries other) ≡ None) → ((other : ℕ) → low ≤ other → IsAbsent held other) → IsNextLive entries from None
 none-left held entries from low cut none absent other from_other = elim (cases_lt other low) [
-    | inl before ↦ none other from_other before
-    | inr after ↦ absent-value held entries other cut (absent other after)
-  ]
+  | inl before ↦ none other from_other before
+  | inr after ↦ absent-value held entries other cut (absent other after)
+]
 
 -- what a walk finds is what the map has
 pub next-stands : (updates : List Update) (q : ℕ) (found : Option (ℕ × ℕ)) → IsNextLive (entries_of updates) q found → found ≡ next_from (map_after updates) q

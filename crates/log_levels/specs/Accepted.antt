@@ -1,5 +1,5 @@
 -- The entries that updates stand for: a sweep becomes a deletion of each key that it takes away.
-use Rattle.std.specs.Prelude.{ℕ, List, [], ◌∷◌, ◌++◌, map, filter, Some, None}
+use Rattle.std.specs.Prelude.{ℕ, List, [], ◌∷◌, ◌++◌, map, filter, Some, None, ⊤}
 use Rattle.std.specs.Map.{keys_of}
 use Rattle.tombstones.specs.declared.entry.Entry.{Entry}
 use Rattle.log_levels.specs.declared.update.Update.{Update}
@@ -32,3 +32,9 @@ entries_from pairs (update ∷ updates) = entries_for pairs update ++ entries_fr
 -- the entries of updates of which the first finds an empty map
 abbrev pub entries_of : List Update → List Entry
 entries_of updates = entries_from [] updates
+
+-- an update that is one entry, whatever the map: no sweep
+abbrev pub IsPlain : Update → Type 0
+IsPlain (Put key value) = ⊤
+IsPlain (Del key) = ⊤
+IsPlain (Sweep low high) = ⊥

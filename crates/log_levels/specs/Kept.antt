@@ -8,6 +8,11 @@ use Rattle.std.specs.Arc.{arc_value}
 use Rattle.tombstones.specs.declared.entry.Entry.{Entry}
 use Rattle.tombstones.specs.Entries.{IsAscending, entry_at, kept}
 use Rattle.levels.specs.Indexes.{PgmIndex}
+use Rattle.log_levels.specs.declared.fault.MapFault.{MapFault}
+use Rattle.log_levels.specs.declared.fault.MapFault.TheVariants.{Full, NoMemory}
+use Rattle.log_levels.specs.declared.update.Update.{Update}
+use Rattle.log_levels.specs.declared.update.Update.TheVariants.{Put, Del, Sweep}
+use Rattle.log_levels.specs.Accepted.{put_entry, del_entry}
 use Rattle.log_levels.specs.Shapes.{Held, IsCutOf, level_keys, level_of, from_bit, last_at}
 
 -- the index is that of the entries' keys
@@ -77,3 +82,14 @@ entry_in (Some level) key = entry_at level key
 abbrev pub IsNextLive : List Entry → ℕ → Option (ℕ × ℕ) → Type 0
 IsNextLive entries from None = (key : ℕ) → from ≤ key → value_of (last_at entries key) ≡ None
 IsNextLive entries from (Some (key, value)) = (from ≤ key) × (value_of (last_at entries key) ≡ Some value) × ((other : ℕ) → from ≤ other → other < key → value_of (last_at entries other) ≡ None)
+
+-- the entry of an update that is one
+abbrev pub plain_entry : Update → Entry
+plain_entry (Put key value) = put_entry key value
+plain_entry (Del key) = del_entry key
+plain_entry (Sweep low high) = del_entry low
+
+-- the map was full
+abbrev pub IsFull : MapFault → Type 0
+IsFull (Full accepted) = ⊤
+IsFull NoMemory = ⊥

@@ -21,12 +21,7 @@ use tombstones::{Entry, merge};
 impl LogMap {
     /// The levels below level `top`, the buffer and new entries behind them, merged from the newest
     /// on.
-    fn merged_below(
-        &self,
-        alloc: Global,
-        top: usize,
-        new: &[Entry],
-    ) -> Result<Vec<Entry>, NoMemory>
+    fn merged_below(&self, alloc: Global, top: usize, new: &[Entry]) -> Result<Vec<Entry>, NoMemory>
         requires { top < length self.now.levels }
         ensures { IfOk result (λ merged. (entries : List Entry) → IsCutOf self.now entries →
             IsMergedTo entries (length entries / 64) top new.now merged.items) }

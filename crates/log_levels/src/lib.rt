@@ -1,6 +1,18 @@
-//! A map.
+//! An ordered map that changes, by the logarithmic method.
+//!
+//! New entries go to a buffer of 64, and full blocks of entries into levels of doubling size, each
+//! with a PGM-index over its keys (Bentley and Saxe, Decomposable searching problems, J. Algorithms
+//! 1(4), 1980; Ferragina and Vinciguerra, PVLDB 13(8), 2020). A deletion is an entry too, a
+//! tombstone. With 200 entries there are 8 in the buffer, 64 behind 128, in level 0, and the 128
+//! oldest in level 1; of each key a level has the last entry.
+//!
+//! Main clauses: that a [`LogMap`] stands for its updates, of each call that changes one; the
+//! answers of [`LogMap::get`], [`LogMap::next`] and [`LogMap::count`], by the map after the updates;
+//! `full` and `full_only` of [`LogMap::put`], [`LogMap::sweep`] and [`LogMap::apply`]; and the law
+//! [`one_map`]. The words of the clauses are in `specs/`.
 #![tactic(auto)]
 
+mod apply;
 mod fault;
 mod growth;
 mod latest;
@@ -15,3 +27,6 @@ pub use fault::MapFault;
 pub use log_map::{LogMap, one_map};
 pub use tombstones::Entry;
 pub use update::Update;
+
+#[cfg(test)]
+mod tests;

@@ -133,7 +133,11 @@ fn key_above(key: u64, from: u128) -> Option<u64>
     ensures from { IfSome result (λ key. from ≤ key) }
     ensures least { from ≤ key → result ≡ Some key }
 {
-    if u128::from(key) < from { None } else { Some(key) }
+    if u128::from(key) < from {
+        None
+    } else {
+        Some(key)
+    }
 }
 
 /// The lesser of two keys, where there are two.

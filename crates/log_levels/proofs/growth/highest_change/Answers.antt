@@ -1,4 +1,4 @@
-use Rattle.std.proofs.Common.{◌≡◌, ◌+◌, ◌*◌, ◌/◌, ◌%◌, ◌^◌, ◌<◌, ◌≤◌, ℕ, sym, ◌∙◌, inl, inr, arith}
+use Rattle.std.proofs.Common.{◌≡◌, ◌+◌, ◌/◌, ◌%◌, ◌^◌, ◌<◌, ◌≤◌, ℕ, sym, ◌∙◌, inl, inr, arith}
 use Rattle.std.proofs.Math.Nat.{pow-le-pow_right}
 use Rattle.std.proofs.lemmas.Bool.{cases_lt}
 use Rattle.std.proofs.lemmas.Nat.{div-add-mod', mod_below}
@@ -20,12 +20,12 @@ at_end before after top less same = halves _ _ less (sym (quotient-more top befo
 
 pub returns-clause-inside : goal.returns-clause-inside
 returns-clause-inside c = λ count few. elim (cases_lt c.loop-top.top count) [
-    | inl less ↦ less
-    | inr at_least ↦
-        let power : 2 ^ count ≤ 2 ^ c.loop-top.top = pow-le-pow_right (omega arith) at_least in
-        let none = quotient-small c.loop-top.top c.args.after (omega arith) in
-        absurd (omega (arith, c.loop-top.invariant.differ))
-  ]
+  | inl less ↦ less
+  | inr at_least ↦
+      let power : 2 ^ count ≤ 2 ^ c.loop-top.top = pow-le-pow_right (omega arith) at_least in
+      let none = quotient-small c.loop-top.top c.args.after (omega arith) in
+      absurd (omega (arith, c.loop-top.invariant.differ))
+]
 
 pub returns-clause-was_clear : goal.returns-clause-was_clear
 returns-clause-was_clear c = (at_end c.args.before c.args.after c.loop-top.top c.loop-top.invariant.differ c.loop-top-test.false).0

@@ -1,4 +1,4 @@
-use Rattle.std.proofs.Common.{◌/◌, ◌-◌, ◌^◌, ◌<◌, ◌≤◌, ℕ}
+use Rattle.std.proofs.Common.{◌/◌, ◌-◌, ◌^◌, ◌<◌}
 use Rattle.log_levels.proofs.growth.highest_change.Given as goal
 
 abbrev pub invariant-loop-top : goal.invariant-loop-top

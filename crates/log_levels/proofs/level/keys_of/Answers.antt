@@ -1,4 +1,4 @@
-use Rattle.std.proofs.Common.{◌≡◌, List, length, ◌≤◌, take, ap, ◌∙◌, sym, subst, arith}
+use Rattle.std.proofs.Common.{length, ◌≤◌, ap, ◌∙◌, sym, subst, arith}
 use Rattle.std.proofs.lemmas.List.{take_all}
 use Rattle.std.specs.List.Sorted.{IsNonDecreasing}
 use Rattle.log_levels.specs.Shapes.{level_keys}

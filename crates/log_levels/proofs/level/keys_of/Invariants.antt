@@ -1,4 +1,4 @@
-use Rattle.std.proofs.Common.{◌≡◌, take, vec_len}
+use Rattle.std.proofs.Common.{◌≡◌, take}
 use Rattle.log_levels.specs.Shapes.{level_keys}
 use Rattle.log_levels.proofs.level.keys_of.Given as goal
 

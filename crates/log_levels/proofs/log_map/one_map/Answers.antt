@@ -1,4 +1,4 @@
-use Rattle.std.proofs.Common.{◌≡◌, sym, ◌∙◌}
+use Rattle.std.proofs.Common.{sym, ◌∙◌}
 use Rattle.log_levels.specs.Accepted.{entries_of}
 use Rattle.log_levels.specs.Maps.{map_after}
 use Rattle.log_levels.proofs.MapLemmas.{rises-after, same-pairs}

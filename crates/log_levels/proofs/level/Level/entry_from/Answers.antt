@@ -1,4 +1,4 @@
-use Rattle.std.proofs.Common.{◌≡◌, ◌<◌, ℕ, List, length, sym, ap, ◌∙◌, arith}
+use Rattle.std.proofs.Common.{◌<◌, List, length, sym, ap, arith}
 use Rattle.tombstones.specs.declared.entry.Entry.{Entry}
 use Rattle.log_levels.proofs.LevelLemmas.{missing-past, read-found, read-missing}
 use Rattle.log_levels.proofs.level.Level.entry_from.Goals as goal

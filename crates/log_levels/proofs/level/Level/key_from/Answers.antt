@@ -1,4 +1,4 @@
-use Rattle.std.proofs.Common.{◌≡◌, ◌<◌, ◌≤◌, arith}
+use Rattle.std.proofs.Common.{arith}
 use Rattle.log_levels.proofs.LevelLemmas.{read-above, read-between}
 use Rattle.log_levels.proofs.level.Level.key_from.Goals as goal
 

@@ -1,4 +1,4 @@
-use Rattle.std.proofs.Common.{◌≡◌, ◌+◌, ◌<◌, ◌∙◌, ap, sym, arith}
+use Rattle.std.proofs.Common.{sym, arith}
 use Rattle.log_levels.proofs.LevelLemmas.{next-some, next-none}
 use Rattle.log_levels.proofs.level.Level.place_past.Goals as goal
 

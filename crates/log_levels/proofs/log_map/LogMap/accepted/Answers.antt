@@ -1,4 +1,4 @@
-use Rattle.std.proofs.Common.{◌≡◌, [], subst, sym}
+use Rattle.std.proofs.Common.{[], subst, sym}
 use Rattle.log_levels.specs.Shapes.{IsCutOf}
 use Rattle.log_levels.proofs.UpdateLemmas.{updates_of, entries_from-updates}
 use Rattle.log_levels.proofs.log_map.LogMap.accepted.Goals as goal

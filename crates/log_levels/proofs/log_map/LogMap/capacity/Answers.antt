@@ -1,5 +1,5 @@
-use Rattle.std.proofs.Common.{◌≡◌, ◌+◌, ◌*◌, ◌^◌, ◌-◌, ◌≤◌, ℕ, length, ap, sym, ◌∙◌, arith}
-use Rattle.log_levels.specs.Shapes.{Held, capacity_of}
+use Rattle.std.proofs.Common.{◌≡◌, ◌≤◌, length, ap, sym, ◌∙◌, arith}
+use Rattle.log_levels.specs.Shapes.{Held}
 use Rattle.log_levels.proofs.HeldLemmas.{length-levels_of, capacity_is}
 use Rattle.log_levels.proofs.log_map.LogMap.capacity.Goals as goal
 

@@ -6,5 +6,5 @@ use Rattle.log_levels.proofs.log_map.LogMap.copy.Given as goal
 abbrev pub invariant-loop-i : goal.invariant-loop-i
 invariant-loop-i l = record {
   count : length l.stored.items ≡ l.i;
-  same : (i : ℕ) → i < l.i → slice_index_or (levels_of l.stored.items) i None ≡ level_of l.self i
+  same : (i : ℕ) → i < l.i → slice_index_or (levels_of l.stored.items) i None ≡ level_of l.self i;
 }

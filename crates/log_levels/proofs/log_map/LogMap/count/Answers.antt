@@ -1,7 +1,7 @@
-use Rattle.std.proofs.Common.{◌≡◌, ◌+◌, ◌^◌, ◌<◌, ◌≤◌, ℕ, Some, length, subst, sym, ap, ◌∙◌, arith}
+use Rattle.std.proofs.Common.{◌≡◌, ◌+◌, subst, sym, ap, arith}
 use Rattle.log_levels.specs.Maps.{map_after, count_between}
 use Rattle.log_levels.specs.Accepted.{entries_of}
-use Rattle.log_levels.specs.Kept.{ArePlaces, IsNextLive}
+use Rattle.log_levels.specs.Kept.{ArePlaces}
 use Rattle.log_levels.proofs.MapLemmas.{count-few}
 use Rattle.log_levels.proofs.WalkLemmas.{count-found, count-past, count-none}
 use Rattle.log_levels.proofs.log_map.LogMap.count.Goals as goal

@@ -1,9 +1,9 @@
-use Rattle.std.proofs.Common.{◌≡◌, ◌+◌, ◌^◌, ◌<◌, ◌≤◌, ◌++◌, ◌∷◌, [], ℕ, List, map, subst, sym, ap, ◌∙◌, arith}
+use Rattle.std.proofs.Common.{◌≡◌, ◌+◌, ◌++◌, ◌∷◌, [], ℕ, List, map, subst, sym, ap, ◌∙◌, arith}
 use Rattle.std.proofs.lemmas.List.{append_assoc, append-nil}
 use Rattle.tombstones.specs.declared.entry.Entry.{Entry}
 use Rattle.log_levels.specs.Maps.{map_after}
 use Rattle.log_levels.specs.Accepted.{entries_of, keys_between, del_entry}
-use Rattle.log_levels.specs.Kept.{ArePlaces, IsNextLive}
+use Rattle.log_levels.specs.Kept.{ArePlaces}
 use Rattle.log_levels.proofs.WalkLemmas.{keys-found, keys-past, keys-none}
 use Rattle.log_levels.proofs.log_map.LogMap.deletions.Goals as goal
 

@@ -1,13 +1,10 @@
-use Rattle.std.proofs.Common.{◌≡◌, ◌+◌, ◌-◌, ◌*◌, ◌/◌, ◌^◌, ◌<◌, ◌≤◌, ◌++◌, ℕ, List, Some, false, length, take, drop, vec_len, subst, sym, ap, ◌∙◌, arith, refl, inl, inr}
-use Rattle.std.proofs.lemmas.Result.{IfOk-weaker}
-use Rattle.std.proofs.lemmas.List.{length-take, length-drop}
-use Rattle.tombstones.specs.declared.entry.Entry.{Entry}
+use Rattle.std.proofs.Common.{◌≡◌, ◌+◌, ◌/◌, ◌++◌, Some, false, length, subst, sym, ap, arith, refl, inl, inr}
 use Rattle.std.specs.Int.{bit_at}
-use Rattle.log_levels.specs.Shapes.{IsCutOf, IsLevelFor, IsLastOfEach, from_bit}
+use Rattle.log_levels.specs.Shapes.{IsLevelFor, IsLastOfEach, from_bit}
 use Rattle.log_levels.proofs.BitLemmas.{bit-cases}
 use Rattle.log_levels.proofs.HeldLemmas.{capacity_is}
 use Rattle.log_levels.proofs.LengthLemmas.{length-latest}
-use Rattle.log_levels.proofs.GrowthLemmas.{fresh-from, fresh-to, few-of, fresh-here, clear-here}
+use Rattle.log_levels.proofs.GrowthLemmas.{fresh-from, fresh-to, fresh-here}
 use Rattle.log_levels.proofs.log_map.LogMap.fresh_level.Goals as goal
 
 pub overflow_sub-start : goal.overflow_sub-start
@@ -44,4 +41,4 @@ returns c = λ entries cut.
     let last = subst (λ block. IsLastOfEach false block c.in_ok-latest.latest.items) c.part.ensures.part c.in_ok-latest.ensures in
     subst (λ list. IsLevelFor (entries ++ c.args.new.now) ((c.args.self.now.accepted + length c.args.new.now) / 64) c.args.i (Some list)) (sym c.in_ok-shared.ensures)
     (fresh-here c.args.self.now c.args.new.now c.args.top c.requires.change entries cut c.blocks_with-blocks.result c.args.i c.entries_from_bit.result c.entries_from_bit-2.result c.accepted-accepted.result c.in_ok-latest.latest.items
-        c.requires.below c.blocks_with-blocks.ensures.blocks set c.entries_from_bit.ensures c.entries_from_bit-2.ensures c.accepted-accepted.ensures.count last)
+    c.requires.below c.blocks_with-blocks.ensures.blocks set c.entries_from_bit.ensures c.entries_from_bit-2.ensures c.accepted-accepted.ensures.count last)

@@ -1,8 +1,5 @@
-use Rattle.std.proofs.Common.{◌≡◌, ◌++◌, ℕ, List, Option, Some, None, take, drop, refl, subst, sym, ap, ◌∙◌}
-use Rattle.std.proofs.lemmas.List.{take-append-drop}
-use Rattle.std.specs.Option.{option_or}
-use Rattle.tombstones.specs.declared.entry.Entry.{Entry}
-use Rattle.log_levels.specs.Shapes.{Held, IsCutOf, last_at}
+use Rattle.std.proofs.Common.{sym, ap, ◌∙◌}
+use Rattle.log_levels.specs.Shapes.{Held}
 use Rattle.log_levels.specs.Accepted.{entries_of}
 use Rattle.log_levels.specs.Kept.{value_of}
 use Rattle.log_levels.proofs.SearchLemmas.{search-buffer}

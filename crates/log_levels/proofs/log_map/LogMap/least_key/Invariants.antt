@@ -9,5 +9,5 @@ abbrev pub invariant-loop-i : goal.invariant-loop-i
 invariant-loop-i l = record {
   from : IfSome l.least (λ key. l.from ≤ key);
   buffer : (key : ℕ) → l.from ≤ key → IsBelow key l.least → last_at l.self.buffer key ≡ None;
-  levels : (key i : ℕ) (level : List Entry) → l.from ≤ key → IsBelow key l.least → i < l.i → level_of l.self i ≡ Some level → entry_at level key ≡ None
+  levels : (key i : ℕ) (level : List Entry) → l.from ≤ key → IsBelow key l.least → i < l.i → level_of l.self i ≡ Some level → entry_at level key ≡ None;
 }

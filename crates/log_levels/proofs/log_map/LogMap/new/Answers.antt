@@ -1,4 +1,4 @@
-use Rattle.std.proofs.Common.{◌≡◌, ◌+◌, ◌<◌, ◌≤◌, ℕ, None, [], length, slice_index_or, subst, sym, ap, ◌∙◌, inl, inr, arith, refl}
+use Rattle.std.proofs.Common.{◌≡◌, None, [], subst, sym, ◌∙◌, inl, inr, arith, refl}
 use Rattle.std.proofs.lemmas.Bool.{cases_lt}
 use Rattle.log_levels.specs.Kept.{held_of}
 use Rattle.log_levels.specs.Shapes.{IsCutOf}
@@ -10,9 +10,9 @@ pub loop-i-preserved : goal.loop-i-preserved
 loop-i-preserved c = record {
   count = omega (arith, c.push.new.self.ok.0, c.loop-i.stored.ok.0, c.in_ok-push.ensures.len, c.loop-i.invariant.count);
   none = λ i below. elim (cases_lt i c.loop-i.i) [
-      | inl earlier ↦ levels_of-before c.loop-i.stored.items c.push.new.self.items None i c.in_ok-push.ensures.items (omega (arith, c.loop-i.invariant.count)) ∙ c.loop-i.invariant.none i earlier
-      | inr later ↦ let same : c.loop-i.i ≡ i = omega arith in levels_of-last c.loop-i.stored.items c.push.new.self.items None i c.in_ok-push.ensures.items (c.loop-i.invariant.count ∙ same)
-    ];
+    | inl earlier ↦ levels_of-before c.loop-i.stored.items c.push.new.self.items None i c.in_ok-push.ensures.items (omega (arith, c.loop-i.invariant.count)) ∙ c.loop-i.invariant.none i earlier
+    | inr later ↦ let same : c.loop-i.i ≡ i = omega arith in levels_of-last c.loop-i.stored.items c.push.new.self.items None i c.in_ok-push.ensures.items (c.loop-i.invariant.count ∙ same)
+  ];
 }
 
 pub invariant_of-result : goal.invariant_of-result

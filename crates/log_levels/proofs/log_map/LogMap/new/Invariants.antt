@@ -5,5 +5,5 @@ use Rattle.log_levels.proofs.log_map.LogMap.new.Given as goal
 abbrev pub invariant-loop-i : goal.invariant-loop-i
 invariant-loop-i l = record {
   count : length l.stored.items ≡ l.i;
-  none : (i : ℕ) → i < l.i → slice_index_or (levels_of l.stored.items) i None ≡ None
+  none : (i : ℕ) → i < l.i → slice_index_or (levels_of l.stored.items) i None ≡ None;
 }

@@ -1,4 +1,4 @@
-use Rattle.std.proofs.Common.{◌≡◌, subst}
+use Rattle.std.proofs.Common.{subst}
 use Rattle.log_levels.specs.Accepted.{entries_of}
 use Rattle.log_levels.specs.Kept.{IsNextLive}
 use Rattle.log_levels.proofs.WalkLemmas.{next-stands}

@@ -1,6 +1,5 @@
-use Rattle.std.proofs.Common.{◌≡◌, ◌+◌, ◌^◌, ◌<◌, ◌≤◌, ℕ, None, subst, sym, ap, ◌∙◌, arith}
-use Rattle.log_levels.specs.Shapes.{last_at}
-use Rattle.log_levels.specs.Kept.{ArePlaces, value_of}
+use Rattle.std.proofs.Common.{◌≡◌, ◌+◌, subst, sym, arith}
+use Rattle.log_levels.specs.Kept.{ArePlaces}
 use Rattle.log_levels.proofs.WalkLemmas.{next-live, none-past, none-left}
 use Rattle.log_levels.proofs.log_map.LogMap.next_live.Goals as goal
 

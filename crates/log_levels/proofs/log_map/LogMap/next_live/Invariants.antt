@@ -1,4 +1,4 @@
-use Rattle.std.proofs.Common.{◌≡◌, ◌+◌, ◌-◌, ◌^◌, ◌<◌, ◌≤◌, ℕ, List, None}
+use Rattle.std.proofs.Common.{◌≡◌, ◌-◌, ◌^◌, ◌<◌, ◌≤◌, ℕ, List, None}
 use Rattle.tombstones.specs.declared.entry.Entry.{Entry}
 use Rattle.log_levels.specs.Shapes.{IsCutOf, last_at}
 use Rattle.log_levels.specs.Kept.{ArePlaces, value_of}
@@ -9,7 +9,7 @@ invariant-loop-key l = record {
   at : ArePlaces l.self l.places l.low;
   from : l.from ≤ l.low;
   few : l.low ≤ 2 ^ 64;
-  none : (entries : List Entry) (key : ℕ) → IsCutOf l.self entries → l.from ≤ key → key < l.low → value_of (last_at entries key) ≡ None
+  none : (entries : List Entry) (key : ℕ) → IsCutOf l.self entries → l.from ≤ key → key < l.low → value_of (last_at entries key) ≡ None;
 }
 
 abbrev pub decreases-loop-key : goal.decreases-loop-key

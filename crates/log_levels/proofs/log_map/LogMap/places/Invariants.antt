@@ -7,5 +7,5 @@ use Rattle.log_levels.proofs.log_map.LogMap.places.Given as goal
 abbrev pub invariant-loop-i : goal.invariant-loop-i
 invariant-loop-i l = record {
   count : length l.places ≡ 26;
-  each : (i : ℕ) (level : List Entry) → i < l.i → level_of l.self i ≡ Some level → slice_index l.places i ≡ lb (level_keys level) l.key
+  each : (i : ℕ) (level : List Entry) → i < l.i → level_of l.self i ≡ Some level → slice_index l.places i ≡ lb (level_keys level) l.key;
 }

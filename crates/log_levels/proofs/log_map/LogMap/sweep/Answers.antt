@@ -1,18 +1,20 @@
-use Rattle.std.proofs.Common.{◌≡◌, ◌+◌, ◌<◌, ◌≤◌, ◌++◌, ◌∷◌, [], ℕ, List, Ok, Err, length, length-append, subst, sym, ap, ◌∙◌, arith}
+use Rattle.std.proofs.Common.{◌≡◌, ◌++◌, List, length, length-append, subst, sym, ap, ◌∙◌, arith}
 use Rattle.tombstones.specs.declared.entry.Entry.{Entry}
 use Rattle.log_levels.specs.declared.update.Update.TheVariants.{Sweep}
 use Rattle.log_levels.specs.Accepted.{entries_of, entries_for}
 use Rattle.log_levels.specs.Maps.{map_after}
-use Rattle.log_levels.specs.Shapes.{IsCutOf, capacity_of}
+use Rattle.log_levels.specs.Shapes.{IsCutOf}
 use Rattle.log_levels.proofs.UpdateLemmas.{entries_of-sweep}
 use Rattle.log_levels.proofs.WalkLemmas.{length-sweep}
 use Rattle.log_levels.proofs.log_map.LogMap.sweep.Goals as goal
 
 pub returns-then-count-capacity-clause-full_only : goal.returns-then-count-capacity-clause-full_only
 returns-then-count-capacity-clause-full_only c = λ accepted is.
-    let same : c.accepted-accepted.result ≡ accepted = cc in
-    (omega (arith, c.accepted-accepted.ensures.count), λ updates stands.
-        omega (arith, length-sweep updates c.args.low c.args.high, stands.accepted, c.accepted-accepted.ensures.count, c.count-count.ensures updates stands, c.capacity.ensures, c.if-count-capacity.true))
+    let same : c.accepted-accepted.result ≡ accepted = cc in (
+      omega (arith, c.accepted-accepted.ensures.count),
+      λ updates stands.
+          omega (arith, length-sweep updates c.args.low c.args.high, stands.accepted, c.accepted-accepted.ensures.count, c.count-count.ensures updates stands, c.capacity.ensures, c.if-count-capacity.true),
+    )
 
 pub returns-in_err-deletions-clause-full : goal.returns-in_err-deletions-clause-full
 returns-in_err-deletions-clause-full c = λ updates stands over.
@@ -24,8 +26,18 @@ append-requires c =
     let size = ap (λ (l : List Entry). length l) (c.deref.ensures.value ∙ c.in_ok-deletions.ensures updates stands) in
     let all = ap (λ (l : List Entry). length l) (entries_of-sweep updates c.args.low c.args.high) in
     record {
-      room = omega (arith, length-append (entries_of updates) c.deref.result.now, length-sweep updates c.args.low c.args.high, stands.accepted, c.accepted-accepted.ensures.count, c.accepted-accepted.ensures.within,
-          c.count-count.ensures updates stands, c.capacity.ensures, c.if-count-capacity.false, length-append (entries_of updates) (entries_for (map_after updates) (Sweep c.args.low c.args.high)));
+      room = omega (
+        arith,
+        length-append (entries_of updates) c.deref.result.now,
+        length-sweep updates c.args.low c.args.high,
+        stands.accepted,
+        c.accepted-accepted.ensures.count,
+        c.accepted-accepted.ensures.within,
+        c.count-count.ensures updates stands,
+        c.capacity.ensures,
+        c.if-count-capacity.false,
+        length-append (entries_of updates) (entries_for (map_after updates) (Sweep c.args.low c.args.high)),
+      );
     }
 
 pub returns-in_err-append-clause-full : goal.returns-in_err-append-clause-full

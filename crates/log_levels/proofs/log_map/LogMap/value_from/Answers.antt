@@ -1,6 +1,5 @@
-use Rattle.std.proofs.Common.{◌≡◌, ◌+◌, ◌*◌, ◌/◌, ◌^◌, ◌<◌, ◌≤◌, ℕ, List, Option, Some, None, length, refl, subst, sym, ap, ◌∙◌, arith}
-use Rattle.tombstones.specs.declared.entry.Entry.{Entry}
-use Rattle.log_levels.specs.Shapes.{Held, IsCutOf, IsLevelFor, last_at, level_of}
+use Rattle.std.proofs.Common.{◌≡◌, ◌/◌, ◌^◌, ◌<◌, length, subst, sym, ap, ◌∙◌, arith}
+use Rattle.log_levels.specs.Shapes.{Held, level_of}
 use Rattle.log_levels.specs.Kept.{value_of}
 use Rattle.log_levels.proofs.SearchLemmas.{search-none, search-buffer, search-in-found, search-in-missed, search-end, blocks-few}
 use Rattle.log_levels.proofs.log_map.LogMap.value_from.Goals as goal

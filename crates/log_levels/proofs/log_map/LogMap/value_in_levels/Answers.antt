@@ -1,9 +1,6 @@
-use Rattle.std.proofs.Common.{◌≡◌, ◌+◌, ◌*◌, ◌/◌, ◌^◌, ◌<◌, ◌≤◌, ℕ, List, Option, Some, None, length, refl, subst, sym, ap, ◌∙◌, arith}
-use Rattle.tombstones.specs.declared.entry.Entry.{Entry}
-use Rattle.tombstones.specs.Entries.{entry_at}
-use Rattle.log_levels.specs.Shapes.{Held, IsCutOf, IsLevelFor, last_at}
+use Rattle.std.proofs.Common.{◌≡◌, ◌/◌, ◌^◌, ◌<◌, length, subst, sym, ap, ◌∙◌, arith}
+use Rattle.log_levels.specs.Shapes.{IsLevelFor}
 use Rattle.log_levels.specs.Kept.{value_of}
-use Rattle.log_levels.proofs.HeldLemmas.{length-levels_of}
 use Rattle.log_levels.proofs.SearchLemmas.{search-none, search-found, search-missed, search-clear, search-end, blocks-few}
 use Rattle.log_levels.proofs.log_map.LogMap.value_in_levels.Goals as goal
 use Rattle.log_levels.proofs.log_map.LogMap.value_in_levels.Goals.{in-Some+in_default-entry, in_default}

@@ -1,7 +1,7 @@
-use Rattle.std.proofs.Common.{◌≡◌, ◌+◌, ◌-◌, ◌*◌, ◌/◌, ◌<◌, ◌≤◌, ◌^◌, ◌++◌, ℕ, List, None, length, take, drop, slice_index_or, subst, sym, ap, ◌∙◌, arith, refl}
+use Rattle.std.proofs.Common.{◌+◌, ◌-◌, ◌*◌, ◌++◌, List, length, take, drop, ap, ◌∙◌, arith, refl}
 use Rattle.std.proofs.lemmas.List.{take_rest}
 use Rattle.tombstones.specs.declared.entry.Entry.{Entry}
-use Rattle.log_levels.specs.Shapes.{Held, IsCutOf, IsLevelFor}
+use Rattle.log_levels.specs.Shapes.{Held, IsCutOf}
 use Rattle.log_levels.specs.Kept.{held_of}
 use Rattle.log_levels.proofs.HeldLemmas.{length-levels_of, capacity_is}
 use Rattle.log_levels.proofs.GrowthLemmas.{grown}
@@ -20,7 +20,7 @@ is_cut c entries cut =
     let none = c.in_ok-buffer.ensures.items in
     let start = c.blocks_with-blocks.result * 64 - c.self.inside.accepted in
     let buffer = added ∙ ap (λ (list : List Entry). list ++ take (length c.args.new.now - start) (drop start c.args.new.now)) none
-            ∙ take_rest c.args.new.now start ∙ ap (λ k. drop (c.blocks_with-blocks.result * 64 - k) c.args.new.now) accepted in
+    ∙ take_rest c.args.new.now start ∙ ap (λ k. drop (c.blocks_with-blocks.result * 64 - k) c.args.new.now) accepted in
     grown c.args.self.now (map c) entries c.args.new.now c.blocks_with-blocks.result cut c.requires.flush (omega (arith, c.requires.room, capacity.1)) c.blocks_with-blocks.ensures.blocks
     (omega (arith, accepted)) buffer (length-levels_of c.in_ok-stored.stored.items ∙ c.in_ok-stored.ensures.count) (λ i inside. c.in_ok-stored.ensures.levels entries i cut inside)
 
