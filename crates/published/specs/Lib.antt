@@ -1,2 +1,4 @@
 pub mod Histories
 pub mod Books
+pub mod Rules
+pub mod Writers

@@ -8,7 +8,7 @@ ghost use Rattle.published.specs.Books.{head_of};
 use log_levels::Update;
 use logbook::{Gain, Offer, Plain, Play, Rule, Seen, Start, Word};
 use std::collections::LinkedList;
-use std::marker::{Brand, Model, PhantomData};
+use std::marker::Model;
 
 /// Updates that are published at once.
 pub type Batch = LinkedList<Update>;
@@ -61,103 +61,43 @@ impl Plain<Vec<Update>, Batch, u64> for Publishes {
     ghost state = { λ batch. None };
 }
 
-/// Which history it is. A caller picks it once, and its types say then that writer, readers and
-/// notes are of one history.
-pub trait History {
-    ghost use Rattle.logbook.specs.Pages.{Book};
-
-    ghost book: { Book };
-}
-
-impl History for Brand {
-    ghost book = { record { number = 0; log_name = 0; cells_name = 0 } };
-}
-
-/// An empty history, seen as the book in which it stands. It takes no bytes but a word.
+/// A prefix of a history, seen as which history it is and the prefix's batches. It ends a batch, and
+/// takes 8 bytes.
 #[derive(Drop)]
-pub struct NewHistory {
-    head: Word<Batch, u64, Grows>,
+pub struct Prefix {
+    updates: u64,
     seen: Seen<Batch, u64, Grows>,
 }
 
-impl Model for NewHistory {
-    ghost use Rattle.std.specs.Prelude.{◌≡◌, []};
-    ghost use Rattle.logbook.specs.Pages.{Book, book_coded};
-    ghost use Rattle.published.specs.Books.{head_of};
+impl Model for Prefix {
+    ghost use Rattle.std.specs.Prelude.{◌≡◌};
+    ghost use Rattle.published.specs.Histories.{Front, count_of, AreFilled};
 
-    ghost Value = { Book };
+    ghost Value = { Front };
 
-    ghost coded = { book_coded };
+    ghost view = { λ p. record { origin = p.seen.book; batches = p.seen.log } };
 
-    ghost view = { λ h. h.seen.book };
-
-    ghost invariant = { λ h. (h.seen.log ≡ []) × (h.head ≡ head_of h.seen.book) };
+    ghost invariant = { λ p. (p.updates ≡ count_of p.seen.log) × AreFilled p.seen.log };
 }
 
 /// The word of a history: how many updates were published. The writer alone has it.
-#[derive(Drop)]
-pub struct Head<H: History> {
-    head: Word<Batch, u64, Grows>,
-    of: PhantomData<H>,
-    ghost head_is: { head ≡ head_of H.book },
+pub type Head = Word<Batch, u64, Grows>;
+
+/// An empty history: its word, and its empty prefix. Takes no memory.
+pub fn open() -> (Head, Prefix)
+    ensures empty { result.1.batches ≡ [] }
+    ensures head { result.0 ≡ head_of result.1.origin }
+{
+    // Event: open.
+    let (seen, mut first, _second) = Seen::open(Start::alone(), 0, 0);
+    let head = Word::tracked(0, &mut first);
+    (head, Prefix { updates: 0, seen })
 }
 
-/// A prefix of the history, seen as its batches. It ends a batch, and takes 8 bytes.
-#[derive(Drop)]
-pub struct Prefix<H: History> {
-    updates: u64,
-    seen: Seen<Batch, u64, Grows>,
-    of: PhantomData<H>,
-}
-
-impl<H: History> Model for Prefix<H> {
-    ghost use Rattle.std.specs.Prelude.{◌≡◌, List};
-    ghost use Rattle.log_levels.specs.declared.update.Update.{Update};
-    ghost use Rattle.published.specs.Histories.{count_of, AreFilled};
-
-    ghost Value = { List (List Update) };
-
-    ghost view = { λ p. p.seen.log };
-
-    ghost invariant = { λ p. (p.updates ≡ count_of p.seen.log) × (p.seen.book ≡ H.book)
-        × AreFilled p.seen.log };
-}
-
-impl NewHistory {
-    /// An empty history. Takes no memory.
-    pub fn new() -> NewHistory {
-        // Event: open.
-        let (seen, mut first, _second) = Seen::open(Start::alone(), 0, 0);
-        NewHistory {
-            head: Word::tracked(0, &mut first),
-            seen,
-        }
-    }
-
-    /// The history by its name: its word, and the empty prefix.
-    pub(crate) fn named<H: History>(self) -> (Head<H>, Prefix<H>)
-        requires { self ≡ H.book }
-        ensures { result.1 ≡ [] }
-    {
-        let NewHistory { head, seen } = self;
-        (
-            Head {
-                head,
-                of: PhantomData,
-            },
-            Prefix {
-                updates: 0,
-                seen,
-                of: PhantomData,
-            },
-        )
-    }
-}
-
-impl<H: History> Prefix<H> {
+impl Prefix {
     /// How many updates it has.
     pub fn len(&self) -> u64
-        ensures { result ≡ count_of self.now }
+        ensures { result ≡ count_of self.now.batches }
     {
         self.updates
     }
@@ -168,21 +108,22 @@ impl<H: History> Prefix<H> {
     }
 
     /// A copy. Takes no memory.
-    pub fn again(&self) -> Prefix<H>
+    pub fn again(&self) -> Prefix
         ensures { result ≡ self.now }
     {
         Prefix {
             updates: self.updates,
             seen: self.seen.again(),
-            of: PhantomData,
         }
     }
 
     /// The longer of two prefixes, which begins with the other. Of two equal ones this one.
-    pub fn longer(&self, other: &Prefix<H>) -> Prefix<H>
-        ensures longer { result ≡ longer_of self.now other.now }
-        ensures this { IsPrefix self.now result }
-        ensures that { IsPrefix other.now result }
+    pub fn longer(&self, other: &Prefix) -> Prefix
+        requires own { other.now.origin ≡ self.now.origin }
+        ensures longer { result.batches ≡ longer_of self.now.batches other.now.batches }
+        ensures this { IsPrefix self.now.batches result.batches }
+        ensures that { IsPrefix other.now.batches result.batches }
+        ensures own { result.origin ≡ self.now.origin }
     {
         let mut both = self.seen.again();
         both.learn(&other.seen);
@@ -194,8 +135,9 @@ impl<H: History> Prefix<H> {
     }
 
     /// Whether this prefix begins with the other one.
-    pub fn begins_with(&self, other: &Prefix<H>) -> bool
-        ensures { OnTrue result (IsPrefix other.now self.now) }
+    pub fn begins_with(&self, other: &Prefix) -> bool
+        requires own { other.now.origin ≡ self.now.origin }
+        ensures { OnTrue result (IsPrefix other.now.batches self.now.batches) }
     {
         let mut both = self.seen.again();
         both.learn(&other.seen);
@@ -206,10 +148,12 @@ impl<H: History> Prefix<H> {
     }
 
     /// Adds a batch to the history, where this prefix is all of it, and says whether it did.
-    pub(crate) fn publish(&mut self, head: &Head<H>, batch: &Vec<Update>) -> bool
+    pub(crate) fn publish(&mut self, head: &Head, batch: &Vec<Update>) -> bool
+        requires own { head.now ≡ head_of self.old.origin }
         requires some { 0 < vec_len batch.now }
-        requires room { count_of self.old + vec_len batch.now < 2 ^ 64 }
-        ensures { OnTrue result (self.new ≡ self.old ++ batch.now.items ∷ []) }
+        requires room { count_of self.old.batches + vec_len batch.now < 2 ^ 64 }
+        ensures added { OnTrue result (self.new.batches ≡ self.old.batches ++ batch.now.items ∷ []) }
+        ensures own { self.new.origin ≡ self.old.origin }
     {
         let mut offer: Offer<Batch, u64, Grows, Nothing> = self
             .seen
@@ -219,7 +163,6 @@ impl<H: History> Prefix<H> {
         let after = before + batch.len() as u64;
         // Event: publish. The writer alone adds, so the history is what it was.
         let found = head
-            .head
             .compare_exchange::<Publishes, Nothing>(
                 before,
                 after,

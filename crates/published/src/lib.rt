@@ -1,11 +1,8 @@
 //! A map that one writer changes and many readers search.
 #![tactic(auto)]
 
-mod door;
+mod copies;
 mod history;
-mod reader;
 mod version;
 
-pub use door::{Door, Inner, Inside, PlainDoor, ShutDoor};
-pub use history::{Batch, History, NewHistory, Prefix};
-pub use reader::{Look, Note, Reader};
+pub use history::Batch;
