@@ -2,7 +2,11 @@
 #![tactic(auto)]
 
 mod copies;
+mod door;
 mod history;
+mod reader;
 mod version;
 
+pub use door::{Door, Inner, Inside, PlainDoor, ShutDoor};
 pub use history::Batch;
+pub use reader::{Look, Note, Reader};
