@@ -2,7 +2,7 @@
 use Rattle.std.proofs.Common.{◌≡◌, ◌==◌, ℕ, ◌+◌, ◌<◌, ◌≤◌, if◌then◌else◌, nat_lt, List, [], ◌∷◌, ◌++◌, length, refl, ap, sym, ◌∙◌, subst, arith, append_assoc, length-append}
 use mathlib.Core.List.{IsPrefix}
 use Rattle.log_levels.specs.declared.update.Update.{Update}
-use Rattle.published.specs.Histories.{updates_of, count_of, AreFilled}
+use Rattle.published.specs.Histories.{updates_of, count_of, AreFilled, published}
 
 -- each list begins with itself
 pub prefix_self : {A : Type 0} (xs : List A) → IsPrefix xs xs
@@ -63,3 +63,15 @@ prefix_count xs ys p = omega (arith, sym (ap count_of p.1) ∙ count_of-append x
 pub filled_more : (xs : List (List Update)) (batch : List Update) → AreFilled xs → 0 < length batch → AreFilled (xs ++ batch ∷ [])
 filled_more [] batch filled some = (some, tt)
 filled_more (x ∷ xs) batch filled some = (filled.0, filled_more xs batch filled.1 some)
+
+-- the updates once a batch is published
+pub updates_of-snoc : (history : List (List Update)) (batch : List Update) → updates_of (history ++ batch ∷ []) ≡ updates_of history ++ batch
+updates_of-snoc history batch = updates_of-append history (batch ∷ []) ∙ ap (λ us. updates_of history ++ us) (updates_of-one batch)
+
+pub count_of-snoc : (history : List (List Update)) (batch : List Update) → count_of (history ++ batch ∷ []) ≡ count_of history + length batch
+count_of-snoc history batch = ap (λ (us : List Update). length us) (updates_of-snoc history batch) ∙ length-append (updates_of history) batch
+
+-- a batch that isn't empty stands at the end
+pub published-some : (history : List (List Update)) (batch : List Update) → 0 < length batch → published history batch ≡ history ++ batch ∷ []
+published-some history [] some = absurd (omega arith)
+published-some history (update ∷ updates) some = refl
