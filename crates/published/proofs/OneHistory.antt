@@ -43,8 +43,8 @@ merges seat v other w x views h at apart there j known e =
     let yonder : get_elem? views other ≡ some w = sym (set_else views seat other w apart) ∙ there in
     ⊎_elim (λ (t : (j ≡ other) × (None ≡ Some known)). absurd (cc (t.1)))
     (λ (t : (j ≢ other) × (get_elem? (set views seat w) j ≡ some (Some known))).
-        ⊎_elim (λ (s : (j ≡ seat) × (w ≡ Some known)). h other known (yonder ∙ ap some s.1)) (λ (s : (j ≢ seat) × (get_elem? views j ≡ some (Some known))). h j known s.1)
-        (at_set views seat j w (Some known) t.1))
+    ⊎_elim (λ (s : (j ≡ seat) × (w ≡ Some known)). h other known (yonder ∙ ap some s.1)) (λ (s : (j ≢ seat) × (get_elem? views j ≡ some (Some known))). h j known s.1)
+    (at_set views seat j w (Some known) t.1))
     (at_set (set views seat w) other j None (Some known) e)
 
 -- of versions that replace each other the last one stays

@@ -1,4 +1,7 @@
 pub mod Histories
+pub mod Writers
 pub mod Books
 pub mod Rules
-pub mod Writers
+pub use Rattle.log_levels.specs.Maps
+pub use Rattle.log_levels.specs.Accepted
+pub use Rattle.edge.specs.Risen

@@ -1,4 +1,5 @@
-// The history of a map: the batches of updates that were published, in order.
+// The history of a map: the batches of updates that were published, in order. It stands in a book of
+// the crate `logbook`, which exists in the proofs alone: what runs is a word, the published length.
 ghost use Rattle.std.specs.Prelude.{◌≡◌, ◌⊎◌, ◌+◌, ◌<◌, ◌≤◌, ◌^◌, ◌++◌, ◌∷◌, [], length, vec_len};
 ghost use Rattle.std.specs.Bool.{OnTrue};
 ghost use mathlib.Core.List.{IsPrefix};
@@ -13,7 +14,7 @@ use std::marker::Model;
 /// Updates that are published at once.
 pub type Batch = LinkedList<Update>;
 
-/// The rule of a book in which a history stands.
+/// The rule of a history's book: its word is the published length, and no batch is empty.
 pub struct Grows;
 
 impl Rule<Batch, u64> for Grows {
@@ -61,8 +62,10 @@ impl Plain<Vec<Update>, Batch, u64> for Publishes {
     ghost state = { λ batch. None };
 }
 
-/// A prefix of a history, seen as which history it is and the prefix's batches. It ends a batch, and
-/// takes 8 bytes.
+/// A prefix of a history, seen as which history that is and the prefix's batches. It ends a batch,
+/// and takes 8 bytes.
+///
+/// That its batches are how the history began is in its type, so it can be copied and handed on.
 #[derive(Drop)]
 pub struct Prefix {
     updates: u64,
@@ -102,11 +105,6 @@ impl Prefix {
         self.updates
     }
 
-    /// Whether it has none.
-    pub fn is_empty(&self) -> bool {
-        self.updates == 0
-    }
-
     /// A copy. Takes no memory.
     pub fn again(&self) -> Prefix
         ensures { result ≡ self.now }
@@ -134,14 +132,14 @@ impl Prefix {
         }
     }
 
-    /// Whether this prefix begins with the other one.
+    /// Whether this prefix begins with the other one. Of one history the longer does.
     pub fn begins_with(&self, other: &Prefix) -> bool
         requires own { other.now.origin ≡ self.now.origin }
         ensures { OnTrue result (IsPrefix other.now.batches self.now.batches) }
     {
         let mut both = self.seen.again();
         both.learn(&other.seen);
-        if self.updates < other.updates {
+        if other.updates > self.updates {
             return false;
         }
         true
@@ -161,15 +159,15 @@ impl Prefix {
         let mut pen = self.seen.no_pen();
         let before = self.updates;
         let after = before + batch.len() as u64;
-        // Event: publish. The writer alone adds, so the history is what it was.
-        let found = head
-            .compare_exchange::<Publishes, Nothing>(
-                before,
-                after,
-                &mut self.seen,
-                &mut offer,
-                &mut pen,
-            );
+        // Event: publish. The batch is in the history, whatever others saw before. The writer alone
+        // adds, so the word is what it was.
+        let found = head.compare_exchange::<Publishes, Nothing>(
+            before,
+            after,
+            &mut self.seen,
+            &mut offer,
+            &mut pen,
+        );
         self.updates = if found == before { after } else { found };
         found == before
     }

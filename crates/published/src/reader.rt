@@ -6,8 +6,8 @@ ghost use Rattle.log_levels.specs.Maps.{map_after, value_at, next_from, count_be
 ghost use Rattle.left_right.specs.Sides.{view};
 ghost use Rattle.published.specs.Histories.{Front, updates_of, count_of, longer_of};
 
-use crate::door::Door;
 use crate::copies::{Looks, OneHistory, Place};
+use crate::door::Door;
 use crate::history::Prefix;
 use crate::version::Version;
 use left_right::reader::Reading;

@@ -41,7 +41,7 @@ invariant_of-self g c =
       rw c.replace.ensures.after shown,
       c.self.invariant.2 ∙ ap head_of (sym origin),
       stands_as (arc_value c.self.inside.map) _ (updates_of front.batches ++ batch) _ c.self.invariant.3 refl
-      (ap (λ us. updates_of c.publish.new.self.batches ++ us) emptied ∙ (append-nil (updates_of c.publish.new.self.batches) ∙ (ap updates_of added ∙ updates_of-snoc front.batches batch))),
+          (ap (λ us. updates_of c.publish.new.self.batches ++ us) emptied ∙ (append-nil (updates_of c.publish.new.self.batches) ∙ (ap updates_of added ∙ updates_of-snoc front.batches batch))),
       omega (arith, count, c.self.invariant.4, c.clear.ensures.len, c.self.inside.batch.ok.0),
     )
 
