@@ -39,12 +39,14 @@ mod copies;
 mod door;
 mod history;
 mod reader;
+mod slot;
 mod version;
 mod writer;
 
 pub use door::{Door, Inner, Inside, PlainDoor, ShutDoor};
 pub use history::Batch;
 pub use reader::{Look, Note, Reader};
+pub use slot::{MapName, Slot};
 pub use writer::{Writer, start_map};
 
 #[cfg(test)]
