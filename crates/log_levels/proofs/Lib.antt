@@ -1,0 +1,13 @@
+pub mod BitLemmas
+pub mod CutLemmas
+pub mod HeldLemmas
+pub mod LastLemmas
+pub mod ResultLemmas
+pub mod LevelLemmas
+pub mod GrowthLemmas
+pub mod LengthLemmas
+pub mod UpdateLemmas
+pub mod MapLemmas
+pub mod ValueLemmas
+pub mod SearchLemmas
+pub mod WalkLemmas

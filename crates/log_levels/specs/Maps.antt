@@ -1,21 +1,34 @@
--- A stand-in: the map after updates, and its answers.
-use Rattle.std.specs.Prelude.{◌≡◌, ◌==◌, ◌&&◌, if◌then◌else◌, ℕ, nat_le, List, Option, Some, None, fold}
+-- The ordered map after updates, as the pairs of key and value by rising key, and its answers.
+use Rattle.std.specs.Prelude.{ℕ, List, [], filter, find, count_by, Option, Bool, not, nat_le, ◌&&◌}
+use Rattle.std.specs.List.{fold}
+use Rattle.std.specs.Ordering.{nat_cmp}
+use Rattle.std.specs.Map.{lookup, remove_entry}
+use Rattle.std.specs.BTreeMap.{insert_entry, is_at}
 use Rattle.log_levels.specs.declared.update.Update.{Update}
 use Rattle.log_levels.specs.declared.update.Update.TheVariants.{Put, Del, Sweep}
 
-abbrev pub map_after : List Update → List Update
-map_after updates = updates
+-- low ≤ key ≤ high
+abbrev pub is_between : ℕ → ℕ → ℕ → Bool
+is_between low high key = nat_le low key && nat_le key high
 
-abbrev pub value_changed : Option ℕ → Update → ℕ → Option ℕ
-value_changed before (Put k v) key = if k == key then Some v else before
-value_changed before (Del k) key = if k == key then None else before
-value_changed before (Sweep a b) key = if nat_le a key && nat_le key b then None else before
+-- the map after one more update
+abbrev pub updated : List (ℕ × ℕ) → Update → List (ℕ × ℕ)
+updated map (Put key value) = insert_entry nat_cmp map key value
+updated map (Del key) = remove_entry (is_at (nat_cmp key)) map
+updated map (Sweep low high) = filter (λ pair. not (is_between low high pair.0)) map
 
-abbrev pub value_at : List Update → ℕ → Option ℕ
-value_at updates key = fold (λ v u. value_changed v u key) None updates
+-- the map after updates, of which the first finds it empty
+unfoldable pub map_after : List Update → List (ℕ × ℕ)
+map_after updates = fold updated [] updates
 
-abbrev pub next_from : List Update → ℕ → Option (ℕ × ℕ)
-next_from updates q = None
+-- the value at a key, if the map has the key
+abbrev pub value_at : List (ℕ × ℕ) → ℕ → Option ℕ
+value_at map key = lookup (is_at (nat_cmp key)) map
 
-abbrev pub count_between : List Update → ℕ → ℕ → ℕ
-count_between updates low high = 0
+-- the least key from q on with its value, if there is one
+abbrev pub next_from : List (ℕ × ℕ) → ℕ → Option (ℕ × ℕ)
+next_from map q = find (λ pair. nat_le q pair.0) map
+
+-- how many keys there are from low to high, both included
+abbrev pub count_between : List (ℕ × ℕ) → ℕ → ℕ → ℕ
+count_between map low high = count_by (λ pair. is_between low high pair.0) map

@@ -1,167 +1,198 @@
-// The map.
-ghost use Rattle.std.specs.Prelude.{◌≡◌, ◌⊎◌, ◌+◌, ◌<◌, ◌≤◌, ◌++◌, ◌^◌, ◌*◌, ◌-◌, [], ℕ, List, length, Err, IfOk, OnErr, vec_len};
+// The map, and what is asked of it.
+ghost use Rattle.std.specs.Prelude.{◌≡◌, ◌+◌, ◌-◌, ◌*◌, ◌/◌, ◌%◌, ◌^◌, ◌<◌, ◌≤◌, ◌↔◌, ℕ};
+ghost use Rattle.std.specs.Prelude.{List, [], length, Option, Some, None, IsSome, IsNone, IfOk};
+ghost use Rattle.std.specs.Option.{option_map, option_copied};
+ghost use Rattle.std.specs.Int.{bit_at};
+ghost use Rattle.tombstones.specs.declared.entry.Entry.{Entry};
+ghost use Rattle.tombstones.specs.Entries.{IsAscending};
+ghost use Rattle.levels.specs.Indexes.{IsIndex};
 ghost use Rattle.log_levels.specs.declared.update.Update.{Update};
-ghost use Rattle.log_levels.specs.declared.fault.MapFault.TheVariants.{Full};
-ghost use Rattle.log_levels.specs.Maps.{map_after, value_at, next_from, count_between, value_changed};
+ghost use Rattle.log_levels.specs.Shapes.{Held, StandsFor, capacity_of, level_of, level_keys};
+ghost use Rattle.log_levels.specs.Maps.{map_after};
 ghost use Rattle.log_levels.specs.Accepted.{entries_of};
-ghost use Rattle.log_levels.specs.Shapes.{StandsFor, capacity_of};
 
-use crate::{MapFault, Update};
+use crate::level::{EPS, EPS_REC, Level};
 use budget::NoMemory;
-use edge::Gate;
+use levels::Index;
 use std::alloc::Global;
 use std::marker::Model;
-use std::thread::Threads;
+use std::sync::Arc;
+use tombstones::Entry;
 
-/// A map, seen as the updates that it took.
+/// How many entries a flush takes from the buffer.
+pub(crate) const BLOCK: u64 = 64;
+
+/// A map of keys to values that changes, kept by the logarithmic method. Seen as what it holds: how
+/// many entries it accepted, its buffer and its levels.
+///
+/// It stands for a list of updates. What it answers is what the ordered map after these updates
+/// has, and what it holds are their entries, cut: a put or a deletion is an entry, and a sweep is a
+/// deletion of each key that it takes away. With `f` the whole part of a 64th of their number, the
+/// first `64f` entries are cut into blocks of `64 * 2^i` of them, one for each bit `i` of `f`, the
+/// highest first. Level `i` holds the last entry of each key of its block, and the deepest level no
+/// deletion. The rest is in the buffer.
+///
+/// A level is never changed. Copies share it.
+///
+/// Source: Bentley and Saxe, Decomposable searching problems, J. Algorithms 1(4), 1980.
 #[derive(Drop)]
 pub struct LogMap {
-    updates: Vec<Update>,
-    levels: Vec<u8>,
+    pub(crate) accepted: u64,
+    pub(crate) buffer: Vec<Entry>,
+    pub(crate) stored: Vec<Option<Arc<Level>>>,
 }
 
 impl Model for LogMap {
+    ghost use Rattle.std.specs.Prelude.{vec_capacity};
     ghost use Rattle.log_levels.specs.Shapes.{Held};
-    ghost use Rattle.std.specs.Prelude.{length, ◌≤◌};
 
     ghost Value = { Held };
 
-    ghost view = { λ m. record { accepted = length m.updates.items; buffer = m.updates.items; levels = m.levels.items } };
+    ghost use Rattle.log_levels.specs.Kept.{IsKept, held_of};
 
-    ghost invariant = { λ m. length m.levels.items ≤ 26 };
+    ghost view = { λ map. held_of map.accepted map.buffer.items map.stored.items };
+
+    ghost invariant = { λ map. IsKept (held_of map.accepted map.buffer.items map.stored.items)
+        (vec_capacity map.buffer) };
 }
 
 impl LogMap {
-    /// An empty map.
+    /// The empty map with so many levels, 1 to 26. It can accept `64 * 2^levels - 1` entries.
+    ///
+    /// # Errors
+    ///
+    /// `NoMemory` alone.
     pub fn new(alloc: Global, levels: u32) -> Result<LogMap, NoMemory>
         requires some { 1 ≤ levels }
         requires few { levels ≤ 26 }
         ensures empty { IfOk result (λ map. StandsFor map []) }
         ensures levels { IfOk result (λ map. length map.levels ≡ levels) }
     {
+        let mut stored = Vec::with_capacity(alloc, levels as usize)?;
+        for i in 0..levels {
+            let _ = i;
+            stored.push(None)?;
+        }
+        let buffer = Vec::with_capacity(alloc, BLOCK as usize)?;
         Ok(LogMap {
-            updates: Vec::new(alloc),
-            levels: Vec::from_elem(alloc, 0, levels as usize)?,
+            accepted: 0,
+            buffer,
+            stored,
         })
     }
 
-    /// The same map.
+    /// An equal map. It shares the levels.
+    ///
+    /// # Errors
+    ///
+    /// `NoMemory` alone.
     pub fn copy(&self, alloc: Global) -> Result<LogMap, NoMemory>
         ensures { IfOk result (λ copy. copy ≡ self.now) }
     {
+        let count = self.stored.len();
+        let mut stored = Vec::with_capacity(alloc, count)?;
+        for i in 0..count {
+            stored.push(self.shared_level(i)?)?;
+        }
+        let mut buffer = Vec::with_capacity(alloc, BLOCK as usize)?;
+        buffer.extend_from_slice(&self.buffer)?;
         Ok(LogMap {
-            updates: Vec::from_slice(alloc, &self.updates)?,
-            levels: Vec::from_slice(alloc, &self.levels)?,
+            accepted: self.accepted,
+            buffer,
+            stored,
         })
     }
 
-    /// Takes all updates, or none.
-    pub fn apply<R: Threads + Sync, G: Gate>(
-        &mut self,
-        _rt: &R,
-        _alloc: Global,
-        updates: &[Update],
-        workers: u32,
-        _gate: &G,
-    ) -> Result<(), MapFault>
-        requires staffed { 1 ≤ workers }
-        requires few_workers { workers ≤ 64 }
-        ensures applied { IfOk result (λ _. (before : List Update) → StandsFor self.old before →
-            StandsFor self.new (before ++ updates.now)) }
-        ensures full { (before : List Update) → StandsFor self.old before →
-            capacity_of self.old < length (entries_of (before ++ updates.now)) →
-            (result ≡ Err (Full self.old.accepted)) ⊎ (result ≡ Err MapFault.NoMemory) }
-        ensures full_only { (accepted : ℕ) → result ≡ Err (Full accepted) →
-            (accepted ≡ self.old.accepted) × ((before : List Update) → StandsFor self.old before →
-            capacity_of self.old < length (entries_of (before ++ updates.now))) }
-        ensures unchanged { OnErr result (self.new ≡ self.old) }
-        ensures levels { length self.new.levels ≡ length self.old.levels }
-    {
-        let accepted = self.updates.len() as u64;
-        let capacity = capacity_for(self.levels.len());
-        if capacity < accepted || capacity - accepted < updates.len() as u64 {
-            return Err(MapFault::Full { accepted });
-        }
-        match self.updates.extend_from_slice(updates) {
-            Ok(()) => Ok(()),
-            Err(_) => Err(MapFault::NoMemory),
-        }
-    }
-
-    /// How many entries were accepted.
+    /// How many entries were accepted. They are at most as many as the map can accept, and it
+    /// stands for some updates.
     pub fn accepted(&self) -> u64
         ensures count { result ≡ self.now.accepted }
+        ensures within { result ≤ capacity_of self.now }
+        ensures stands { (updates : List Update) × StandsFor self.now updates }
     {
-        self.updates.len() as u64
+        self.accepted
     }
 
-    /// How many entries can be accepted.
+    /// How many entries can be accepted: `64 * 2^levels - 1`.
     pub fn capacity(&self) -> u64
         ensures { result ≡ capacity_of self.now }
     {
-        capacity_for(self.levels.len())
+        (BLOCK << self.stored.len()) - 1
     }
 
-    /// The value of a key.
-    pub fn get(&self, key: u64) -> Option<u64>
-        ensures { (updates : List Update) → StandsFor self.now updates →
-            result ≡ value_at (map_after updates) key }
+    /// How many entries came since the last flush.
+    pub fn buffered(&self) -> u64
+        ensures held { result ≡ length self.now.buffer }
+        ensures rest { result ≡ self.now.accepted % BLOCK }
     {
-        let mut value = None;
-        for update in &self.updates {
-            value = changed(value, *update, key);
+        self.buffer.len() as u64
+    }
+
+    /// How many entries level `i` has, if it is occupied. It is where bit `i` of a 64th of
+    /// [`LogMap::accepted`] is 1.
+    pub fn shape(&self, i: u32) -> Option<u64>
+        requires { i < length self.now.levels }
+        ensures count { result ≡ option_map length (level_of self.now i) }
+        ensures free { IsNone result ↔ (bit_at (self.now.accepted / BLOCK) i ≡ 0) }
+    {
+        let _ = &self.accepted;
+        match self.level(i as usize) {
+            Some(level) => Some(level.entries().len() as u64),
+            None => None,
         }
-        value
     }
 
-    /// The least key from this one on.
-    pub fn next(&self, _q: u64) -> Option<(u64, u64)>
-        ensures { (updates : List Update) → StandsFor self.now updates →
-            result ≡ next_from (map_after updates) _q }
+    /// The entries of level `i`, which is occupied, by rising key: the last one of each key of its
+    /// block, in the deepest level those with a value alone.
+    pub fn entries(&self, i: u32) -> &[Entry]
+        requires { IsSome (level_of self.now i) }
+        ensures entries { level_of self.now i ≡ Some result.now }
+        ensures ascending { IsAscending result.now }
     {
-        None
+        match self.level(i as usize) {
+            Some(level) => level.entries(),
+            None => unreachable!(),
+        }
     }
 
-    /// How many keys.
-    pub fn count(&self, _low: u64, _high: u64) -> u64
-        ensures { (updates : List Update) → StandsFor self.now updates →
-            result ≡ count_between (map_after updates) _low _high }
+    /// The index of the keys of level `i`, which is occupied.
+    pub fn index(&self, i: u32) -> &Index
+        requires { IsSome (level_of self.now i) }
+        ensures keys { option_map level_keys (level_of self.now i) ≡ Some result.now.keys }
+        ensures eps { result.now.eps ≡ EPS }
+        ensures eps_rec { result.now.eps_rec ≡ EPS_REC }
+        ensures index { IsIndex result.now.keys EPS EPS_REC result.now.levels }
     {
-        0
+        match self.level(i as usize) {
+            Some(level) => level.index(),
+            None => unreachable!(),
+        }
+    }
+
+    /// How many levels there are, occupied or not.
+    pub(crate) fn level_count(&self) -> usize
+        ensures count { result ≡ length self.now.levels }
+        ensures few { result ≤ 26 }
+    {
+        self.stored.len()
+    }
+
+    /// A level, if it is occupied.
+    pub(crate) fn level(&self, i: usize) -> Option<&Level>
+        ensures { option_copied result ≡ level_of self.now i }
+    {
+        match self.stored.get(i) {
+            Some(Some(level)) => Some(level),
+            _ => None,
+        }
     }
 }
 
-fn capacity_for(levels: usize) -> u64
-    requires { levels ≤ 26 }
-    ensures { result ≡ 64 * 2 ^ levels - 1 }
-{
-    (64u64 << levels) - 1
-}
-
-fn changed(before: Option<u64>, update: Update, key: u64) -> Option<u64>
-    ensures { result ≡ value_changed before update key }
-{
-    match update {
-        Update::Put(k, v) => {
-            if k == key {
-                Some(v)
-            } else {
-                before
-            }
-        }
-        Update::Del(k) => {
-            if k == key {
-                None
-            } else {
-                before
-            }
-        }
-        Update::Sweep(a, b) => {
-            if a <= key && key <= b {
-                None
-            } else {
-                before
-            }
-        }
-    }
-}
+/// A map stands for one map and one number of entries: two lists of updates for which it stands
+/// leave the same pairs and have as many entries.
+pub fn one_map()
+    ensures map { (held : Held) (one two : List Update) → StandsFor held one →
+        StandsFor held two → map_after one ≡ map_after two }
+    ensures accepted { (held : Held) (one two : List Update) → StandsFor held one →
+        StandsFor held two → length (entries_of one) ≡ length (entries_of two) }
+{}

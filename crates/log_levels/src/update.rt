@@ -1,10 +1,12 @@
-/// A change of a map.
+// What is done to a map.
+
+/// An update of a map.
 #[derive(Clone, Copy, Debug, PartialEq, Eq)]
 pub enum Update {
-    /// The key has this value from now on.
+    /// At this key this value.
     Put(u64, u64),
-    /// The key is taken away.
+    /// Nothing at this key.
     Del(u64),
-    /// The keys from the first to the second are taken away.
+    /// Nothing at the keys from the first to the second, both included.
     Sweep(u64, u64),
 }

@@ -1,10 +1,11 @@
 // The writer.
 ghost use Rattle.std.specs.Prelude.{◌≡◌, ◌⊎◌, ◌+◌, ◌-◌, ◌*◌, ◌^◌, ◌<◌, ◌≤◌, ◌++◌, ◌∷◌, [], ℕ};
 ghost use Rattle.std.specs.Prelude.{List, length, All, Some, IfOk, OnOk, OnErr, Err};
-ghost use Rattle.std.specs.Prelude.{vec_len, vec_capacity};
+ghost use Rattle.std.specs.Prelude.{vec_len, vec_capacity, true, ◌↔◌, IsTrue};
+ghost use Rattle.std.specs.Bool.{OnTrue};
 ghost use Rattle.left_right.specs.Sides.{view};
 ghost use Rattle.log_levels.specs.declared.fault.MapFault.TheVariants.{Full};
-ghost use Rattle.log_levels.specs.Accepted.{entries_of};
+ghost use Rattle.log_levels.specs.Accepted.{entries_of, IsPlain};
 ghost use Rattle.published.specs.Histories.{Front, updates_of, count_of, published};
 
 use crate::copies::{Copies, give_up, seated, show, with_room};
@@ -103,6 +104,18 @@ pub fn start_map<R: Wait>(
     Ok((writer, seats))
 }
 
+/// Whether no update is a sweep, so that each is one entry.
+fn are_plain(updates: &[Update]) -> bool
+    ensures { IsTrue result ↔ All IsPlain updates.now }
+{
+    for update in updates {
+        if let Update::Sweep(_, _) = update {
+            return false;
+        }
+    }
+    true
+}
+
 /// Takes a place for each reader.
 fn seat_all<R: Wait>(
     rt: &R,
@@ -146,9 +159,69 @@ impl Writer {
     /// # Errors
     ///
     /// `Full` exactly where the entries of what is published, of the batch and of these updates
-    /// would be more than the map can accept, with the entries before. `NoMemory`. After either
-    /// nothing has changed.
+    /// would be more than the map can accept, with the entries before; it is judged before memory
+    /// is taken, where no update is a sweep. `NoMemory`. After either nothing has changed.
     pub fn stage<R: Threads + Sync, G: Gate>(
+        &mut self,
+        rt: &R,
+        alloc: Global,
+        updates: &[Update],
+        workers: u32,
+        gate: &G,
+    ) -> Result<(), MapFault>
+        requires staffed { 1 ≤ workers }
+        requires few_workers { workers ≤ 64 }
+        ensures staged { OnOk result (self.new.batch ≡ self.old.batch ++ updates.now) }
+        ensures history { self.new.history ≡ self.old.history }
+        ensures unchanged { OnErr result (self.new ≡ self.old) }
+        ensures own { self.new.origin ≡ self.old.origin }
+        ensures capacity { self.new.capacity ≡ self.old.capacity }
+        ensures full { let before = updates_of self.old.history ++ self.old.batch in
+            self.old.capacity < length (entries_of (before ++ updates.now)) →
+            (result ≡ Err (Full (length (entries_of before)))) ⊎ (result ≡ Err MapFault.NoMemory) }
+        // It is judged first where no update is a sweep.
+        ensures full_first { let before = updates_of self.old.history ++ self.old.batch in
+            All IsPlain updates.now →
+            self.old.capacity < length (entries_of before) + length updates.now →
+            result ≡ Err (Full (length (entries_of before))) }
+        ensures full_only { let before = updates_of self.old.history ++ self.old.batch in
+            (accepted : ℕ) → result ≡ Err (Full accepted) → (accepted ≡ length (entries_of before))
+            × (self.old.capacity < length (entries_of (before ++ updates.now))) }
+    {
+        if self.are_too_many(updates) {
+            let accepted = self.accepted();
+            return Err(MapFault::Full { accepted });
+        }
+        self.stage_aside(rt, alloc, updates, workers, gate)
+    }
+
+    /// How many entries the map has accepted, of the batch too.
+    fn accepted(&self) -> u64
+        ensures { result ≡
+            length (entries_of (updates_of self.now.history ++ self.now.batch)) }
+    {
+        self.map.accepted()
+    }
+
+    /// Whether these updates, none of them a sweep, are more than there is room for. Of others it
+    /// isn't judged.
+    fn are_too_many(&self, updates: &[Update]) -> bool
+        ensures plain { let before = updates_of self.now.history ++ self.now.batch in
+            All IsPlain updates.now →
+            self.now.capacity < length (entries_of before) + length updates.now →
+            result ≡ true }
+        ensures full { let before = updates_of self.now.history ++ self.now.batch in
+            OnTrue result (self.now.capacity < length (entries_of (before ++ updates.now))) }
+    {
+        let room = self.map.capacity().saturating_sub(self.map.accepted());
+        if room < updates.len() as u64 && are_plain(updates) {
+            return true;
+        }
+        false
+    }
+
+    /// As [`Writer::stage`], where whether the updates are too many is judged as the map judges it.
+    fn stage_aside<R: Threads + Sync, G: Gate>(
         &mut self,
         rt: &R,
         alloc: Global,

@@ -1,15 +1,18 @@
-use Rattle.std.proofs.Common.{◌≡◌, ℕ, ◌≤◌, List, take, length, ap, ◌∙◌, arith}
-use Rattle.std.proofs.lemmas.Grind.{common_steps}
-use Rattle.log_levels.specs.declared.update.Update.{Update}
-use Rattle.log_levels.specs.Shapes.{Held}
-use Rattle.log_levels.specs.Maps.{value_at}
+use Rattle.std.proofs.Common.{◌≡◌, ◌++◌, ℕ, List, Option, Some, None, take, drop, refl, subst, sym, ap, ◌∙◌}
+use Rattle.std.proofs.lemmas.List.{take-append-drop}
+use Rattle.std.specs.Option.{option_or}
+use Rattle.tombstones.specs.declared.entry.Entry.{Entry}
+use Rattle.log_levels.specs.Shapes.{Held, IsCutOf, last_at}
+use Rattle.log_levels.specs.Accepted.{entries_of}
+use Rattle.log_levels.specs.Kept.{value_of}
+use Rattle.log_levels.proofs.SearchLemmas.{search-buffer}
+use Rattle.log_levels.proofs.ValueLemmas.{value-after}
 use Rattle.log_levels.proofs.log_map.LogMap.get.Goals as goal
 
-whole : (xs : List Update) (n : ℕ) → length xs ≤ n → take n xs ≡ xs
-whole xs n all = grind (arith, common_steps)
+pub returns-in-Some : goal.returns-in-Some
+returns-in-Some c = λ updates stands.
+    let is = c.deref.ensures.value ∙ ap (λ (held : Held). held.buffer) c.self.view_is ∙ stands.buffer in
+    sym (value-after updates c.args.key ∙ ap value_of (search-buffer (entries_of updates) c.deref.result.now c.args.key c.in-Some.entry.now is (sym c.in-Some.ensures)))
 
-pub returns : goal.returns
-returns c = λ updates stands.
-    let items = c.deref-update-items.result.now in
-    let same : items ≡ updates = c.deref-update-items.ensures.value ∙ (ap (λ (h : Held). h.buffer) c.self.view_is ∙ stands.buffer) in
-    c.loop-update.invariant ∙ ap (λ (us : List Update). value_at us c.args.key) (whole items c.loop-update.update-index c.loop-update-test.false ∙ same)
+pub returns-in-None : goal.returns-in-None
+returns-in-None c = λ updates stands. c.value_in_levels.ensures (entries_of updates) stands ∙ sym (value-after updates c.args.key)

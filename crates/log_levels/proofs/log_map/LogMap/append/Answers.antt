@@ -1,0 +1,23 @@
+use Rattle.std.proofs.Common.{◌≡◌, ◌+◌, ◌/◌, ◌<◌, ◌≤◌, ◌++◌, length, subst, ap, arith}
+use Rattle.log_levels.specs.Shapes.{Held, IsCutOf}
+use Rattle.log_levels.specs.Kept.{held_of}
+use Rattle.log_levels.proofs.GrowthLemmas.{buffered-kept}
+use Rattle.log_levels.proofs.log_map.LogMap.append.Goals as goal
+
+pub invariant_of-self-2 : goal.invariant_of-self-2
+invariant_of-self-2 c =
+    let (entries, cut) = c.self.invariant.cut in
+    let inside = held_of c.self.inside.accepted c.self.inside.buffer.items c.self.inside.stored.items in
+    record {
+      cut = (entries ++ c.args.new.now, buffered-kept inside c.args.self.now c.args.new.now c.extend_from_slice.new.self.items entries c.self.view_is c.self.invariant.few c.requires.room
+          (omega (arith, c.if-self-after.false)) c.in_ok-extend_from_slice.ensures.items (subst (λ held. IsCutOf held entries) c.self.view_is cut));
+      roomy = omega (arith, c.in_ok-extend_from_slice.ensures.capacity, c.self.invariant.roomy);
+      some = c.self.invariant.some;
+      few = c.self.invariant.few;
+    }
+
+pub returns-clause-cut : goal.returns-clause-cut
+returns-clause-cut c = λ entries cut.
+    let inside = held_of c.self.inside.accepted c.self.inside.buffer.items c.self.inside.stored.items in
+    buffered-kept inside c.args.self.now c.args.new.now c.extend_from_slice.new.self.items entries c.self.view_is c.self.invariant.few c.requires.room
+    (omega (arith, c.if-self-after.false)) c.in_ok-extend_from_slice.ensures.items cut

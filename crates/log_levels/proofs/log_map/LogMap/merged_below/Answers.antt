@@ -1,0 +1,47 @@
+use Rattle.std.proofs.Common.{◌≡◌, ◌+◌, ◌*◌, ◌/◌, ◌^◌, ◌<◌, ◌≤◌, ◌∙◌, ℕ, List, false, length, subst, sym, ap, arith, Vec, Global}
+use Rattle.tombstones.specs.declared.entry.Entry.{Entry}
+use Rattle.tombstones.specs.Entries.{IsAscending, entry_at, kept}
+use Rattle.log_levels.specs.Shapes.{Held, IsCutOf, IsLastOfEach, IsLevelFor}
+use Rattle.log_levels.specs.Kept.{IsMergedTo}
+use Rattle.log_levels.proofs.GrowthLemmas.{merged-none, merged-some, merged-skip}
+use Rattle.log_levels.proofs.log_map.LogMap.merged_below.Goals as goal
+use Rattle.log_levels.proofs.log_map.LogMap.merged_below.Goals.{in-Some+in_ok-merged-2, in_default}
+
+pub loop-i-init : goal.loop-i-init
+loop-i-init c = record {
+  ascending = c.in_ok-merged.ensures.ascending;
+  lasts = λ entries cut. merged-none entries (length entries / 64) c.args.new.now c.deref.result.now c.deref-3.result.now c.deref-2.result.now c.in_ok-merged.merged.items
+      (c.deref.ensures.value ∙ ap (λ (held : Held). held.buffer) c.self.view_is ∙ cut.buffer)
+      (subst (IsLastOfEach false c.deref.result.now) (sym c.deref-3.ensures.value) c.in_ok-older.ensures)
+      (subst (IsLastOfEach false c.args.new.now) (sym c.deref-2.ensures.value) c.in_ok-newer.ensures)
+      c.in_ok-merged.ensures.ascending c.in_ok-merged.ensures.winners;
+}
+
+pub loop-i-preserved : goal.loop-i-preserved
+loop-i-preserved c = elim c.match-level.branch [
+    | in-Some+in_ok-merged-2 w ↦
+        let is : c.match-level.merged.items ≡ w.in_ok-merged-2.merged.items = ap (λ (v : Vec Entry Global). v.items) w.merged-is in
+        let next : IsMerged c w.in_ok-merged-2.merged.items = record {
+          ascending = w.in_ok-merged-2.ensures.ascending;
+          lasts = λ entries cut. merged-some entries (length entries / 64) c.loop-i.i c.args.new.now c.loop-i.merged.items w.deref-in-Some.result.now w.entries.result.now w.in-Some.level.now
+              w.in_ok-merged-2.merged.items _ w.in-Some.ensures (cut.levels c.loop-i.i (omega arith)) w.deref-in-Some.ensures.value w.entries.ensures.entries (c.loop-i.invariant.lasts entries cut)
+              w.in_ok-merged-2.ensures.ascending w.in_ok-merged-2.ensures.winners;
+        } in
+        subst (IsMerged c) (sym is) next
+    | in_default w ↦
+        let is : c.match-level.merged.items ≡ c.loop-i.merged.items = ap (λ (v : Vec Entry Global). v.items) w.merged-is in
+        let next : IsMerged c c.loop-i.merged.items = record {
+          ascending = c.loop-i.invariant.ascending;
+          lasts = λ entries cut. merged-skip entries (length entries / 64) c.loop-i.i c.args.new.now c.loop-i.merged.items _ w.in_default.ensures (cut.levels c.loop-i.i (omega arith)) (c.loop-i.invariant.lasts entries cut);
+        } in
+        subst (IsMerged c) (sym is) next
+  ]
+  where
+    IsMerged : goal.Joined-level → List Entry → Type 0
+    IsMerged c items = record {
+      ascending : IsAscending items;
+      lasts : (entries : List Entry) → IsCutOf c.args.self.now entries → IsMergedTo entries (length entries / 64) (c.loop-i.i + 1) c.args.new.now items
+    }
+
+pub returns : goal.returns
+returns c = λ entries cut. subst (λ i. IsMergedTo entries (length entries / 64) i c.args.new.now c.loop-i.merged.items) (omega arith) (c.loop-i.invariant.lasts entries cut)

@@ -1,0 +1,43 @@
+use Rattle.std.proofs.Common.{◌≡◌, ◌+◌, ◌<◌, ◌≤◌, ◌++◌, ◌∷◌, [], ℕ, List, Ok, Err, length, length-append, subst, sym, ap, ◌∙◌, arith}
+use Rattle.tombstones.specs.declared.entry.Entry.{Entry}
+use Rattle.log_levels.specs.declared.update.Update.TheVariants.{Sweep}
+use Rattle.log_levels.specs.Accepted.{entries_of, entries_for}
+use Rattle.log_levels.specs.Maps.{map_after}
+use Rattle.log_levels.specs.Shapes.{IsCutOf, capacity_of}
+use Rattle.log_levels.proofs.UpdateLemmas.{entries_of-sweep}
+use Rattle.log_levels.proofs.WalkLemmas.{length-sweep}
+use Rattle.log_levels.proofs.log_map.LogMap.sweep.Goals as goal
+
+pub returns-then-count-capacity-clause-full_only : goal.returns-then-count-capacity-clause-full_only
+returns-then-count-capacity-clause-full_only c = λ accepted is.
+    let same : c.accepted-accepted.result ≡ accepted = cc in
+    (omega (arith, c.accepted-accepted.ensures.count), λ updates stands.
+        omega (arith, length-sweep updates c.args.low c.args.high, stands.accepted, c.accepted-accepted.ensures.count, c.count-count.ensures updates stands, c.capacity.ensures, c.if-count-capacity.true))
+
+pub returns-in_err-deletions-clause-full : goal.returns-in_err-deletions-clause-full
+returns-in_err-deletions-clause-full c = λ updates stands over.
+    absurd (omega (arith, length-sweep updates c.args.low c.args.high, stands.accepted, c.accepted-accepted.ensures.count, c.accepted-accepted.ensures.within, c.count-count.ensures updates stands, c.capacity.ensures, c.if-count-capacity.false))
+
+pub append-requires : goal.append-requires
+append-requires c =
+    let (updates, stands) = c.accepted-accepted.ensures.stands in
+    let size = ap (λ (l : List Entry). length l) (c.deref.ensures.value ∙ c.in_ok-deletions.ensures updates stands) in
+    let all = ap (λ (l : List Entry). length l) (entries_of-sweep updates c.args.low c.args.high) in
+    record {
+      room = omega (arith, length-append (entries_of updates) c.deref.result.now, length-sweep updates c.args.low c.args.high, stands.accepted, c.accepted-accepted.ensures.count, c.accepted-accepted.ensures.within,
+          c.count-count.ensures updates stands, c.capacity.ensures, c.if-count-capacity.false, length-append (entries_of updates) (entries_for (map_after updates) (Sweep c.args.low c.args.high)));
+    }
+
+pub returns-in_err-append-clause-full : goal.returns-in_err-append-clause-full
+returns-in_err-append-clause-full c = λ updates stands over.
+    absurd (omega (arith, length-sweep updates c.args.low c.args.high, stands.accepted, c.accepted-accepted.ensures.count, c.accepted-accepted.ensures.within, c.count-count.ensures updates stands, c.capacity.ensures, c.if-count-capacity.false))
+
+pub returns-clause-swept : goal.returns-clause-swept
+returns-clause-swept c = λ updates stands.
+    subst (IsCutOf c.append.new.self)
+    (ap (λ (list : List Entry). entries_of updates ++ list) (c.deref.ensures.value ∙ c.in_ok-deletions.ensures updates stands) ∙ sym (entries_of-sweep updates c.args.low c.args.high))
+    (c.in_ok-append.ensures.cut (entries_of updates) stands)
+
+pub returns-clause-full : goal.returns-clause-full
+returns-clause-full c = λ updates stands over.
+    absurd (omega (arith, length-sweep updates c.args.low c.args.high, stands.accepted, c.accepted-accepted.ensures.count, c.accepted-accepted.ensures.within, c.count-count.ensures updates stands, c.capacity.ensures, c.if-count-capacity.false))

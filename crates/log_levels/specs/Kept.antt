@@ -1,0 +1,95 @@
+-- How levels and maps are kept. No public clause cites it.
+use Rattle.std.specs.Prelude.{◌≡◌, ℕ, ◌+◌, ◌*◌, ◌/◌, ◌≤◌, ◌<◌, ◌^◌, ◌==◌, List, ◌++◌, length, map, drop, Option, Some, None, slice_index, ⊤}
+use Rattle.window_search.specs.Searches.{lb}
+use Rattle.std.specs.Int.{bit_at}
+use Rattle.std.specs.Option.{option_map}
+use Rattle.std.specs.declared.sync.Arc.{Arc}
+use Rattle.std.specs.Arc.{arc_value}
+use Rattle.tombstones.specs.declared.entry.Entry.{Entry}
+use Rattle.tombstones.specs.Entries.{IsAscending, entry_at, kept}
+use Rattle.levels.specs.Indexes.{PgmIndex}
+use Rattle.log_levels.specs.declared.fault.MapFault.{MapFault}
+use Rattle.log_levels.specs.declared.fault.MapFault.TheVariants.{Full, NoMemory}
+use Rattle.log_levels.specs.declared.update.Update.{Update}
+use Rattle.log_levels.specs.declared.update.Update.TheVariants.{Put, Del, Sweep}
+use Rattle.log_levels.specs.Accepted.{put_entry, del_entry}
+use Rattle.log_levels.specs.Shapes.{Held, IsCutOf, level_keys, level_of, from_bit, last_at}
+
+-- the index is that of the entries' keys
+pub record IsIndexed (entries : List Entry) (index : PgmIndex) : Type 0 where
+  pub ascending : IsAscending entries
+  pub few : length entries < 2 ^ 32
+  pub keys : index.keys ≡ level_keys entries
+  pub eps : index.eps ≡ 64
+  pub eps_rec : index.eps_rec ≡ 4
+
+-- the entries of shared levels
+abbrev pub levels_of : {Z : Type 0} → List (Option (Arc (List Entry) Z)) → List (Option (List Entry))
+levels_of {Z} stored = map (option_map (λ (level : Arc (List Entry) Z). arc_value level)) stored
+
+-- what a map holds
+abbrev pub held_of : {Z : Type 0} → ℕ → List Entry → List (Option (Arc (List Entry) Z)) → Held
+held_of accepted buffer stored = record { accepted = accepted; buffer = buffer; levels = levels_of stored }
+
+-- a map that is kept so stands for some entries, and its buffer has room for 64
+pub record IsKept (held : Held) (room : ℕ) : Type 0 where
+  pub cut : (entries : List Entry) × IsCutOf held entries
+  pub roomy : 64 ≤ room
+  pub some : 1 ≤ length held.levels
+  pub few : length held.levels ≤ 26
+
+-- the levels below level i, the buffer and the new entries behind them, merged: what comes behind the blocks from bit i on. Where no bit from bit i on is left, deletions may be left out
+pub record IsMergedTo (entries : List Entry) (f i : ℕ) (new merged : List Entry) : Type 0 where
+  pub ascending : IsAscending merged
+  pub lasts : (key : ℕ) → kept (f / 2 ^ i == 0) (entry_at merged key) ≡ kept (f / 2 ^ i == 0) (last_at (drop (64 * from_bit i f) entries ++ new) key)
+
+-- in `count` more entries bit `top` is the highest one that the number of blocks changes
+pub record IsHighestChange (accepted count top : ℕ) : Type 0 where
+  pub above : accepted / 64 / 2 ^ (top + 1) ≡ (accepted + count) / 64 / 2 ^ (top + 1)
+  pub was_clear : bit_at (accepted / 64) top ≡ 0
+  pub is_set : bit_at ((accepted + count) / 64) top ≡ 1
+
+-- the entries of a level, if there is one
+abbrev pub shared_of : {Z : Type 0} → Option (Arc (List Entry) Z) → Option (List Entry)
+shared_of {Z} level = option_map (λ (level : Arc (List Entry) Z). arc_value level) level
+
+-- the value that an entry gives its key, if there is an entry
+abbrev pub value_of : Option Entry → Option ℕ
+value_of None = None
+value_of (Some entry) = entry.value
+
+-- no entry has the key
+pub record IsAbsent (held : Held) (key : ℕ) : Type 0 where
+  pub buffer : last_at held.buffer key ≡ None
+  pub levels : (i : ℕ) (level : List Entry) → i < length held.levels → level_of held i ≡ Some level → entry_at level key ≡ None
+
+-- the places of a key in the levels: how many keys are below it
+pub record ArePlaces (held : Held) (places : List ℕ) (key : ℕ) : Type 0 where
+  pub count : length places ≡ 26
+  pub each : (i : ℕ) (level : List Entry) → i < length held.levels → level_of held i ≡ Some level → slice_index places i ≡ lb (level_keys level) key
+
+-- the key is below the least one, if there is one
+abbrev pub IsBelow : ℕ → Option ℕ → Type 0
+IsBelow key None = ⊤
+IsBelow key (Some least) = key < least
+
+-- what a level has at a key, if it is occupied
+abbrev pub entry_in : Option (List Entry) → ℕ → Option Entry
+entry_in None key = None
+entry_in (Some level) key = entry_at level key
+
+-- the first key from a bound on that has a value, if there is one
+abbrev pub IsNextLive : List Entry → ℕ → Option (ℕ × ℕ) → Type 0
+IsNextLive entries from None = (key : ℕ) → from ≤ key → value_of (last_at entries key) ≡ None
+IsNextLive entries from (Some (key, value)) = (from ≤ key) × (value_of (last_at entries key) ≡ Some value) × ((other : ℕ) → from ≤ other → other < key → value_of (last_at entries other) ≡ None)
+
+-- the entry of an update that is one
+abbrev pub plain_entry : Update → Entry
+plain_entry (Put key value) = put_entry key value
+plain_entry (Del key) = del_entry key
+plain_entry (Sweep low high) = del_entry low
+
+-- the map was full
+abbrev pub IsFull : MapFault → Type 0
+IsFull (Full accepted) = ⊤
+IsFull NoMemory = ⊥

@@ -1,0 +1,195 @@
+// Many updates at once.
+ghost use Rattle.std.specs.Prelude.{◌≡◌, ◌⊎◌, ◌+◌, ◌<◌, ◌≤◌, ◌++◌, ◌∷◌, ℕ, List, length, map, take, drop};
+ghost use Rattle.std.specs.Prelude.{All, IfOk, IfSome, IfNone, OnOk, OnErr, Err, IsTrue, slice_index_or};
+ghost use Rattle.log_levels.specs.declared.update.Update.{Update};
+ghost use Rattle.log_levels.specs.declared.fault.MapFault.TheVariants.{Full};
+ghost use Rattle.log_levels.specs.declared.fault.MapFault.{MapFault};
+ghost use Rattle.log_levels.specs.Accepted.{IsPlain, entries_of};
+ghost use Rattle.log_levels.specs.Kept.{IsFull, plain_entry};
+ghost use Rattle.log_levels.specs.Shapes.{StandsFor, capacity_of};
+
+use crate::fault::MapFault;
+use crate::log_map::LogMap;
+use crate::update::Update;
+use budget::NoMemory;
+use edge::Gate;
+use std::alloc::Global;
+use std::thread::Threads;
+use tombstones::Entry;
+
+impl LogMap {
+    /// Applies updates in order, all or none.
+    ///
+    /// They are applied to a copy, which shares the levels, and the map is replaced at the end. So
+    /// many updates without a sweep between them are merged into the levels at once.
+    ///
+    /// # Errors
+    ///
+    /// - `Full` where the map can't accept as many entries. It is judged first, where no update is
+    ///   a sweep.
+    /// - `NoMemory` where memory wasn't found.
+    ///
+    /// After either the map is as it was.
+    pub fn apply<R: Threads + Sync, G: Gate>(
+        &mut self,
+        _rt: &R,
+        alloc: Global,
+        updates: &[Update],
+        _workers: u32,
+        _gate: &G,
+    ) -> Result<(), MapFault>
+        requires staffed { 1 ≤ _workers }
+        requires few_workers { _workers ≤ 64 }
+        ensures applied { OnOk result ((before : List Update) → StandsFor self.old before →
+            StandsFor self.new (before ++ updates.now)) }
+        ensures full { (before : List Update) → StandsFor self.old before →
+            capacity_of self.old < length (entries_of (before ++ updates.now)) →
+            (result ≡ Err (Full self.old.accepted)) ⊎ (result ≡ Err MapFault.NoMemory) }
+        ensures full_first { All IsPlain updates.now →
+            capacity_of self.old < self.old.accepted + length updates.now →
+            result ≡ Err (Full self.old.accepted) }
+        ensures full_only { (accepted : ℕ) → result ≡ Err (Full accepted) →
+            (accepted ≡ self.old.accepted) × ((before : List Update) →
+            StandsFor self.old before →
+            capacity_of self.old < length (entries_of (before ++ updates.now))) }
+        ensures unchanged { OnErr result (self.new ≡ self.old) }
+        ensures levels { length self.new.levels ≡ length self.old.levels }
+    {
+        *self = self.with_updates(alloc, updates)?;
+        Ok(())
+    }
+
+    /// The map with updates.
+    fn with_updates(&self, alloc: Global, updates: &[Update]) -> Result<LogMap, MapFault>
+        ensures applied { IfOk result (λ map. (before : List Update) → StandsFor self.now before →
+            StandsFor map (before ++ updates.now)) }
+        ensures levels { IfOk result (λ map. length map.levels ≡ length self.now.levels) }
+        ensures full_first { All IsPlain updates.now →
+            capacity_of self.now < self.now.accepted + length updates.now →
+            result ≡ Err (Full self.now.accepted) }
+        ensures full_only { (accepted : ℕ) → result ≡ Err (Full accepted) →
+            (accepted ≡ self.now.accepted) × ((before : List Update) →
+            StandsFor self.now before →
+            capacity_of self.now < length (entries_of (before ++ updates.now))) }
+    {
+        let accepted = self.accepted();
+        let room = self.capacity() - accepted;
+        if are_too_many(updates, room) {
+            return Err(MapFault::Full { accepted });
+        }
+        let mut map = self.copy(alloc)?;
+        let mut done = 0;
+        while done < updates.len() {
+            match map.add_run(alloc, &updates[done..]) {
+                Ok(count) => done += count,
+                Err(fault) => return Err(behind(fault, accepted)),
+            }
+        }
+        Ok(map)
+    }
+
+    /// Applies the first updates of a list, a sweep or some without one, and gives how many they
+    /// were.
+    fn add_run(&mut self, alloc: Global, updates: &[Update]) -> Result<usize, MapFault>
+        requires { 0 < length updates.now }
+        ensures some { IfOk result (λ count. 0 < count) }
+        ensures within { IfOk result (λ count. count ≤ length updates.now) }
+        ensures added { IfOk result (λ count. (before : List Update) → StandsFor self.old before →
+            StandsFor self.new (before ++ take count updates.now)) }
+        ensures full_only { (accepted : ℕ) → result ≡ Err (Full accepted) →
+            (before : List Update) → StandsFor self.old before →
+            capacity_of self.old < length (entries_of (before ++ updates.now)) }
+        ensures levels { length self.new.levels ≡ length self.old.levels }
+    {
+        if let Update::Sweep(low, high) = updates[0] {
+            return match self.sweep(alloc, low, high) {
+                Ok(_) => Ok(1),
+                Err(fault) => Err(fault),
+            };
+        }
+        let count = plain_len(updates);
+        match self.add_plain(alloc, &updates[..count]) {
+            Ok(()) => Ok(count),
+            Err(fault) => Err(fault),
+        }
+    }
+
+    /// Applies updates without a sweep.
+    fn add_plain(&mut self, alloc: Global, updates: &[Update]) -> Result<(), MapFault>
+        requires { All IsPlain updates.now }
+        ensures added { OnOk result ((before : List Update) → StandsFor self.old before →
+            StandsFor self.new (before ++ updates.now)) }
+        ensures full_only { (accepted : ℕ) → result ≡ Err (Full accepted) →
+            capacity_of self.old < self.old.accepted + length updates.now }
+        ensures levels { length self.new.levels ≡ length self.old.levels }
+    {
+        let accepted = self.accepted();
+        if updates.len() as u64 > self.capacity() - accepted {
+            return Err(MapFault::Full { accepted });
+        }
+        let entries = plain_entries(alloc, updates)?;
+        self.append(alloc, &entries)?;
+        Ok(())
+    }
+}
+
+/// Whether no update is a sweep, and they are more than `room`.
+fn are_too_many(updates: &[Update], room: u64) -> bool
+    ensures only { IsTrue result → (room < length updates.now) × All IsPlain updates.now }
+    ensures wherever { All IsPlain updates.now → room < length updates.now → IsTrue result }
+{
+    if updates.len() as u64 <= room {
+        return false;
+    }
+    plain_len(updates) == updates.len()
+}
+
+/// The entries of updates without a sweep.
+fn plain_entries(alloc: Global, updates: &[Update]) -> Result<Vec<Entry>, NoMemory>
+    requires { All IsPlain updates.now }
+    ensures { IfOk result (λ entries. entries.items ≡ map plain_entry updates.now) }
+{
+    let mut entries = Vec::with_capacity(alloc, updates.len())?;
+    for update in updates {
+        entries.push(plain_entry(*update))?;
+    }
+    Ok(entries)
+}
+
+/// The entry of an update; of a sweep, one that nobody asks for.
+fn plain_entry(update: Update) -> Entry
+    ensures { result ≡ plain_entry update }
+{
+    match update {
+        Update::Put(key, value) => Entry {
+            key,
+            value: Some(value),
+        },
+        Update::Del(key) | Update::Sweep(key, _) => Entry { key, value: None },
+    }
+}
+
+/// How many updates there are before the first sweep.
+fn plain_len(updates: &[Update]) -> usize
+    ensures within { result ≤ length updates.now }
+    ensures plain { All IsPlain (take result updates.now) }
+    ensures sweep { (d : Update) → result < length updates.now →
+        IsPlain (slice_index_or updates.now result d) → ⊥ }
+{
+    for (i, update) in updates.iter().enumerate() {
+        if matches!(update, Update::Sweep(_, _)) {
+            return i;
+        }
+    }
+    updates.len()
+}
+
+/// The fault, with how many entries were accepted before.
+fn behind(fault: MapFault, accepted: u64) -> MapFault
+    ensures full { (other : ℕ) → result ≡ Full other → (other ≡ accepted) × IsFull fault }
+{
+    match fault {
+        MapFault::Full { .. } => MapFault::Full { accepted },
+        MapFault::NoMemory => MapFault::NoMemory,
+    }
+}

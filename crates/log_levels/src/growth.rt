@@ -1,0 +1,257 @@
+// What a map becomes when entries are added: made aside.
+ghost use Rattle.std.specs.Prelude.{◌≡◌, ◌≢◌, ◌+◌, ◌-◌, ◌*◌, ◌/◌, ◌^◌, ◌<◌, ◌≤◌, ◌==◌, ◌++◌, ℕ, List};
+ghost use Rattle.std.specs.Prelude.{false, length, take, drop, vec_len, slice_index_or, None, Some, IfOk, OnOk, OnErr};
+ghost use Rattle.std.specs.Option.{option_map};
+ghost use Rattle.std.specs.Int.{bit_at};
+ghost use Rattle.std.specs.Arc.{arc_value};
+ghost use Rattle.tombstones.specs.declared.entry.Entry.{Entry};
+ghost use Rattle.tombstones.specs.Entries.{IsAscending, entry_at, kept};
+ghost use Rattle.log_levels.specs.Shapes.{IsCutOf, IsLevelFor, capacity_of, level_of, from_bit};
+ghost use Rattle.log_levels.specs.Kept.{IsMergedTo, IsHighestChange, shared_of, levels_of};
+
+use crate::latest::latest_of;
+use crate::level::Level;
+use crate::log_map::{BLOCK, LogMap};
+use budget::NoMemory;
+use std::alloc::Global;
+use std::cmp::Ordering;
+use std::sync::Arc;
+use tombstones::{Entry, merge};
+
+impl LogMap {
+    /// The levels below level `top`, the buffer and new entries behind them, merged from the newest
+    /// on.
+    fn merged_below(
+        &self,
+        alloc: Global,
+        top: usize,
+        new: &[Entry],
+    ) -> Result<Vec<Entry>, NoMemory>
+        requires { top < length self.now.levels }
+        ensures { IfOk result (λ merged. (entries : List Entry) → IsCutOf self.now entries →
+            IsMergedTo entries (length entries / 64) top new.now merged.items) }
+    {
+        let older = latest_of(alloc, &self.buffer)?;
+        let newer = latest_of(alloc, new)?;
+        let mut merged = merge(alloc, &newer, &older, false)?;
+        for i in 0..top {
+            if let Some(level) = self.level(i) {
+                merged = merge(alloc, &merged, level.entries(), false)?;
+            }
+        }
+        Ok(merged)
+    }
+
+    /// Level `top`, where `new` more entries change bit `top` as the highest one: what was below it,
+    /// and new entries up to the end of its block.
+    fn merged_level(&self, alloc: Global, new: &[Entry], top: usize) -> Result<Arc<Level>, NoMemory>
+        requires inside { top < length self.now.levels }
+        requires change { IsHighestChange self.now.accepted (length new.now) top }
+        requires room { self.now.accepted + length new.now ≤ capacity_of self.now }
+        ensures { IfOk result (λ level. (entries : List Entry) → IsCutOf self.now entries →
+            IsLevelFor (entries ++ new.now) ((self.now.accepted + length new.now) / BLOCK) top
+            (Some (arc_value level))) }
+    {
+        let blocks = self.blocks_with(new.len());
+        let end = entries_from_bit(top, blocks) - self.accepted();
+        let merged = self.merged_below(alloc, top, &new[..end as usize])?;
+        let level = kept_of(alloc, merged, blocks >> (top + 1) == 0)?;
+        shared(alloc, level)
+    }
+
+    /// A level below it, if it is occupied: a block of new entries.
+    fn fresh_level(
+        &self,
+        alloc: Global,
+        new: &[Entry],
+        top: usize,
+        i: usize,
+    ) -> Result<Option<Arc<Level>>, NoMemory>
+        requires inside { top < length self.now.levels }
+        requires change { IsHighestChange self.now.accepted (length new.now) top }
+        requires room { self.now.accepted + length new.now ≤ capacity_of self.now }
+        requires below { i < top }
+        ensures { IfOk result (λ level. (entries : List Entry) → IsCutOf self.now entries →
+            IsLevelFor (entries ++ new.now) ((self.now.accepted + length new.now) / BLOCK) i
+            (shared_of level)) }
+    {
+        let blocks = self.blocks_with(new.len());
+        if (blocks >> i) % 2 == 0 {
+            return Ok(None);
+        }
+        let accepted = self.accepted();
+        let start = entries_from_bit(i + 1, blocks) - accepted;
+        let end = entries_from_bit(i, blocks) - accepted;
+        let latest = latest_of(alloc, part(new, start as usize, end as usize))?;
+        Ok(Some(shared(alloc, latest)?))
+    }
+
+    /// Level `i` with new entries, where they change bit `top` of the number of blocks as the highest
+    /// one.
+    fn level_with(
+        &self,
+        alloc: Global,
+        new: &[Entry],
+        top: usize,
+        i: usize,
+    ) -> Result<Option<Arc<Level>>, NoMemory>
+        requires inside { top < length self.now.levels }
+        requires change { IsHighestChange self.now.accepted (length new.now) top }
+        requires room { self.now.accepted + length new.now ≤ capacity_of self.now }
+        requires occupied { i < length self.now.levels }
+        ensures { IfOk result (λ level. (entries : List Entry) → IsCutOf self.now entries →
+            IsLevelFor (entries ++ new.now) ((self.now.accepted + length new.now) / BLOCK) i
+            (shared_of level)) }
+    {
+        match i.cmp(&top) {
+            Ordering::Less => self.fresh_level(alloc, new, top, i),
+            Ordering::Equal => Ok(Some(self.merged_level(alloc, new, top)?)),
+            Ordering::Greater => self.shared_level(i),
+        }
+    }
+
+    /// All levels with new entries.
+    fn levels_with(
+        &self,
+        alloc: Global,
+        new: &[Entry],
+        top: usize,
+    ) -> Result<Vec<Option<Arc<Level>>>, NoMemory>
+        requires inside { top < length self.now.levels }
+        requires change { IsHighestChange self.now.accepted (length new.now) top }
+        requires room { self.now.accepted + length new.now ≤ capacity_of self.now }
+        ensures count { IfOk result (λ levels. length levels.items ≡ length self.now.levels) }
+        ensures levels { IfOk result (λ levels. (entries : List Entry) (i : ℕ) →
+            IsCutOf self.now entries → i < length self.now.levels →
+            IsLevelFor (entries ++ new.now) ((self.now.accepted + length new.now) / BLOCK) i
+            (slice_index_or (levels_of levels.items) i None)) }
+    {
+        let count = self.stored.len();
+        let mut levels = Vec::with_capacity(alloc, count)?;
+        for i in 0..count {
+            levels.push(self.level_with(alloc, new, top, i)?)?;
+        }
+        Ok(levels)
+    }
+
+    /// The map with new entries, which fill a block or more.
+    pub(crate) fn with_entries(&self, alloc: Global, new: &[Entry]) -> Result<LogMap, NoMemory>
+        requires flush { self.now.accepted / BLOCK < (self.now.accepted + length new.now) / BLOCK }
+        requires room { self.now.accepted + length new.now ≤ capacity_of self.now }
+        ensures cut { IfOk result (λ map. (entries : List Entry) → IsCutOf self.now entries →
+            IsCutOf map (entries ++ new.now)) }
+        ensures levels { IfOk result (λ map. length map.levels ≡ length self.now.levels) }
+    {
+        let blocks = self.blocks_with(new.len());
+        let top = highest_change(self.accepted / BLOCK, blocks);
+        let stored = self.levels_with(alloc, new, top)?;
+        let accepted = self.accepted + new.len() as u64;
+        let start = blocks * BLOCK - self.accepted;
+        let mut buffer = Vec::with_capacity(alloc, BLOCK as usize)?;
+        buffer.extend_from_slice(&new[start as usize..])?;
+        Ok(LogMap {
+            accepted,
+            buffer,
+            stored,
+        })
+    }
+
+    /// Adds entries. After an error the map is as it was.
+    pub(crate) fn append(&mut self, alloc: Global, new: &[Entry]) -> Result<(), NoMemory>
+        requires room { self.old.accepted + length new.now ≤ capacity_of self.old }
+        ensures cut { OnOk result ((entries : List Entry) → IsCutOf self.old entries →
+            IsCutOf self.new (entries ++ new.now)) }
+        ensures levels { length self.new.levels ≡ length self.old.levels }
+        ensures unchanged { OnErr result (self.new ≡ self.old) }
+    {
+        let after = self.accepted + new.len() as u64;
+        if self.accepted / BLOCK < after / BLOCK {
+            *self = self.with_entries(alloc, new)?;
+            return Ok(());
+        }
+        self.buffer.extend_from_slice(new)?;
+        self.accepted = after;
+        Ok(())
+    }
+
+    /// How many blocks there are with so many entries more.
+    fn blocks_with(&self, more: usize) -> u64
+        requires { self.now.accepted + more ≤ capacity_of self.now }
+        ensures blocks { result ≡ (self.now.accepted + more) / BLOCK }
+        ensures few { result < 2 ^ length self.now.levels }
+        ensures levels { length self.now.levels ≤ 26 }
+        ensures stands { (entries : List Entry) × IsCutOf self.now entries }
+    {
+        (self.accepted + more as u64) / BLOCK
+    }
+
+    /// A level above it, which is shared.
+    pub(crate) fn shared_level(&self, i: usize) -> Result<Option<Arc<Level>>, NoMemory>
+        requires { i < length self.now.levels }
+        ensures { IfOk result (λ level. shared_of level ≡ level_of self.now i) }
+    {
+        match &self.stored[i] {
+            Some(level) => Ok(Some(Arc::try_clone(level)?)),
+            None => Ok(None),
+        }
+    }
+}
+
+/// Entries, in the deepest level without the deletions.
+fn kept_of(alloc: Global, entries: Vec<Entry>, deepest: bool) -> Result<Vec<Entry>, NoMemory>
+    requires { IsAscending entries.items }
+    ensures ascending { IfOk result (λ level. IsAscending level.items) }
+    ensures keeps { IfOk result (λ level. (key : ℕ) →
+        entry_at level.items key ≡ kept deepest (entry_at entries.items key)) }
+{
+    if deepest {
+        merge(alloc, &entries, &[], true)
+    } else {
+        Ok(entries)
+    }
+}
+
+/// A level of entries, to be shared.
+fn shared(alloc: Global, entries: Vec<Entry>) -> Result<Arc<Level>, NoMemory>
+    requires ascending { IsAscending entries.items }
+    requires few { vec_len entries < 2 ^ 32 }
+    ensures { IfOk result (λ level. arc_value level ≡ entries.items) }
+{
+    let level = Level::of(alloc, entries)?;
+    Ok(Arc::new(alloc, level)?)
+}
+
+/// The highest bit in which a number differs from a smaller one.
+fn highest_change(before: u64, after: u64) -> usize
+    requires order { before < after }
+    requires few { after < 2 ^ 32 }
+    ensures inside { (count : ℕ) → after < 2 ^ count → result < count }
+    ensures above { before / 2 ^ (result + 1) ≡ after / 2 ^ (result + 1) }
+    ensures was_clear { bit_at before result ≡ 0 }
+    ensures is_set { bit_at after result ≡ 1 }
+{
+    let mut top = 0;
+    while before >> (top + 1) != after >> (top + 1) {
+        top += 1;
+    }
+    top
+}
+
+/// The entries from one place to another.
+fn part(entries: &[Entry], start: usize, end: usize) -> &[Entry]
+    requires order { start ≤ end }
+    requires within { end ≤ length entries.now }
+    ensures part { result.now ≡ take (end - start) (drop start entries.now) }
+    ensures len { length result.now ≡ end - start }
+{
+    &entries[start..end]
+}
+
+/// How many entries the blocks of the bits from bit `i` on have.
+fn entries_from_bit(i: usize, blocks: u64) -> u64
+    requires shift { i < 64 }
+    requires few { blocks < 2 ^ 58 }
+    ensures { result ≡ BLOCK * from_bit i blocks }
+{
+    (blocks >> i << i) * BLOCK
+}

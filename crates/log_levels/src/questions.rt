@@ -1,0 +1,89 @@
+// Questions to a map.
+ghost use Rattle.std.specs.Prelude.{◌≡◌, ◌+◌, ◌*◌, ◌/◌, ◌<◌, ◌≤◌, ◌==◌, ℕ, List, length, reverse};
+ghost use Rattle.std.specs.Prelude.{Option, Some, None, drop, find};
+ghost use Rattle.std.specs.Option.{option_copied};
+ghost use Rattle.tombstones.specs.declared.entry.Entry.{Entry};
+ghost use Rattle.log_levels.specs.declared.update.Update.{Update};
+ghost use Rattle.log_levels.specs.Maps.{map_after, value_at, next_from, count_between};
+ghost use Rattle.log_levels.specs.Shapes.{IsCutOf, StandsFor, last_at};
+ghost use Rattle.log_levels.specs.Kept.{value_of};
+
+use crate::log_map::LogMap;
+use tombstones::Entry;
+
+impl LogMap {
+    /// The value at a key, if the map has the key.
+    ///
+    /// The buffer is gone through from its end, and then the levels are searched by their indexes,
+    /// the newest first, up to the first entry with the key. Takes no memory.
+    pub fn get(&self, key: u64) -> Option<u64>
+        ensures { (updates : List Update) → StandsFor self.now updates →
+            result ≡ value_at (map_after updates) key }
+    {
+        match last_of(&self.buffer, key) {
+            Some(entry) => entry.value,
+            None => self.value_in_levels(key),
+        }
+    }
+
+    /// The least key from `q` on that the map has, with its value, if there is one.
+    ///
+    /// Each level is searched once by its index, and from there on gone along key by key, past keys
+    /// that were deleted: at worst past each key from `q` on that the levels and the buffer have,
+    /// and at each the levels and the buffer are looked at once. Takes no memory.
+    pub fn next(&self, q: u64) -> Option<(u64, u64)>
+        ensures { (updates : List Update) → StandsFor self.now updates →
+            result ≡ next_from (map_after updates) q }
+    {
+        let mut places = self.places(q);
+        self.next_live(&mut places, u128::from(q))
+    }
+
+    /// How many keys from `low` to `high` the map has, both included; none where `low` is above
+    /// `high`.
+    ///
+    /// Each level is searched once by its index, and from there on gone along key by key, past keys
+    /// that were deleted: at each key in the range that the levels and the buffer have, and at one
+    /// past it, the levels and the buffer are looked at once. Takes no memory.
+    pub fn count(&self, low: u64, high: u64) -> u64
+        ensures { (updates : List Update) → StandsFor self.now updates →
+            result ≡ count_between (map_after updates) low high }
+    {
+        let _ = self.accepted();
+        let mut places = self.places(low);
+        let mut from = u128::from(low);
+        let mut count = 0;
+        while let Some((key, _)) = self.next_live(&mut places, from) {
+            if key > high {
+                return count;
+            }
+            count += 1;
+            self.pass(&mut places, key);
+            from = u128::from(key) + 1;
+        }
+        count
+    }
+
+    /// The same, where the buffer has no entry with the key.
+    fn value_in_levels(&self, key: u64) -> Option<u64>
+        requires { last_at self.now.buffer key ≡ None }
+        ensures { (entries : List Entry) → IsCutOf self.now entries →
+            result ≡ value_of (last_at entries key) }
+    {
+        for i in 0..self.level_count() {
+            if let Some(level) = self.level(i) {
+                if let Some(entry) = level.entry(key) {
+                    return entry.value;
+                }
+            }
+        }
+        None
+    }
+}
+
+/// The last of the entries with a key, if there is one.
+pub fn last_of(entries: &[Entry], key: u64) -> Option<&Entry>
+    ensures { option_copied result ≡ last_at entries.now key }
+{
+    entries.iter().rev().find(|entry| entry.key == key)
+}

@@ -1,0 +1,147 @@
+// Updates of a map.
+ghost use Rattle.std.specs.Prelude.{◌≡◌, ◌+◌, ◌<◌, ◌≤◌, ◌++◌, ◌∷◌, [], ℕ, List, length};
+ghost use Rattle.std.specs.Prelude.{IfOk, IfErr, OnOk, OnErr, MatchResult, Err};
+ghost use Rattle.tombstones.specs.declared.entry.Entry.{Entry};
+ghost use Rattle.log_levels.specs.declared.update.Update.{Update};
+ghost use Rattle.log_levels.specs.declared.update.Update.TheVariants.{Put, Del, Sweep};
+ghost use Rattle.log_levels.specs.declared.fault.MapFault.TheVariants.{Full};
+ghost use Rattle.log_levels.specs.Shapes.{IsCutOf, StandsFor, capacity_of};
+ghost use Rattle.log_levels.specs.Maps.{map_after, count_between};
+ghost use Rattle.log_levels.specs.Accepted.{entries_of, entries_for};
+
+use crate::fault::MapFault;
+use crate::log_map::LogMap;
+use budget::NoMemory;
+use std::alloc::Global;
+use tombstones::Entry;
+
+impl LogMap {
+    /// Puts a value at a key. It is an entry, whatever was at the key.
+    ///
+    /// Where it is the last entry of a block of 64, the buffer and the levels below the lowest one
+    /// that isn't occupied are merged into that one, from the newest on: each entry of level `i` is
+    /// moved at most once for each level from it to the new one, so all together at most twice the
+    /// new level's size.
+    ///
+    /// # Errors
+    ///
+    /// - `Full` where the map has accepted as many entries as it can. It is judged first.
+    /// - `NoMemory` where memory wasn't found.
+    ///
+    /// After either the map is as it was.
+    pub fn put(&mut self, alloc: Global, key: u64, value: u64) -> Result<(), MapFault>
+        ensures put { OnOk result ((updates : List Update) → StandsFor self.old updates →
+            StandsFor self.new (updates ++ Put key value ∷ [])) }
+        ensures full { capacity_of self.old < self.old.accepted + 1 →
+            result ≡ Err (Full self.old.accepted) }
+        ensures full_only { (accepted : ℕ) → result ≡ Err (Full accepted) →
+            (accepted ≡ self.old.accepted) × (capacity_of self.old < self.old.accepted + 1) }
+        ensures unchanged { OnErr result (self.new ≡ self.old) }
+        ensures levels { length self.new.levels ≡ length self.old.levels }
+    {
+        self.add(
+            alloc,
+            Entry {
+                key,
+                value: Some(value),
+            },
+        )
+    }
+
+    /// Takes a key out of the map. It is an entry, whether or not the key was there.
+    ///
+    /// # Errors
+    ///
+    /// As at [`LogMap::put`].
+    pub fn del(&mut self, alloc: Global, key: u64) -> Result<(), MapFault>
+        ensures del { OnOk result ((updates : List Update) → StandsFor self.old updates →
+            StandsFor self.new (updates ++ Del key ∷ [])) }
+        ensures full { capacity_of self.old < self.old.accepted + 1 →
+            result ≡ Err (Full self.old.accepted) }
+        ensures full_only { (accepted : ℕ) → result ≡ Err (Full accepted) →
+            (accepted ≡ self.old.accepted) × (capacity_of self.old < self.old.accepted + 1) }
+        ensures unchanged { OnErr result (self.new ≡ self.old) }
+        ensures levels { length self.new.levels ≡ length self.old.levels }
+    {
+        self.add(alloc, Entry { key, value: None })
+    }
+
+    /// Takes the keys from `low` to `high`, both included, out of the map, and gives how many they
+    /// were; none where `low` is above `high`. Each is an entry.
+    ///
+    /// # Errors
+    ///
+    /// - `Full` where the map can't accept as many entries. It is judged first.
+    /// - `NoMemory` where memory wasn't found.
+    ///
+    /// After either the map is as it was.
+    pub fn sweep(&mut self, alloc: Global, low: u64, high: u64) -> Result<u64, MapFault>
+        ensures swept { OnOk result ((updates : List Update) → StandsFor self.old updates →
+            StandsFor self.new (updates ++ Sweep low high ∷ [])) }
+        ensures count { IfOk result (λ count. (updates : List Update) →
+            StandsFor self.old updates → count ≡ count_between (map_after updates) low high) }
+        ensures full { (updates : List Update) → StandsFor self.old updates →
+            capacity_of self.old < length (entries_of (updates ++ Sweep low high ∷ [])) →
+            result ≡ Err (Full self.old.accepted) }
+        ensures full_only { (accepted : ℕ) → result ≡ Err (Full accepted) →
+            (accepted ≡ self.old.accepted) × ((updates : List Update) →
+            StandsFor self.old updates →
+            capacity_of self.old < length (entries_of (updates ++ Sweep low high ∷ []))) }
+        ensures unchanged { OnErr result (self.new ≡ self.old) }
+        ensures levels { length self.new.levels ≡ length self.old.levels }
+    {
+        let accepted = self.accepted();
+        let count = self.count(low, high);
+        if count > self.capacity() - accepted {
+            return Err(MapFault::Full { accepted });
+        }
+        let deletions = self.deletions(alloc, low, high, count)?;
+        self.append(alloc, &deletions)?;
+        Ok(count)
+    }
+
+    /// A deletion of each key from `low` to `high`, which are so many.
+    fn deletions(
+        &self,
+        alloc: Global,
+        low: u64,
+        high: u64,
+        count: u64,
+    ) -> Result<Vec<Entry>, NoMemory>
+        ensures { IfOk result (λ deletions. (updates : List Update) →
+            StandsFor self.now updates →
+            deletions.items ≡ entries_for (map_after updates) (Sweep low high)) }
+    {
+        let mut places = self.places(low);
+        let mut from = u128::from(low);
+        let mut deletions = Vec::with_capacity(alloc, count as usize)?;
+        while let Some((key, _)) = self.next_live(&mut places, from) {
+            if key > high {
+                return Ok(deletions);
+            }
+            deletions.push(Entry { key, value: None })?;
+            self.pass(&mut places, key);
+            from = u128::from(key) + 1;
+        }
+        Ok(deletions)
+    }
+
+    /// Adds an entry, where there is room.
+    fn add(&mut self, alloc: Global, entry: Entry) -> Result<(), MapFault>
+        ensures added { OnOk result ((entries : List Entry) → IsCutOf self.old entries →
+            IsCutOf self.new (entries ++ entry ∷ [])) }
+        ensures full { capacity_of self.old < self.old.accepted + 1 →
+            result ≡ Err (Full self.old.accepted) }
+        ensures full_only { (accepted : ℕ) → result ≡ Err (Full accepted) →
+            (accepted ≡ self.old.accepted) × (capacity_of self.old < self.old.accepted + 1) }
+        ensures unchanged { OnErr result (self.new ≡ self.old) }
+        ensures levels { length self.new.levels ≡ length self.old.levels }
+    {
+        let accepted = self.accepted();
+        if accepted == self.capacity() {
+            return Err(MapFault::Full { accepted });
+        }
+        self.append(alloc, &[entry])?;
+        Ok(())
+    }
+}
