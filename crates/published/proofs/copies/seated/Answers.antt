@@ -1,0 +1,8 @@
+use Rattle.published.proofs.OneHistory.{forks, merges}
+use Rattle.published.proofs.copies.seated.Goals as goal
+
+pub tell-requires : goal.tell-requires
+tell-requires g c = forks _ _
+
+pub learn-requires-clause-rule : goal.learn-requires-clause-rule
+learn-requires-clause-rule g c = merges _ _ _ _

@@ -1,0 +1,199 @@
+// Readers, looks and notes. None of their calls waits or takes memory.
+ghost use Rattle.std.specs.Prelude.{◌≡◌, Some, IfOk, IfErr, OnOk, OnErr};
+ghost use mathlib.Core.List.{IsPrefix};
+ghost use Rattle.edge.specs.Risen.{HasRisen};
+ghost use Rattle.log_levels.specs.Maps.{map_after, value_at, next_from, count_between};
+ghost use Rattle.left_right.specs.Sides.{view};
+ghost use Rattle.published.specs.Histories.{Front, updates_of, count_of, longer_of};
+
+use crate::copies::{Looks, OneHistory, Place};
+use crate::door::Door;
+use crate::history::Prefix;
+use crate::version::Version;
+use left_right::reader::Reading;
+use std::marker::Model;
+
+/// A reader that isn't looking, seen as the longest prefix of the history that it saw or learned.
+#[derive(Drop)]
+pub struct Reader {
+    place: Place,
+    known: Prefix,
+}
+
+impl Model for Reader {
+    ghost use Rattle.std.specs.Prelude.{◌≡◌, Some};
+    ghost use Rattle.left_right.specs.Sides.{view as view_of};
+    ghost use Rattle.published.specs.Histories.{Front};
+
+    ghost Value = { Front };
+
+    ghost view = { λ r. r.known };
+
+    ghost invariant = { λ r. (told : Front) × (view_of r.place.place ≡ Some told)
+        × (told.origin ≡ r.known.origin) };
+}
+
+/// A look at the map, seen as the prefix of the history that it shows. The writer waits for it, as
+/// long as it is kept. A look that is dropped gives up its reader.
+pub struct Look {
+    reading: Reading<Version, Option<Prefix>, OneHistory>,
+}
+
+impl Model for Look {
+    ghost use Rattle.std.specs.Prelude.{◌≡◌, Some};
+    ghost use Rattle.left_right.specs.Sides.{view as view_of};
+    ghost use Rattle.published.specs.Histories.{Front};
+
+    ghost Value = { Front };
+
+    ghost view = { λ l. l.reading.part.value };
+
+    ghost invariant = { λ l. (told : Front) × (view_of l.reading.place ≡ Some told)
+        × (told.origin ≡ l.reading.part.value.origin) };
+}
+
+/// What was published when the writer told it, seen as that history. It takes 8 bytes.
+#[derive(Drop)]
+pub struct Note {
+    told: Prefix,
+}
+
+impl Model for Note {
+    ghost use Rattle.published.specs.Histories.{Front};
+
+    ghost Value = { Front };
+
+    ghost view = { λ n. n.told };
+}
+
+impl Note {
+    /// A note of this history.
+    pub(crate) fn of(told: Prefix) -> Note
+        ensures { result ≡ told }
+    {
+        // Event: tell.
+        Note { told }
+    }
+
+    /// The published length: how many updates.
+    pub fn length(&self) -> u64
+        ensures { result ≡ count_of self.now.batches }
+    {
+        self.told.len()
+    }
+}
+
+impl Reader {
+    /// A reader that has seen this much. Its place knows the history.
+    pub(crate) fn at(place: Place, known: Prefix) -> Reader
+        requires { (told : Front) × (view place.place ≡ Some told) × (told.origin ≡ known.origin) }
+        ensures { result ≡ known }
+    {
+        Reader { place, known }
+    }
+
+    /// Takes in a note, which is used up. What was seen is the longer of the two then, and begins
+    /// with both.
+    pub fn learn(&mut self, note: Note)
+        requires own { note.origin ≡ self.old.origin }
+        ensures longer { self.new.batches ≡ longer_of self.old.batches note.batches }
+        ensures seen { IsPrefix self.old.batches self.new.batches }
+        ensures told { IsPrefix note.batches self.new.batches }
+        ensures own { self.new.origin ≡ self.old.origin }
+    {
+        // Event: learn.
+        self.known = self.known.longer(&note.told);
+    }
+
+    /// The length of what was seen: how many updates.
+    pub fn seen(&self) -> u64
+        ensures { result ≡ count_of self.now.batches }
+    {
+        self.known.len()
+    }
+
+    /// Looks at the map through a door.
+    ///
+    /// The look shows a prefix of the history that ends a batch and begins with all that this reader
+    /// saw and learned. It stays the same until the reader leaves.
+    ///
+    /// # Errors
+    ///
+    /// The reader as it was, only where the door's count of refusals rose in this call.
+    pub fn look<D: Door>(self, door: &mut D) -> Result<Look, Reader>
+        ensures shown { IfOk result (λ look. IsPrefix self.batches look.batches) }
+        ensures own { IfOk result (λ look. look.origin ≡ self.origin) }
+        ensures back { IfErr result (λ back. back ≡ self) }
+        ensures passed { OnOk result (D.refused door.new ≡ D.refused door.old) }
+        ensures refused { OnErr result (HasRisen (D.refused door.old) (D.refused door.new)) }
+    {
+        door.enter(self)
+    }
+
+    /// Enters, where what is published begins with all that this reader saw and learned.
+    pub(crate) fn enter(self) -> Result<Look, Reader>
+        ensures shown { IfOk result (λ look. IsPrefix self.batches look.batches) }
+        ensures own { IfOk result (λ look. look.origin ≡ self.origin) }
+        ensures back { IfErr result (λ back. back ≡ self) }
+    {
+        let Reader { place, known } = self;
+        // Event: look. The version is the one that is shown at this step.
+        match place.enter_as::<Looks>() {
+            Ok(reading) => {
+                if reading.get().prefix().begins_with(&known) {
+                    return Ok(Look { reading });
+                }
+                // Never comes: a note is told once its version is shown.
+                let place = reading.leave();
+                Err(Reader { place, known })
+            }
+            Err(place) => Err(Reader { place, known }),
+        }
+    }
+}
+
+impl Look {
+    /// The length of what the look shows: how many updates.
+    pub fn seen(&self) -> u64
+        ensures { result ≡ count_of self.now.batches }
+    {
+        self.reading.get().prefix().len()
+    }
+
+    /// The value of a key, if the map has the key.
+    pub fn get(&self, key: u64) -> Option<u64>
+        ensures { result ≡ value_at (map_after (updates_of self.now.batches)) key }
+    {
+        self.reading.get().get(key)
+    }
+
+    /// The least key not below `q` with its value, if there is one.
+    pub fn next(&self, q: u64) -> Option<(u64, u64)>
+        ensures { result ≡ next_from (map_after (updates_of self.now.batches)) q }
+    {
+        self.reading.get().next(q)
+    }
+
+    /// How many keys there are from `a` to `b`, both included.
+    pub fn count(&self, a: u64, b: u64) -> u64
+        ensures { result ≡ count_between (map_after (updates_of self.now.batches)) a b }
+    {
+        self.reading.get().count(a, b)
+    }
+
+    /// Ends the look. The reader has seen what it showed.
+    pub fn leave(self) -> Reader
+        ensures { result ≡ self }
+    {
+        let Look { reading } = self;
+        let known = reading.get().prefix().again();
+        let place = reading.leave();
+        Reader { place, known }
+    }
+}
+
+impl Drop for Look {
+    fn drop(self) {
+        drop(self.leave());
+    }
+}

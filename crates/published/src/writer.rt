@@ -1,0 +1,323 @@
+// The writer.
+ghost use Rattle.std.specs.Prelude.{◌≡◌, ◌⊎◌, ◌+◌, ◌-◌, ◌*◌, ◌^◌, ◌<◌, ◌≤◌, ◌++◌, ◌∷◌, [], ℕ};
+ghost use Rattle.std.specs.Prelude.{List, length, All, Some, IfOk, OnOk, OnErr, Err};
+ghost use Rattle.std.specs.Prelude.{vec_len, vec_capacity, true, ◌↔◌, IsTrue};
+ghost use Rattle.std.specs.Bool.{OnTrue};
+ghost use Rattle.left_right.specs.Sides.{view};
+ghost use Rattle.log_levels.specs.declared.fault.MapFault.TheVariants.{Full};
+ghost use Rattle.log_levels.specs.Accepted.{entries_of, IsPlain};
+ghost use Rattle.published.specs.Histories.{Front, updates_of, count_of, published};
+
+use crate::copies::{Copies, give_up, seated, show, with_room};
+use crate::history::{Head, Prefix, open};
+use crate::reader::{Note, Reader};
+use crate::version::Version;
+use budget::NoMemory;
+use edge::Gate;
+use log_levels::{LogMap, MapFault, Update};
+use std::alloc::Global;
+use std::marker::Model;
+use std::mem::replace;
+use std::sync::{Arc, Wait};
+use std::thread::Threads;
+
+/// The writer of a map, seen as the history that it published and the batch that it holds.
+///
+/// It can't be dropped: end it by [`Writer::close`].
+pub struct Writer {
+    // Out of its place only while a version is being shown.
+    copies: Option<Copies>,
+    head: Head,
+    front: Prefix,
+    batch: Vec<Update>,
+    // The map after what is published and the batch.
+    map: Arc<LogMap>,
+}
+
+impl Model for Writer {
+    ghost use Rattle.std.specs.Prelude.{◌≡◌, ◌+◌, ◌<◌, ◌^◌, ◌++◌, IsSome, vec_len};
+    ghost use Rattle.std.specs.Option.{option_map_or};
+    ghost use Rattle.std.specs.Arc.{arc_value};
+    ghost use Rattle.log_levels.specs.Shapes.{StandsFor, capacity_of};
+    ghost use Rattle.published.specs.Books.{head_of};
+    ghost use Rattle.published.specs.Histories.{updates_of, count_of};
+    ghost use Rattle.published.specs.Writers.{Written};
+
+    ghost Value = { Written };
+
+    ghost view = { λ w. record {
+      origin = w.front.origin;
+      history = (option_map_or (λ c. c.desk.shown.value) w.copies w.front).batches;
+      batch = w.batch.items;
+      capacity = capacity_of (arc_value w.map);
+    } };
+
+    ghost invariant = { λ w. IsSome w.copies
+        × (option_map_or (λ c. c.desk.shown.value) w.copies w.front ≡ w.front)
+        × (w.head ≡ head_of w.front.origin)
+        × StandsFor (arc_value w.map) (updates_of w.front.batches ++ w.batch.items)
+        × (count_of w.front.batches + vec_len w.batch < 2 ^ 64) };
+}
+
+/// An empty map: its writer, and its readers, which have seen nothing.
+///
+/// The map has `levels` levels, 1 to 26: it can accept `64 * 2^levels - 1` entries. There are
+/// `readers` readers, 0 to 16. A reader's place that isn't had is asked for again.
+///
+/// # Errors
+///
+/// `NoMemory` alone.
+pub fn start_map<R: Wait>(
+    rt: &R,
+    alloc: Global,
+    levels: u32,
+    readers: u32,
+) -> Result<(Writer, Vec<Reader>), NoMemory>
+    requires some { 1 ≤ levels }
+    requires few { levels ≤ 26 }
+    requires few_readers { readers ≤ 16 }
+    ensures history { IfOk result (λ made. made.0.history ≡ []) }
+    ensures batch { IfOk result (λ made. made.0.batch ≡ []) }
+    ensures capacity { IfOk result (λ made. made.0.capacity ≡ 64 * 2 ^ levels - 1) }
+    ensures readers { IfOk result (λ made. length made.1.items ≡ readers) }
+    ensures fresh { IfOk result (λ made. All (λ reader.
+        (reader.origin ≡ made.0.origin) × (reader.batches ≡ [])) made.1.items) }
+{
+    let mut seats = Vec::with_capacity(alloc, readers as usize)?;
+    let (head, front) = open();
+    let map = Arc::new(alloc, LogMap::new(alloc, levels)?)?;
+    let first = Version::new(Arc::try_clone(&map)?, front.again());
+    let (second, third) = (first.share()?, first.share()?);
+    let fourth = first.share()?;
+    let copies = Copies::new(alloc, first, second, readers.max(1) as usize)?;
+    // Once for each copy: then the room that a version needs is there for good.
+    let copies = with_room(rt, copies, third)?;
+    let mut copies = with_room(rt, copies, fourth)?;
+    seat_all(rt, &mut copies, &front, readers, &mut seats);
+    let writer = Writer {
+        copies: Some(copies),
+        head,
+        front,
+        batch: Vec::new(alloc),
+        map,
+    };
+    Ok((writer, seats))
+}
+
+/// Whether no update is a sweep, so that each is one entry.
+fn are_plain(updates: &[Update]) -> bool
+    ensures { IsTrue result ↔ All IsPlain updates.now }
+{
+    for update in updates {
+        if let Update::Sweep(_, _) = update {
+            return false;
+        }
+    }
+    true
+}
+
+/// Takes a place for each reader.
+fn seat_all<R: Wait>(
+    rt: &R,
+    copies: &mut Copies,
+    front: &Prefix,
+    readers: u32,
+    seats: &mut Vec<Reader>,
+)
+    requires empty { seats.old.items ≡ [] }
+    requires room { readers ≤ vec_capacity seats.old }
+    requires told { (told : Front) × (view copies.old.desk.place ≡ Some told)
+        × (told.origin ≡ front.now.origin) }
+    ensures shown { copies.new.desk.shown ≡ copies.old.desk.shown }
+    ensures readers { length seats.new.items ≡ readers }
+    ensures fresh { All (λ reader. reader ≡ front.now) seats.new.items }
+{
+    for _reader in 0..readers {
+        let place = seated(rt, copies);
+        push_within_capacity(seats, Reader::at(place, front.again()));
+    }
+}
+
+/// Appends a reader where there is room for one, so that no memory is asked for.
+fn push_within_capacity(seats: &mut Vec<Reader>, reader: Reader)
+    requires { vec_len seats.old < vec_capacity seats.old }
+    ensures items { seats.new.items ≡ seats.old.items ++ reader ∷ [] }
+    ensures len { vec_len seats.new ≡ vec_len seats.old + 1 }
+    ensures capacity { vec_capacity seats.old ≤ vec_capacity seats.new }
+{
+    if seats.push(reader).is_err() {
+        unreachable!()
+    }
+}
+
+impl Writer {
+    /// Adds updates to the batch in hand, all or none.
+    ///
+    /// The next version of the map is made aside, by `workers` workers, 1 to 64, which pass the
+    /// gate's piece places. Readers go on meanwhile, and see nothing of it.
+    ///
+    /// # Errors
+    ///
+    /// `Full` exactly where the entries of what is published, of the batch and of these updates
+    /// would be more than the map can accept, with the entries before; it is judged before memory
+    /// is taken, where no update is a sweep. `NoMemory`. After either nothing has changed.
+    pub fn stage<R: Threads + Sync, G: Gate>(
+        &mut self,
+        rt: &R,
+        alloc: Global,
+        updates: &[Update],
+        workers: u32,
+        gate: &G,
+    ) -> Result<(), MapFault>
+        requires staffed { 1 ≤ workers }
+        requires few_workers { workers ≤ 64 }
+        ensures staged { OnOk result (self.new.batch ≡ self.old.batch ++ updates.now) }
+        ensures history { self.new.history ≡ self.old.history }
+        ensures unchanged { OnErr result (self.new ≡ self.old) }
+        ensures own { self.new.origin ≡ self.old.origin }
+        ensures capacity { self.new.capacity ≡ self.old.capacity }
+        ensures full { let before = updates_of self.old.history ++ self.old.batch in
+            self.old.capacity < length (entries_of (before ++ updates.now)) →
+            (result ≡ Err (Full (length (entries_of before)))) ⊎ (result ≡ Err MapFault.NoMemory) }
+        // It is judged first where no update is a sweep.
+        ensures full_first { let before = updates_of self.old.history ++ self.old.batch in
+            All IsPlain updates.now →
+            self.old.capacity < length (entries_of before) + length updates.now →
+            result ≡ Err (Full (length (entries_of before))) }
+        ensures full_only { let before = updates_of self.old.history ++ self.old.batch in
+            (accepted : ℕ) → result ≡ Err (Full accepted) → (accepted ≡ length (entries_of before))
+            × (self.old.capacity < length (entries_of (before ++ updates.now))) }
+    {
+        if self.are_too_many(updates) {
+            let accepted = self.accepted();
+            return Err(MapFault::Full { accepted });
+        }
+        self.stage_aside(rt, alloc, updates, workers, gate)
+    }
+
+    /// How many entries the map has accepted, of the batch too.
+    fn accepted(&self) -> u64
+        ensures { result ≡
+            length (entries_of (updates_of self.now.history ++ self.now.batch)) }
+    {
+        self.map.accepted()
+    }
+
+    /// Whether these updates, none of them a sweep, are more than there is room for. Of others it
+    /// isn't judged.
+    fn are_too_many(&self, updates: &[Update]) -> bool
+        ensures plain { let before = updates_of self.now.history ++ self.now.batch in
+            All IsPlain updates.now →
+            self.now.capacity < length (entries_of before) + length updates.now →
+            result ≡ true }
+        ensures full { let before = updates_of self.now.history ++ self.now.batch in
+            OnTrue result (self.now.capacity < length (entries_of (before ++ updates.now))) }
+    {
+        let room = self.map.capacity().saturating_sub(self.map.accepted());
+        if room < updates.len() as u64 && are_plain(updates) {
+            return true;
+        }
+        false
+    }
+
+    /// As [`Writer::stage`], where whether the updates are too many is judged as the map judges it.
+    fn stage_aside<R: Threads + Sync, G: Gate>(
+        &mut self,
+        rt: &R,
+        alloc: Global,
+        updates: &[Update],
+        workers: u32,
+        gate: &G,
+    ) -> Result<(), MapFault>
+        requires staffed { 1 ≤ workers }
+        requires few_workers { workers ≤ 64 }
+        ensures staged { OnOk result (self.new.batch ≡ self.old.batch ++ updates.now) }
+        ensures history { self.new.history ≡ self.old.history }
+        ensures unchanged { OnErr result (self.new ≡ self.old) }
+        ensures own { self.new.origin ≡ self.old.origin }
+        ensures capacity { self.new.capacity ≡ self.old.capacity }
+        ensures full { let before = updates_of self.old.history ++ self.old.batch in
+            self.old.capacity < length (entries_of (before ++ updates.now)) →
+            (result ≡ Err (Full (length (entries_of before)))) ⊎ (result ≡ Err MapFault.NoMemory) }
+        ensures full_only { let before = updates_of self.old.history ++ self.old.batch in
+            (accepted : ℕ) → result ≡ Err (Full accepted) → (accepted ≡ length (entries_of before))
+            × (self.old.capacity < length (entries_of (before ++ updates.now))) }
+    {
+        let staged = self.front.len() + self.batch.len() as u64;
+        if u64::MAX - staged < updates.len() as u64 {
+            return Err(MapFault::NoMemory);
+        }
+        let mut next = self.map.copy(alloc)?;
+        next.apply(rt, alloc, updates, workers, gate)?;
+        let Ok(next) = Arc::new(alloc, next) else {
+            return Err(MapFault::NoMemory);
+        };
+        self.batch.extend_from_slice(updates)?;
+        self.map = next;
+        Ok(())
+    }
+
+    /// Publishes the batch in hand: it stands at the end of the history as one batch, and readers
+    /// see all of it or nothing. Answers the published length, in updates. An empty batch leaves the
+    /// history as it is.
+    ///
+    /// It merges and builds nothing, and may wait for a look that is kept.
+    ///
+    /// # Errors
+    ///
+    /// `NoMemory` alone. Then nothing was published, and the batch stands.
+    pub fn publish<R: Wait>(&mut self, rt: &R) -> Result<u64, NoMemory>
+        ensures published { OnOk result
+            (self.new.history ≡ published self.old.history self.old.batch) }
+        ensures length { IfOk result (λ length. length ≡ count_of self.new.history) }
+        ensures emptied { OnOk result (self.new.batch ≡ []) }
+        ensures unchanged { OnErr result (self.new ≡ self.old) }
+        ensures own { self.new.origin ≡ self.old.origin }
+        ensures capacity { self.new.capacity ≡ self.old.capacity }
+    {
+        if self.batch.is_empty() {
+            return Ok(self.front.len());
+        }
+        let map = Arc::try_clone(&self.map)?;
+        let mut front = self.front.again();
+        if !front.publish(&self.head, &self.batch) {
+            return Err(NoMemory);
+        }
+        let version = Version::new(map, front.again());
+        let Some(copies) = self.copies.take() else {
+            unreachable!()
+        };
+        let shown = show(rt, copies, version);
+        if let Some(copies) = replace(&mut self.copies, Some(shown)) {
+            // Never comes: the place is empty.
+            give_up(rt, copies);
+        }
+        self.front = front;
+        self.batch.clear();
+        Ok(self.front.len())
+    }
+
+    /// A note of what is published now. Takes no memory.
+    pub fn tell(&mut self) -> Note
+        ensures told { result.batches ≡ self.old.history }
+        ensures own { result.origin ≡ self.old.origin }
+        ensures same { self.new ≡ self.old }
+    {
+        Note::of(self.front.again())
+    }
+
+    /// Ends the writer. What it holds of a batch is given up. It waits for a look that is kept, and
+    /// from then on a door may refuse every reader.
+    pub fn close<R: Wait>(self, rt: &R) {
+        let Writer {
+            copies,
+            head: _head,
+            front: _front,
+            batch: _batch,
+            map: _map,
+        } = self;
+        if let Some(copies) = copies {
+            give_up(rt, copies);
+        }
+    }
+}
