@@ -1,6 +1,8 @@
 // Many updates at once.
-ghost use Rattle.std.specs.Prelude.{◌≡◌, ◌⊎◌, ◌+◌, ◌<◌, ◌≤◌, ◌++◌, ◌∷◌, ℕ, List, length, map, take, drop};
-ghost use Rattle.std.specs.Prelude.{All, IfOk, IfSome, IfNone, OnOk, OnErr, Err, IsTrue, slice_index_or};
+ghost use Rattle.std.specs.Prelude.{◌≡◌, ◌⊎◌, ◌+◌, ◌<◌, ◌≤◌, ◌++◌, ◌∷◌};
+ghost use Rattle.std.specs.Prelude.{ℕ, List, length, map, take, drop};
+ghost use Rattle.std.specs.Prelude.{All, IfOk, IfSome, IfNone, OnOk};
+ghost use Rattle.std.specs.Prelude.{OnErr, Err, IsTrue, slice_index_or};
 ghost use Rattle.log_levels.specs.declared.update.Update.{Update};
 ghost use Rattle.log_levels.specs.declared.fault.MapFault.TheVariants.{Full};
 ghost use Rattle.log_levels.specs.declared.fault.MapFault.{MapFault};

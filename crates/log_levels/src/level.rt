@@ -1,5 +1,6 @@
 // A level as it is kept.
-ghost use Rattle.std.specs.Prelude.{◌≡◌, ◌+◌, ◌^◌, ◌<◌, ◌≤◌, ℕ, None, IfSome, length, vec_len, IfOk};
+ghost use Rattle.std.specs.Prelude.{◌≡◌, ◌+◌, ◌^◌, ◌<◌, ◌≤◌, ℕ};
+ghost use Rattle.std.specs.Prelude.{None, IfSome, length, vec_len, IfOk};
 ghost use Rattle.std.specs.Option.{option_copied};
 ghost use Rattle.levels.specs.Indexes.{IsIndex};
 ghost use Rattle.tombstones.specs.Entries.{IsAscending, entry_at};

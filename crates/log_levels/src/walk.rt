@@ -6,7 +6,8 @@ ghost use Rattle.tombstones.specs.declared.entry.Entry.{Entry};
 ghost use Rattle.log_levels.specs.Shapes.{IsCutOf, last_at, level_of, level_keys};
 ghost use Rattle.window_search.specs.Searches.{lb};
 ghost use Rattle.tombstones.specs.Entries.{entry_at};
-ghost use Rattle.log_levels.specs.Kept.{ArePlaces, IsAbsent, IsBelow, IsNextLive, entry_in, value_of};
+ghost use Rattle.log_levels.specs.Kept.{ArePlaces, IsAbsent, IsBelow};
+ghost use Rattle.log_levels.specs.Kept.{IsNextLive, entry_in, value_of};
 
 use crate::log_map::LogMap;
 use crate::questions::last_of;
