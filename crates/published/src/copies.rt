@@ -1,5 +1,5 @@
 // The two copies that readers take, their rule, and showing a version in them.
-ghost use Rattle.std.specs.Prelude.{◌≡◌, ◌++◌, ◌∷◌, [], ◌<◌, ◌≤◌, ◌^◌, List, Some, None, drop, IfOk};
+ghost use Rattle.std.specs.Prelude.{◌≡◌, Some, None, drop, IfOk};
 ghost use Rattle.left_right.specs.Sides.{view};
 ghost use Rattle.published.specs.Histories.{Front};
 ghost use Rattle.published.specs.Rules.{IsLastOf};

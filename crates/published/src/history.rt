@@ -1,5 +1,5 @@
-// The history of a map: the batches of updates that were published, in order. It stands in a book of
-// the crate `logbook`, which exists in the proofs alone: what runs is a word, the published length.
+// The history of a map: the batches of updates that were published, in order. It stands in a book
+// of the crate `logbook`, which exists in the proofs alone: what runs is a word, the published length.
 ghost use Rattle.std.specs.Prelude.{◌≡◌, ◌⊎◌, ◌+◌, ◌<◌, ◌≤◌, ◌^◌, ◌++◌, ◌∷◌, [], length, vec_len};
 ghost use Rattle.std.specs.Bool.{OnTrue};
 ghost use mathlib.Core.List.{IsPrefix};
@@ -150,7 +150,8 @@ impl Prefix {
         requires own { head.now ≡ head_of self.old.origin }
         requires some { 0 < vec_len batch.now }
         requires room { count_of self.old.batches + vec_len batch.now < 2 ^ 64 }
-        ensures added { OnTrue result (self.new.batches ≡ self.old.batches ++ batch.now.items ∷ []) }
+        ensures added { OnTrue result
+            (self.new.batches ≡ self.old.batches ++ batch.now.items ∷ []) }
         ensures own { self.new.origin ≡ self.old.origin }
     {
         let mut offer: Offer<Batch, u64, Grows, Nothing> = self

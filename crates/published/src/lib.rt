@@ -1,9 +1,9 @@
 //! A map that one writer changes and many readers search.
 //!
-//! The writer holds a batch of updates in hand and publishes it at once. Readers never wait, take no
-//! lock and no memory, and are answered while the writer builds. What a reader sees is the map
-//! after a prefix of what was published, which ends a batch and begins with all that this reader saw
-//! before, and with all that it was told of:
+//! The writer holds a batch of updates in hand and publishes it at once. Readers never wait, take
+//! no lock and no memory, and are answered while the writer builds. What a reader sees is the map
+//! after a prefix of what was published, which ends a batch and begins with all that this reader
+//! saw before, and with all that it was told of:
 //!
 //!     published   | put 1 10 | put 2 20, del 1 | put 3 30
 //!     a look      | put 1 10 | put 2 20, del 1                 2 has 20, 1 nothing
@@ -22,13 +22,14 @@
 //! | Event | Where | Step |
 //! |---|---|---|
 //! | open | `start_map` | the book is opened, with an empty history |
-//! | publish | `Writer::publish` | the book's word is exchanged, and the batch stands in the history; then the copies are swapped |
+//! | publish | `Writer::publish` | the book's word is exchanged: the batch stands in the history |
+//! | | | the copies are swapped: it is shown |
 //! | look | `Reader::look` | the copy that is shown is entered |
 //! | tell, learn | `Writer::tell`, `Reader::learn` | none: a note is a prefix that is copied |
 //!
 //! Main clauses: `published` of [`Writer::publish`], `shown` of [`Reader::look`], `told` of
-//! [`Reader::learn`], and those of [`Look::get`], [`Look::next`] and [`Look::count`]. The words of the
-//! clauses are in `specs/Histories.antt` and `specs/Writers.antt`.
+//! [`Reader::learn`], and those of [`Look::get`], [`Look::next`] and [`Look::count`]. The words of
+//! the clauses are in `specs/Histories.antt` and `specs/Writers.antt`.
 //!
 //! Sources: the copies are those of J. Gjengset's crate `left-right`, after P. Ramalhete and A.
 //! Correia, Left-Right: a concurrency control technique with wait-free population oblivious reads,

@@ -114,8 +114,8 @@ impl Reader {
 
     /// Looks at the map through a door.
     ///
-    /// The look shows a prefix of the history that ends a batch and begins with all that this reader
-    /// saw and learned. It stays the same until the reader leaves.
+    /// The look shows a prefix of the history that ends a batch and begins with all that this
+    /// reader saw and learned. It stays the same until the reader leaves.
     ///
     /// # Errors
     ///

@@ -139,8 +139,8 @@ fn write_all<R: Threads + Wait + Sync>(
     length
 }
 
-/// Looks until all `most` updates are seen, or often enough. After so many updates the value is their
-/// number.
+/// Looks until all `most` updates are seen, or often enough. After so many updates the value is
+/// their number.
 fn read_all(reader: Reader, most: u64) -> Seen {
     let mut door = PlainDoor::new();
     let mut reader = reader;

@@ -258,8 +258,8 @@ impl Writer {
     }
 
     /// Publishes the batch in hand: it stands at the end of the history as one batch, and readers
-    /// see all of it or nothing. Answers the published length, in updates. An empty batch leaves the
-    /// history as it is.
+    /// see all of it or nothing. Answers the published length, in updates. An empty batch leaves
+    /// the history as it is.
     ///
     /// It merges and builds nothing, and may wait for a look that is kept.
     ///
