@@ -33,7 +33,8 @@ fn fill(table: &mut Vec<u32>, to: usize, number: u32) -> Result<(), NoMemory>
         slice_index table.new.items k ≡ number) }
     ensures at_least { IfOk result (λ _. to ≤ vec_len table.new) }
     ensures at_most { IfOk result (λ _. vec_len table.old ≤ to → vec_len table.new ≡ to) }
-    ensures full { IfOk result (λ _. to ≤ vec_len table.old → vec_len table.new ≡ vec_len table.old) }
+    ensures full { IfOk result
+        (λ _. to ≤ vec_len table.old → vec_len table.new ≡ vec_len table.old) }
 {
     for _entry in table.len()..to {
         table.push(number)?;

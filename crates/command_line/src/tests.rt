@@ -266,7 +266,8 @@ const REFUSED: [Refused; 38] = [
     },
 ];
 
-// Queries of the keys `-` by the script of no name, with their windows, and the bits of their table.
+// Queries of the keys `-` by the script of no name, with their windows, and the bits of their
+// table.
 const QUERIES: [(&[&str], u32); 3] = [
     (&["query", "-", "", "--windows"], 0),
     (&["query", "-", "--buckets", "1", "--windows", ""], 1),

@@ -1,7 +1,7 @@
 //! The commands, when all their inputs are read: what each writes, and the work behind it.
 //!
-//! A [`Task`] is a command with its inputs and its options. [`write`] hands its text to a sink, line
-//! by line, and takes all memory before the first byte:
+//! A [`Task`] is a command with its inputs and its options. [`write`] hands its text to a sink,
+//! line by line, and takes all memory before the first byte:
 //!
 //! ```text
 //! keys 4 distinct 4 levels 2

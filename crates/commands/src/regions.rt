@@ -96,7 +96,8 @@ fn write_answer<S: Sink>(
     requires region { IsRegionOf boxes.now.dims region.now }
     requires codes { All (IsCode boxes.now.dims) boxes.now.codes }
     requires room { length (codes_inside region.now boxes.now.codes) ≤ vec_capacity found.old }
-    ensures ok { OnOk result ((pieces : List (List ℕ)) × TellsRegion boxes.now.codes region.now pieces
+    ensures ok { OnOk result ((pieces : List (List ℕ))
+        × TellsRegion boxes.now.codes region.now pieces
         × Writes S.Sink out.old out.new pieces) }
     ensures err { OnErr result ((pieces : List (List ℕ))
         × TellsRegion boxes.now.codes region.now pieces

@@ -53,7 +53,8 @@ impl Model for Index {
       levels = segments_of index.stored.items;
     } };
 
-    ghost invariant = { λ index. IsWhole index.keys index.eps index.eps_rec index.stored.items index.entry };
+    ghost invariant = { λ index.
+        IsWhole index.keys index.eps index.eps_rec index.stored.items index.entry };
 }
 
 impl Index {

@@ -33,9 +33,10 @@ impl Index {
     /// The levels are gone through down to level 0, from the lowest one whose runs' first x are few
     /// enough to be halved in place of the levels above, or else from the last one. Above level 0
     /// the predecessor of `q` is searched in the window of the run found, and is the run of the
-    /// level below; at level 0 the position is searched among the keys of the file. Where there is no key, or the first one is
-    /// above `q`, no window is formed. A step is a key read; two to their number is at most the
-    /// product over the levels of four times a window's places. Cannot fail and takes no memory.
+    /// level below; at level 0 the position is searched among the keys of the file. Where there is
+    /// no key, or the first one is above `q`, no window is formed. A step is a key read; two to
+    /// their number is at most the product over the levels of four times a window's places. Cannot
+    /// fail and takes no memory.
     ///
     /// A window is that of the run's model, which has as many places as that of its line.
     ///

@@ -66,8 +66,8 @@ impl Index {
         lower_in(keys, low, high, q, steps)
     }
 
-    /// The lower bounds of sixteen questions, in step, each in the window of its run of level 0: from
-    /// the runs to how many keys of the file are below the questions.
+    /// The lower bounds of sixteen questions, in step, each in the window of its run of level 0:
+    /// from the runs to how many keys of the file are below the questions.
     #[inline(always)]
     pub fn lower_bounds_in(&self, qs: &[u64; 16], runs: &mut [u32; 16])
         requires { AreRuns (xs_at self.now.keys self.now.levels 1) qs.now runs.old }

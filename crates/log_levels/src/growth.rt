@@ -39,8 +39,8 @@ impl LogMap {
         Ok(merged)
     }
 
-    /// Level `top`, where `new` more entries change bit `top` as the highest one: what was below it,
-    /// and new entries up to the end of its block.
+    /// Level `top`, where `new` more entries change bit `top` as the highest one: what was below
+    /// it, and new entries up to the end of its block.
     fn merged_level(&self, alloc: Global, new: &[Entry], top: usize) -> Result<Arc<Level>, NoMemory>
         requires inside { top < length self.now.levels }
         requires change { IsHighestChange self.now.accepted (length new.now) top }
@@ -83,8 +83,8 @@ impl LogMap {
         Ok(Some(shared(alloc, latest)?))
     }
 
-    /// Level `i` with new entries, where they change bit `top` of the number of blocks as the highest
-    /// one.
+    /// Level `i` with new entries, where they change bit `top` of the number of blocks as the
+    /// highest one.
     fn level_with(
         &self,
         alloc: Global,

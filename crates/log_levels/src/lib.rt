@@ -7,9 +7,9 @@
 //! oldest in level 1; of each key a level has the last entry.
 //!
 //! Main clauses: that a [`LogMap`] stands for its updates, of each call that changes one; the
-//! answers of [`LogMap::get`], [`LogMap::next`] and [`LogMap::count`], by the map after the updates;
-//! `full` and `full_only` of [`LogMap::put`], [`LogMap::sweep`] and [`LogMap::apply`]; and the law
-//! [`one_map`]. The words of the clauses are in `specs/`.
+//! answers of [`LogMap::get`], [`LogMap::next`] and [`LogMap::count`], by the map after the
+//! updates; `full` and `full_only` of [`LogMap::put`], [`LogMap::sweep`] and [`LogMap::apply`];
+//! and the law [`one_map`]. The words of the clauses are in `specs/`.
 #![tactic(auto)]
 
 mod apply;

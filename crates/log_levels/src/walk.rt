@@ -30,8 +30,8 @@ impl LogMap {
         places
     }
 
-    /// The least key from `from` on that the map has, with its value, if there is one, by the places
-    /// of `from`. They become those of the key.
+    /// The least key from `from` on that the map has, with its value, if there is one, by the
+    /// places of `from`. They become those of the key.
     pub(crate) fn next_live(&self, places: &mut Places, from: u128) -> Option<(u64, u64)>
         requires at { ArePlaces self.now places.old from }
         requires few { from ≤ 2 ^ 64 }

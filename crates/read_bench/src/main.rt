@@ -1,10 +1,10 @@
-//! `read_bench KEYS LOOKS` times readers of a map, and is an example of a writer beside its readers.
+//! `read_bench KEYS LOOKS` times readers of a map: an example of a writer beside its readers.
 //!
-//! A map of so many keys is published. Then one, two and four readers look so often each, first while
-//! the writer is still and then while it publishes batches of 16 without pause. It prints millions of
-//! looks a second, of all readers together, how many batches were published meanwhile, and the
-//! longest time of a look in microseconds, of a round of its own in which each look is timed. With
-//! other than two words it does nothing. No contract says how long anything takes.
+//! A map of so many keys is published. Then one, two and four readers look so often each, first
+//! while the writer is still and then while it publishes batches of 16 without pause. It prints
+//! millions of looks a second, of all readers together, how many batches were published meanwhile,
+//! and the longest time of a look in microseconds, of a round of its own in which each look is
+//! timed. With other than two words it does nothing. No contract says how long anything takes.
 #![tactic(auto)]
 
 use anyhow::{Context, Result, ensure};
@@ -76,10 +76,9 @@ fn measure<R: AllocGlobal + Print + Clock + Threads + Wait + Sync>(
         let (back, _, _, longest) = gathered(rt.alloc(), timed)?;
         seats = back;
         let rate = all / seconds / 1e6;
-        println!(rt;
-            "readers {readers} writing {writing} looks {rate:.2} batches {batches} refused {refused} longest {:.1} sum {sum}",
-            longest.as_secs_f64() * 1e6
-        )?;
+        println!(rt; "readers {readers} writing {writing} looks {rate:.2} batches {batches}")?;
+        let micros = longest.as_secs_f64() * 1e6;
+        println!(rt; "  refused {refused} longest {micros:.1} sum {sum}")?;
     }
     Ok(())
 }

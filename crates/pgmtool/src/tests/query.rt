@@ -123,14 +123,7 @@ fn rows_have_their_text(rt: HostRuntime) -> Result<(), Fail> {
 fn narrow_keys_are_found(rt: HostRuntime) -> Result<(), Fail> {
     let keys = b"\x02\0\0\0\0\0\0\0\x05\0\0\0\x09\0\0\0";
     for buckets in BUCKETS {
-        let words = [
-            "query",
-            "keys",
-            "script",
-            "--narrow",
-            "--buckets",
-            buckets,
-        ];
+        let words = ["query", "keys", "script", "--narrow", "--buckets", buckets];
         check_text(&rt, "5 and 9", &words, keys, b"find 6\n", &["find 6 1"])?;
     }
     Ok(())
