@@ -6,7 +6,7 @@ use Rattle.std.proofs.lemmas.Nat.{pow-add, le-div}
 use Rattle.std.proofs.Math.Nat.{mul-le-mul_left, mul-le-mul_right, div-mul-le_self, pow-suc, pow-zero}
 use Rattle.std.specs.List.Sorted.{IsNonDecreasing}
 use Rattle.window_search.specs.Searches.{lb}
-use Rattle.window_search.proofs.CallerLemmas.{lb-is, IsLowerBound, IsLowerBound-lb}
+use Rattle.window_search.proofs.CallerLemmas.{lb-is, IsLowerBound-lb}
 use Rattle.bucketed.specs.Tables.{bucket_of}
 
 power_some : (n : ℕ) → 0 < 2 ^ n

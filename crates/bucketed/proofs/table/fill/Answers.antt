@@ -1,5 +1,5 @@
 -- A table that is long enough stays as it is.
-use Rattle.std.proofs.Common.{◌≡◌, ◌≤◌, arith}
+use Rattle.std.proofs.Common.{arith}
 use Rattle.bucketed.proofs.table.fill.Goals as goal
 
 pub returns-clause-full : goal.returns-clause-full

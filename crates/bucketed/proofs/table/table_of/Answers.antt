@@ -1,9 +1,8 @@
 -- A run's number is the entry of each bucket after that of the run before, up to its own.
-use Rattle.std.proofs.Common.{◌≡◌, ◌+◌, ◌-◌, ◌/◌, ◌^◌, ◌<◌, ◌≤◌, ℕ, List, length, slice_index, sym, ap, subst, inl, inr, arith}
+use Rattle.std.proofs.Common.{◌≡◌, ℕ, length, subst, arith}
 use Rattle.std.specs.Prelude.{vec_len}
 use Rattle.levels.specs.Indexes.{xs_at}
 use Rattle.levels.proofs.CallerLemmas.{first_x-order}
-use Rattle.bucketed.specs.Tables.{bucket_of}
 use Rattle.bucketed.proofs.TableLemmas.{bucket-few, buckets-few, IsFilled, IsFilled-more, entries_all}
 use Rattle.bucketed.proofs.table.table_of.Goals as goal
 

@@ -1,5 +1,4 @@
 -- The entries of the buckets of the runs so far.
-use Rattle.std.proofs.Common.{◌≡◌, ◌<◌, ◌≤◌, ℕ}
 use Rattle.levels.specs.Indexes.{xs_at}
 use Rattle.bucketed.proofs.TableLemmas.{IsFilled}
 use Rattle.bucketed.proofs.table.table_of.Given as goal

@@ -1,8 +1,6 @@
 -- The table's two entries are the runs in lower buckets, and those in this one too.
-use Rattle.std.proofs.Common.{◌≡◌, ◌+◌, ◌-◌, ◌/◌, ◌^◌, ◌<◌, ◌≤◌, ℕ, List, length, slice_index, sym, ap, ◌∙◌, subst, inl, inr, arith, refl}
-use Rattle.std.proofs.lemmas.Bool.{cases_lt}
+use Rattle.std.proofs.Common.{◌≡◌, ◌+◌, ◌-◌, ◌/◌, ◌^◌, ◌<◌, ◌≤◌, ℕ, slice_index, ap, ◌∙◌, subst, arith}
 use Rattle.std.specs.List.Sorted.{IsNonDecreasing}
-use Rattle.window_search.proofs.Halving.{IsHalved}
 use Rattle.levels.specs.Indexes.{PgmIndex, xs_at}
 use Rattle.levels.proofs.CallerLemmas.{first_x-order}
 use Rattle.bucketed.specs.Tables.{bucket_of, entry_at, runs_beside}

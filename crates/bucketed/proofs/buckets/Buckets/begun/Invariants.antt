@@ -1,5 +1,5 @@
 -- The runs before `begun` begin at or before the question, and those from `begun + left` on behind it.
-use Rattle.std.proofs.Common.{◌≡◌, ◌+◌, ◌<◌, ◌≤◌, ℕ, length, slice_index}
+use Rattle.std.proofs.Common.{◌+◌, ◌<◌, ◌≤◌, ℕ, length, slice_index}
 use Rattle.levels.specs.Indexes.{xs_at}
 use Rattle.window_search.proofs.Halving.{IsHalved}
 use Rattle.bucketed.specs.Tables.{bucket_of, entry_at, runs_beside}

@@ -1,5 +1,5 @@
 -- The run before those that begin behind the question has its predecessor. Where all begin behind it, no key is below it.
-use Rattle.std.proofs.Common.{◌≡◌, ◌+◌, ◌-◌, ◌*◌, ◌<◌, ◌≤◌, ℕ, length, slice_index, sym, ap, ◌∙◌, subst, arith}
+use Rattle.std.proofs.Common.{◌+◌, ◌*◌, ◌≤◌, ℕ, sym, ap, ◌∙◌, subst, arith}
 use Rattle.window_search.specs.Searches.{lb}
 use Rattle.levels.specs.Costs.{TakesAtMost}
 use Rattle.levels.specs.Indexes.{PgmIndex, xs_at}
