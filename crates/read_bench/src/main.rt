@@ -1,8 +1,8 @@
-//! `read_bench KEYS LOOKS` times readers of a map, and is an example of a writer beside its readers.
+//! `read_bench KEYS LOOKS` times readers of a map, and is an example of a writer beside them.
 //!
-//! A map of so many keys is published. Then one, two and four readers look so often each, first while
-//! the writer is still and then while it publishes batches of 16 without pause. It prints millions of
-//! looks a second, of all readers together, how many batches were published meanwhile, and the
+//! A map of so many keys is published. Then one, two and four readers look so often each, first
+//! while the writer is still and then while it publishes batches of 16 without pause. It prints
+//! millions of looks a second, of all readers together, how many batches were published meanwhile, and the
 //! longest time of a look in microseconds, of a round of its own in which each look is timed. With
 //! other than two words it does nothing. No contract says how long anything takes.
 #![tactic(auto)]
