@@ -6,11 +6,11 @@ use std::process::Abort;
 use std::test::Fail;
 use std::thread::Threads;
 
-mod boxes;
 mod build;
 mod explain;
 mod query;
 mod refusals;
+mod regions;
 
 // A device of the tests: the call that fails, 0 for none, and the most bytes that one call moves.
 #[derive(Clone, Copy)]
