@@ -45,9 +45,15 @@ query_rules = build_rules ++ positional (codes "SCRIPT") ∷ flag (codes "window
 abbrev pub box_rules : List Rule
 box_rules = positional (codes "FILE") ∷ positional (codes "SCRIPT") ∷ number (codes "dims") 2 4 (codes "2") ∷ []
 
+-- a script of updates and questions, and how the map that they are made to and asked of is kept
+abbrev pub replay_rules : List Rule
+replay_rules = positional (codes "SCRIPT") ∷ number (codes "levels") 1 26 (codes "20")
+    ∷ number (codes "batch") 1 65536 (codes "16") ∷ number (codes "workers") 1 64 (codes "4") ∷ []
+
 abbrev pub commands : List Shape
 commands = command (codes "build") build_rules ∷ command (codes "explain") build_rules
-    ∷ command (codes "query") query_rules ∷ command (codes "box") box_rules ∷ []
+    ∷ command (codes "query") query_rules ∷ command (codes "box") box_rules
+    ∷ command (codes "replay") replay_rules ∷ []
 
 -- the program: one of its commands has to be given, and it tells no help and no version
 abbrev pub application : App

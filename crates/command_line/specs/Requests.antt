@@ -5,6 +5,7 @@ use Rattle.std.specs.Str.Parse.{digits_value, without_leading_plus}
 use Rattle.clap.specs.Words.{Text, Row, first_of, one_of}
 use Rattle.command_line.specs.declared.request.Building as declared_building
 use Rattle.command_line.specs.declared.request.Searching as declared_searching
+use Rattle.command_line.specs.declared.request.Replaying as declared_replaying
 use Rattle.command_line.specs.declared.request.Request as declared
 use Rattle.command_line.specs.declared.request.Request.TheVariants as variant
 
@@ -21,12 +22,18 @@ pub record Searching : Type 0 where
   pub script : Text
   pub dims : ℕ
 
+-- a script of updates and questions, and how many levels the map has; batches and workers aren't told, since no answer depends on them
+pub record Replaying : Type 0 where
+  pub script : Text
+  pub levels : ℕ
+
 -- each command, with the names of its files and its options; the table of a query isn't told, since no answer depends on it
 pub data Request : Type 0 where
   build : (building : Building) → Request
   explain : (building : Building) → Request
   query : (building : Building) (script : Text) (windows : Bool) → Request
   box : (searching : Searching) → Request
+  replay : (replaying : Replaying) → Request
 
 -- the number that an option has, or else its default; the name; and whether a flag is given
 abbrev pub number_in : Text → ℕ → List Row → ℕ
@@ -56,13 +63,17 @@ searching_of rows = record {
   dims = number_in (codes "dims") 2 rows;
 }
 
+abbrev pub replaying_of : List Row → Replaying
+replaying_of rows = record { script = name_in (codes "SCRIPT") rows; levels = number_in (codes "levels") 20 rows }
+
 -- what a command asks for, by what was found for its arguments
 abbrev pub request_for : Text → List Row → Option Request
 request_for name rows =
     if bytes_eq name (codes "build") then Some (build (building_of rows))
     else (if bytes_eq name (codes "explain") then Some (explain (building_of rows))
     else (if bytes_eq name (codes "query") then Some (query_of rows)
-    else (if bytes_eq name (codes "box") then Some (box (searching_of rows)) else None)))
+    else (if bytes_eq name (codes "box") then Some (box (searching_of rows))
+    else (if bytes_eq name (codes "replay") then Some (replay (replaying_of rows)) else None))))
 
 -- the request that the program's own type stands for
 abbrev pub built_of : declared_building.Building → Building
@@ -71,11 +82,15 @@ built_of b = record { file = b.file.now; narrow = b.narrow; eps = b.eps; eps_rec
 abbrev pub searched_of : declared_searching.Searching → Searching
 searched_of s = record { file = s.file.now; script = s.script.now; dims = s.dims }
 
+abbrev pub replayed_of : declared_replaying.Replaying → Replaying
+replayed_of r = record { script = r.script.now; levels = r.levels }
+
 abbrev pub asked_of : declared.Request → Request
 asked_of (variant.Build building) = build (built_of building)
 asked_of (variant.Explain building) = explain (built_of building)
 asked_of (variant.Query building script windows table) = query (built_of building) script.now windows
 asked_of (variant.Box searching) = box (searched_of searching)
+asked_of (variant.Replay replaying) = replay (replayed_of replaying)
 
 -- the file that is read first
 abbrev pub first_file : Request → Text
@@ -83,3 +98,4 @@ first_file (build building) = building.file
 first_file (explain building) = building.file
 first_file (query building script windows) = building.file
 first_file (box searching) = searching.file
+first_file (replay replaying) = replaying.script

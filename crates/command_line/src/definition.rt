@@ -3,7 +3,7 @@ ghost use Rattle.std.specs.Prelude.{◌≡◌, ◌<◌, ◌∷◌, ◌++◌, ◌
 ghost use Rattle.clap.specs.Words.{app_of, rule_of};
 ghost use Rattle.clap.specs.declared.builder.command.Command.TheViews.{out-Command};
 ghost use Rattle.command_line.specs.Application.{application, build_rules, index_rules};
-ghost use Rattle.command_line.specs.Application.{query_rules, box_rules, command};
+ghost use Rattle.command_line.specs.Application.{query_rules, box_rules, replay_rules, command};
 ghost use Rattle.command_line.specs.Application.{flag, number, positional};
 
 use clap::{Arg, ArgAction, Command, value_parser};
@@ -28,7 +28,8 @@ pub fn application<'a>(alloc: Global) -> Result<Command<'a>, AllocError>
         .subcommand(index_command(alloc, "build")?)?
         .subcommand(index_command(alloc, "explain")?)?
         .subcommand(query_command(alloc)?)?
-        .subcommand(box_command(alloc)?)
+        .subcommand(box_command(alloc)?)?
+        .subcommand(replay_command(alloc)?)
 }
 
 // A command over the index of a key file.
@@ -73,6 +74,18 @@ fn box_command<'a>(alloc: Global) -> Result<Command<'a>, AllocError>
         .arg(positional(alloc, "FILE"))?
         .arg(positional(alloc, "SCRIPT"))?
         .arg(number(alloc, "dims", 2, 4, "2"))
+}
+
+fn replay_command<'a>(alloc: Global) -> Result<Command<'a>, AllocError>
+    ensures shape { IfOk result
+        (λ made. app_of made ≡ record { top = command (codes "replay") replay_rules; subs = [] }) }
+    ensures local { IfOk result (λ made. (out-Command made).has_globals ≡ false) }
+{
+    Command::new(alloc, "replay")
+        .arg(positional(alloc, "SCRIPT"))?
+        .arg(number(alloc, "levels", 1, 26, "20"))?
+        .arg(number(alloc, "batch", 1, 65_536, "16"))?
+        .arg(number(alloc, "workers", 1, MOST_WORKERS, "4"))
 }
 
 // A name that has to be given.

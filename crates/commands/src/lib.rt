@@ -23,12 +23,14 @@ mod indexing;
 mod positions;
 mod query;
 mod regions;
+mod replay;
 mod task;
 
 use edge::{Gate, Sink};
 use std::alloc::Global;
 use std::thread::Threads;
-pub use task::{Bounds, Search, SortedKeys, Table, Task, Workers};
+pub use log_levels::Update;
+pub use task::{Bounds, History, Question, Search, SortedKeys, Table, Task, Workers};
 use written::Unfinished;
 
 /// Writes the text of the task. An index is built by workers, which pass the gate before and after
@@ -64,5 +66,6 @@ pub fn write<R: Threads + Sync, S: Sink, G: Gate>(
             rt, alloc, keys, bounds, workers, &questions, windows, table, out, gate,
         ),
         Task::Box { search } => regions::write(rt, alloc, search, out),
+        Task::Replay { history } => replay::write(rt, alloc, history, out, gate),
     }
 }
