@@ -12,19 +12,24 @@
 //!     merged    5 none  6 2   7 1
 //!     deepest           6 2   7 1
 //!
-//! Main clauses: `ascending` and `winners` of [`merge`]. The words of the clauses are in
-//! `specs/Entries.antt`.
+//! [`merge_in_pieces`] gives the same list by several workers.
+//!
+//! Main clauses: `ascending` and `winners` of [`merge`] and of [`merge_in_pieces`]. The words of the
+//! clauses are in `specs/Entries.antt`.
 #![tactic(auto)]
 
-ghost use Rattle.std.specs.Prelude.{◌≡◌, ℕ, ◌+◌, ◌<◌, ◌≤◌, ◌++◌, ◌∷◌, ◌↔◌, [], if◌then◌else◌, Some};
-ghost use Rattle.std.specs.Prelude.{None, IfOk, IsTrue, vec_len, vec_capacity};
+ghost use Rattle.std.specs.Prelude.{◌≡◌, ℕ, ◌+◌, ◌<◌, ◌≤◌, ◌++◌, ◌∷◌, ◌↔◌, []};
+ghost use Rattle.std.specs.Prelude.{if◌then◌else◌, Some, None, IfOk, IsTrue};
+ghost use Rattle.std.specs.Prelude.{vec_len, vec_capacity};
 ghost use Rattle.tombstones.specs.Entries.{IsAscending, entry_at, winner_at, kept};
 
 mod entry;
+mod pieces;
 mod remaining;
 
 pub use budget::NoMemory;
 pub use entry::Entry;
+pub use pieces::merge_in_pieces;
 use remaining::Remaining;
 use std::alloc::Global;
 
