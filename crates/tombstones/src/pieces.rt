@@ -1,9 +1,10 @@
 // A merge by threads: both lists are cut at the same keys, and the parts are merged side by side.
-ghost use Rattle.std.specs.Prelude.{◌≡◌, ℕ, ◌<◌, ◌≤◌, length, take, drop, max, All, IfOk};
+ghost use Rattle.std.specs.Prelude.{◌≡◌, ℕ, ◌<◌, ◌≤◌, length, max, IfOk};
 ghost use Rattle.tombstones.specs.Entries.{IsAscending, entry_at, winner_at, kept};
-ghost use Rattle.tombstones.specs.Parts.{IsBetween, IsCutAt, IsMergedPart, edge_of, longer_of, merged_at};
+ghost use Rattle.tombstones.specs.Parts.{IsBetween, IsCutAt, IsMergedPart, edge_of, longer_of};
+ghost use Rattle.tombstones.specs.Parts.{merged_at};
 
-use crate::{Entry, merge};
+use crate::{Entry, merge, place_of};
 use budget::NoMemory;
 use std::alloc::Global;
 use std::thread;
@@ -170,18 +171,8 @@ fn cut_at(entries: &[Entry], edge: Option<u64>) -> (&[Entry], &[Entry])
     ensures rest { IsAscending result.1.now }
 {
     let place = match edge {
-        Some(key) => below(entries, key),
+        Some(key) => place_of(entries, key),
         None => entries.len(),
     };
     entries.split_at(place)
-}
-
-/// How many entries are below a key.
-fn below(entries: &[Entry], key: u64) -> usize
-    requires { IsAscending entries.now }
-    ensures within { result ≤ length entries.now }
-    ensures below { All (λ entry. entry.key < key) (take result entries.now) }
-    ensures from { All (λ entry. key ≤ entry.key) (drop result entries.now) }
-{
-    entries.partition_point(|entry| entry.key < key)
 }
