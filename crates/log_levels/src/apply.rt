@@ -13,13 +13,13 @@ ghost use Rattle.log_levels.specs.Builders.{IsMergeOf, IsIndexFor};
 ghost use Rattle.log_levels.specs.Kept.{IsFull, plain_entry};
 ghost use Rattle.log_levels.specs.Shapes.{StandsFor, capacity_of};
 
-use crate::builder::{Builder, Workers, index_in_pieces};
+use crate::builder::{Builder, Built, Merged, Workers, index_in_pieces};
 use crate::fault::MapFault;
 use crate::log_map::LogMap;
 use crate::update::Update;
 use budget::NoMemory;
 use edge::Gate;
-use levels::{Index, Keys};
+use levels::Keys;
 use std::alloc::Global;
 use std::thread::Threads;
 use tombstones::{Entry, merge_in_pieces};
@@ -68,17 +68,14 @@ impl LogMap {
         ensures unchanged { OnErr result (self.new ≡ self.old) }
         ensures levels { length self.new.levels ≡ length self.old.levels }
     {
-        let merge = |newer: &[Entry], older: &[Entry], deepest: bool| -> Result<
-            Vec<Entry>,
-            NoMemory,
-        >
+        let merge = |newer: &[Entry], older: &[Entry], deepest: bool| -> Merged
             requires staffed { 1 ≤ workers }
             requires few_workers { workers ≤ 64 }
             requires newer_ascending { IsAscending newer.now }
             requires older_ascending { IsAscending older.now }
             ensures { IsMergeOf newer.now older.now deepest result }
         { merge_in_pieces(rt, alloc, newer, older, deepest, workers) };
-        let index = |keys: Keys| -> Result<Index, NoMemory>
+        let index = |keys: Keys| -> Built
             requires staffed { 1 ≤ workers }
             requires few_workers { workers ≤ 64 }
             ensures { IsIndexFor keys result }

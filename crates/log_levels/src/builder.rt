@@ -14,13 +14,20 @@ use std::sync::ledger::{Blank, Ledger};
 use std::thread::Threads;
 use tombstones::{Entry, merge};
 
+/// The merge of two lists of entries, unless memory ran out.
+pub type Merged = Result<Vec<Entry>, NoMemory>;
+
+/// An index, unless memory ran out.
+pub type Built = Result<Index, NoMemory>;
+
 /// Who makes levels: it merges lists of entries, and builds the indexes of their keys. All make the
 /// same.
 pub trait Builder {
+    /// What its calls need: that they may be made, and make the same.
     ghost ready: { Self → Type 0 };
 
     /// Merges two lists of entries, as [`merge`] does.
-    fn merge(&self, newer: &[Entry], older: &[Entry], deepest: bool) -> Result<Vec<Entry>, NoMemory>
+    fn merge(&self, newer: &[Entry], older: &[Entry], deepest: bool) -> Merged
         requires ready { ready self.now }
         requires newer_ascending { IsAscending newer.now }
         requires older_ascending { IsAscending older.now }
@@ -29,7 +36,7 @@ pub trait Builder {
             entry_at merged.items key ≡ kept deepest (winner_at newer.now older.now key)) };
 
     /// Builds the index of a level's keys.
-    fn index(&self, keys: Keys) -> Result<Index, NoMemory>
+    fn index(&self, keys: Keys) -> Built
         requires { ready self.now }
         ensures keys { IfOk result (λ index. index.keys ≡ keys) }
         ensures eps { IfOk result (λ index. index.eps ≡ EPS) }
@@ -45,16 +52,11 @@ pub struct Here {
 impl Builder for Here {
     ghost ready = { λ _. Unit {0} };
 
-    fn merge(
-        &self,
-        newer: &[Entry],
-        older: &[Entry],
-        deepest: bool,
-    ) -> Result<Vec<Entry>, NoMemory> {
+    fn merge(&self, newer: &[Entry], older: &[Entry], deepest: bool) -> Merged {
         merge(self.alloc, newer, older, deepest)
     }
 
-    fn index(&self, keys: Keys) -> Result<Index, NoMemory> {
+    fn index(&self, keys: Keys) -> Built {
         index_here::<Brand>(self.alloc, keys, Blank::new(1))
     }
 }
@@ -67,28 +69,20 @@ pub struct Workers<M, I> {
     pub index: I,
 }
 
-impl<
-    M: Fn(&[Entry], &[Entry], bool) -> Result<Vec<Entry>, NoMemory>,
-    I: Fn(Keys) -> Result<Index, NoMemory>,
-> Builder for Workers<M, I> {
+impl<M: Fn(&[Entry], &[Entry], bool) -> Merged, I: Fn(Keys) -> Built> Builder for Workers<M, I> {
     ghost ready = { λ workers. Merges M.Fn workers.merge × Builds I.Fn workers.index };
 
-    fn merge(
-        &self,
-        newer: &[Entry],
-        older: &[Entry],
-        deepest: bool,
-    ) -> Result<Vec<Entry>, NoMemory> {
+    fn merge(&self, newer: &[Entry], older: &[Entry], deepest: bool) -> Merged {
         (self.merge)(newer, older, deepest)
     }
 
-    fn index(&self, keys: Keys) -> Result<Index, NoMemory> {
+    fn index(&self, keys: Keys) -> Built {
         (self.index)(keys)
     }
 }
 
 /// The index of keys, its steps counted from a new ledger.
-fn index_here<L: Ledger>(alloc: Global, keys: Keys, blank: Blank) -> Result<Index, NoMemory>
+fn index_here<L: Ledger>(alloc: Global, keys: Keys, blank: Blank) -> Built
     requires name { blank.name ≡ L.name }
     requires parts { blank.parts ≡ L.parts }
     requires one { blank.parts ≡ 1 }
@@ -107,7 +101,7 @@ pub fn index_in_pieces<R: Threads + Sync, G: Gate>(
     keys: Keys,
     workers: u32,
     gate: &G,
-) -> Result<Index, NoMemory>
+) -> Built
     requires staffed { 1 ≤ workers }
     requires few_workers { workers ≤ 64 }
     ensures keys { IfOk result (λ index. index.keys ≡ keys) }
