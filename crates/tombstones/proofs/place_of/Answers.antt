@@ -2,7 +2,6 @@
 use Rattle.std.proofs.Common.{ltb, rules, of_calls}
 use Rattle.std.proofs.lemmas.Fn.{always_returns_same}
 use Rattle.std.proofs.lemmas.List.Sorted.{IsPartitionedBy-ltb}
-use Rattle.std.specs.List.Sorted.{IsPartitionPoint}
 use Rattle.tombstones.specs.declared.entry.Entry.{Entry}
 use Rattle.tombstones.proofs.PartLemmas.{keys_never_fall, before_place, from_place}
 use Rattle.tombstones.proofs.place_of.Goals as goal

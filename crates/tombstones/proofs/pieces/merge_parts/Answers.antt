@@ -1,5 +1,5 @@
 -- A part's merge is put behind those of the parts before it.
-use Rattle.std.proofs.Common.{◌≡◌, ◌∙◌, ◌+◌, ◌<◌, ◌≤◌, ℕ, Some, Ok, IfOk, ap, subst, sym, arith, List, ◌++◌, slice_index_or, length, max, Vec, Global}
+use Rattle.std.proofs.Common.{◌≡◌, ◌∙◌, ◌+◌, ◌<◌, ◌≤◌, Some, Ok, IfOk, ap, subst, sym, arith, List, ◌++◌, slice_index_or, length, max, Vec, Global}
 use Rattle.std.proofs.lemmas.Result.{IfOk-at_ok}
 use Rattle.tombstones.specs.declared.entry.Entry.{Entry}
 use Rattle.tombstones.specs.Parts.{IsBetween, IsMergedPart, edge_of, longer_of, merged_at}
