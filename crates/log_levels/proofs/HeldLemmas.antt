@@ -1,10 +1,10 @@
 -- What a map holds, by how it is kept.
-use Rattle.std.proofs.Common.{◌≡◌, ℕ, ◌+◌, ◌*◌, ◌%◌, ◌^◌, ◌<◌, ◌≤◌, List, [], ◌∷◌, ◌++◌, length, slice_index_or, Option, None, Greater, nat_cmp, inl, inr, refl, sym, ap, subst, ◌∙◌, arith}
+use Rattle.std.proofs.Common.{◌≡◌, ℕ, ◌+◌, ◌*◌, ◌%◌, ◌^◌, ◌<◌, ◌≤◌, List, [], ◌∷◌, ◌++◌, length, slice_index_or, Option, None, Equal, Greater, nat_cmp, inl, inr, refl, sym, ap, subst, ◌∙◌, arith}
 use Rattle.std.proofs.Math.Nat.{pow-le-pow_right}
 use Rattle.std.proofs.lemmas.Nat.{shl_whole, pow_pos}
 use Rattle.std.proofs.lemmas.List.{length-map, map_push, get_or_append_left, get_or_push, ext_get_or}
 use Rattle.std.proofs.lemmas.Nat.Bits.{bit_at-zero}
-use Rattle.std.proofs.lemmas.Bool.{cases_lt}
+use Rattle.std.proofs.lemmas.Bool.{cases_lt, cases_eq}
 use Rattle.std.proofs.lemmas.Bool.Decides.{nat_tests}
 use Rattle.std.specs.Option.{option_map}
 use Rattle.std.specs.declared.sync.Arc.{Arc}
@@ -44,6 +44,12 @@ pub above-greater : (a b : ℕ) → Greater ≡ nat_cmp a b → b < a
 above-greater a b greater = elim (cases_lt b a) [
   | inl less ↦ less
   | inr at_least ↦ absurd (grind (arith, nat_tests))
+]
+
+pub same-equal : (a b : ℕ) → Equal ≡ nat_cmp a b → a ≡ b
+same-equal a b equal = elim (cases_eq a b) [
+  | inl same ↦ same
+  | inr other ↦ absurd (grind (arith, nat_tests))
 ]
 
 -- a map without entries

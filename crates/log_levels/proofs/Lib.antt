@@ -2,6 +2,7 @@ pub mod BitLemmas
 pub mod CutLemmas
 pub mod HeldLemmas
 pub mod LastLemmas
+pub mod PutLemmas
 pub mod ResultLemmas
 pub mod LevelLemmas
 pub mod GrowthLemmas

@@ -4,3 +4,4 @@ pub mod Shapes
 pub use Rattle.tombstones.specs.Entries
 pub use Rattle.levels.specs.Indexes
 pub mod Kept
+pub mod Builders

@@ -1,29 +1,40 @@
 // Many updates at once.
-ghost use Rattle.std.specs.Prelude.{◌≡◌, ◌⊎◌, ◌+◌, ◌<◌, ◌≤◌, ◌++◌, ◌∷◌};
-ghost use Rattle.std.specs.Prelude.{ℕ, List, length, map, take, drop};
+ghost use Rattle.std.specs.Prelude.{◌≡◌, ◌⊎◌, ◌+◌, ◌<◌, ◌≤◌, ◌++◌};
+ghost use Rattle.std.specs.Prelude.{◌∷◌, ℕ};
+ghost use Rattle.std.specs.Prelude.{List, length, map, take, drop};
 ghost use Rattle.std.specs.Prelude.{All, IfOk, IfSome, IfNone, OnOk};
 ghost use Rattle.std.specs.Prelude.{OnErr, Err, IsTrue, slice_index_or};
 ghost use Rattle.log_levels.specs.declared.update.Update.{Update};
 ghost use Rattle.log_levels.specs.declared.fault.MapFault.TheVariants.{Full};
 ghost use Rattle.log_levels.specs.declared.fault.MapFault.{MapFault};
+ghost use Rattle.tombstones.specs.Entries.{IsAscending};
 ghost use Rattle.log_levels.specs.Accepted.{IsPlain, entries_of};
+ghost use Rattle.log_levels.specs.Builders.{IsMergeOf, IsIndexFor};
 ghost use Rattle.log_levels.specs.Kept.{IsFull, plain_entry};
 ghost use Rattle.log_levels.specs.Shapes.{StandsFor, capacity_of};
 
+use crate::builder::{Builder, Built, Merged, Workers, index_in_pieces};
 use crate::fault::MapFault;
 use crate::log_map::LogMap;
 use crate::update::Update;
 use budget::NoMemory;
 use edge::Gate;
+use levels::Keys;
 use std::alloc::Global;
 use std::thread::Threads;
-use tombstones::Entry;
+use tombstones::{Entry, merge_in_pieces};
 
 impl LogMap {
     /// Applies updates in order, all or none.
     ///
     /// They are applied to a copy, which shares the levels, and the map is replaced at the end. So
     /// many updates without a sweep between them are merged into the levels at once.
+    ///
+    /// The levels are made by `workers` workers, 1 to 64: long lists are merged in parts, and each
+    /// level's index is built in pieces. The gate is passed at `PieceBegun` before each piece of an
+    /// index and at `PieceDone` after it, with the piece's number in that index. Worker threads are
+    /// joined before the call returns, which it does only if the gate does; where one can't be
+    /// started the caller does its work. The map is the same for all numbers of workers and gates.
     ///
     /// # Errors
     ///
@@ -34,14 +45,14 @@ impl LogMap {
     /// After either the map is as it was.
     pub fn apply<R: Threads + Sync, G: Gate>(
         &mut self,
-        _rt: &R,
+        rt: &R,
         alloc: Global,
         updates: &[Update],
-        _workers: u32,
-        _gate: &G,
+        workers: u32,
+        gate: &G,
     ) -> Result<(), MapFault>
-        requires staffed { 1 ≤ _workers }
-        requires few_workers { _workers ≤ 64 }
+        requires staffed { 1 ≤ workers }
+        requires few_workers { workers ≤ 64 }
         ensures applied { OnOk result ((before : List Update) → StandsFor self.old before →
             StandsFor self.new (before ++ updates.now)) }
         ensures full { (before : List Update) → StandsFor self.old before →
@@ -57,14 +68,33 @@ impl LogMap {
         ensures unchanged { OnErr result (self.new ≡ self.old) }
         ensures levels { length self.new.levels ≡ length self.old.levels }
     {
-        *self = self.with_updates(alloc, updates)?;
+        let merge = |newer: &[Entry], older: &[Entry], deepest: bool| -> Merged
+            requires staffed { 1 ≤ workers }
+            requires few_workers { workers ≤ 64 }
+            requires newer_ascending { IsAscending newer.now }
+            requires older_ascending { IsAscending older.now }
+            ensures { IsMergeOf newer.now older.now deepest result }
+        { merge_in_pieces(rt, alloc, newer, older, deepest, workers) };
+        let index = |keys: Keys| -> Built
+            requires staffed { 1 ≤ workers }
+            requires few_workers { workers ≤ 64 }
+            ensures { IsIndexFor keys result }
+        { index_in_pieces(rt, alloc, keys, workers, gate) };
+        let builder = Workers { merge, index };
+        *self = self.with_updates(&builder, alloc, updates)?;
         Ok(())
     }
 
     /// The map with updates.
-    fn with_updates(&self, alloc: Global, updates: &[Update]) -> Result<LogMap, MapFault>
-        ensures applied { IfOk result (λ map. (before : List Update) → StandsFor self.now before →
-            StandsFor map (before ++ updates.now)) }
+    fn with_updates<B: Builder>(
+        &self,
+        builder: &B,
+        alloc: Global,
+        updates: &[Update],
+    ) -> Result<LogMap, MapFault>
+        requires { B.ready builder.now }
+        ensures applied { IfOk result (λ map. (before : List Update) →
+            StandsFor self.now before → StandsFor map (before ++ updates.now)) }
         ensures levels { IfOk result (λ map. length map.levels ≡ length self.now.levels) }
         ensures full_first { All IsPlain updates.now →
             capacity_of self.now < self.now.accepted + length updates.now →
@@ -82,7 +112,7 @@ impl LogMap {
         let mut map = self.copy(alloc)?;
         let mut done = 0;
         while done < updates.len() {
-            match map.add_run(alloc, &updates[done..]) {
+            match map.add_run(builder, alloc, &updates[done..]) {
                 Ok(count) => done += count,
                 Err(fault) => return Err(behind(fault, accepted)),
             }
@@ -92,33 +122,45 @@ impl LogMap {
 
     /// Applies the first updates of a list, a sweep or some without one, and gives how many they
     /// were.
-    fn add_run(&mut self, alloc: Global, updates: &[Update]) -> Result<usize, MapFault>
-        requires { 0 < length updates.now }
+    fn add_run<B: Builder>(
+        &mut self,
+        builder: &B,
+        alloc: Global,
+        updates: &[Update],
+    ) -> Result<usize, MapFault>
+        requires ready { B.ready builder.now }
+        requires some { 0 < length updates.now }
         ensures some { IfOk result (λ count. 0 < count) }
         ensures within { IfOk result (λ count. count ≤ length updates.now) }
-        ensures added { IfOk result (λ count. (before : List Update) → StandsFor self.old before →
-            StandsFor self.new (before ++ take count updates.now)) }
+        ensures added { IfOk result (λ count. (before : List Update) →
+            StandsFor self.old before → StandsFor self.new (before ++ take count updates.now)) }
         ensures full_only { (accepted : ℕ) → result ≡ Err (Full accepted) →
             (before : List Update) → StandsFor self.old before →
             capacity_of self.old < length (entries_of (before ++ updates.now)) }
         ensures levels { length self.new.levels ≡ length self.old.levels }
     {
         if let Update::Sweep(low, high) = updates[0] {
-            return match self.sweep(alloc, low, high) {
+            return match self.sweep_by(builder, alloc, low, high) {
                 Ok(_) => Ok(1),
                 Err(fault) => Err(fault),
             };
         }
         let count = plain_len(updates);
-        match self.add_plain(alloc, &updates[..count]) {
+        match self.add_plain(builder, alloc, &updates[..count]) {
             Ok(()) => Ok(count),
             Err(fault) => Err(fault),
         }
     }
 
     /// Applies updates without a sweep.
-    fn add_plain(&mut self, alloc: Global, updates: &[Update]) -> Result<(), MapFault>
-        requires { All IsPlain updates.now }
+    fn add_plain<B: Builder>(
+        &mut self,
+        builder: &B,
+        alloc: Global,
+        updates: &[Update],
+    ) -> Result<(), MapFault>
+        requires ready { B.ready builder.now }
+        requires plain { All IsPlain updates.now }
         ensures added { OnOk result ((before : List Update) → StandsFor self.old before →
             StandsFor self.new (before ++ updates.now)) }
         ensures full_only { (accepted : ℕ) → result ≡ Err (Full accepted) →
@@ -130,7 +172,7 @@ impl LogMap {
             return Err(MapFault::Full { accepted });
         }
         let entries = plain_entries(alloc, updates)?;
-        self.append(alloc, &entries)?;
+        self.append(builder, alloc, &entries)?;
         Ok(())
     }
 }
@@ -188,7 +230,8 @@ fn plain_len(updates: &[Update]) -> usize
 
 /// The fault, with how many entries were accepted before.
 fn behind(fault: MapFault, accepted: u64) -> MapFault
-    ensures full { (other : ℕ) → result ≡ Full other → (other ≡ accepted) × IsFull fault }
+    ensures full { (other : ℕ) → result ≡ Full other →
+        (other ≡ accepted) × IsFull fault }
 {
     match fault {
         MapFault::Full { .. } => MapFault::Full { accepted },

@@ -1,5 +1,6 @@
-// What a map becomes when entries are added: made aside.
-ghost use Rattle.std.specs.Prelude.{◌≡◌, ◌≢◌, ◌+◌, ◌-◌, ◌*◌, ◌/◌, ◌^◌};
+// What a map becomes when entries are added: made aside, by a builder.
+ghost use Rattle.std.specs.Prelude.{◌≡◌, ◌≢◌, ◌+◌, ◌-◌, ◌*◌, ◌/◌};
+ghost use Rattle.std.specs.Prelude.{◌^◌};
 ghost use Rattle.std.specs.Prelude.{◌<◌, ◌≤◌, ◌==◌, ◌++◌, ℕ, List};
 ghost use Rattle.std.specs.Prelude.{false, length, take, drop, vec_len, slice_index_or};
 ghost use Rattle.std.specs.Prelude.{None, Some, IfOk, OnOk, OnErr};
@@ -11,6 +12,7 @@ ghost use Rattle.tombstones.specs.Entries.{IsAscending, entry_at, kept};
 ghost use Rattle.log_levels.specs.Shapes.{IsCutOf, IsLevelFor, capacity_of, level_of, from_bit};
 ghost use Rattle.log_levels.specs.Kept.{IsMergedTo, IsHighestChange, shared_of, levels_of};
 
+use crate::builder::Builder;
 use crate::latest::latest_of;
 use crate::level::Level;
 use crate::log_map::{BLOCK, LogMap};
@@ -18,22 +20,29 @@ use budget::NoMemory;
 use std::alloc::Global;
 use std::cmp::Ordering;
 use std::sync::Arc;
-use tombstones::{Entry, merge};
+use tombstones::Entry;
 
 impl LogMap {
     /// The levels below level `top`, the buffer and new entries behind them, merged from the newest
     /// on.
-    fn merged_below(&self, alloc: Global, top: usize, new: &[Entry]) -> Result<Vec<Entry>, NoMemory>
-        requires { top < length self.now.levels }
+    fn merged_below<B: Builder>(
+        &self,
+        builder: &B,
+        alloc: Global,
+        top: usize,
+        new: &[Entry],
+    ) -> Result<Vec<Entry>, NoMemory>
+        requires ready { B.ready builder.now }
+        requires inside { top < length self.now.levels }
         ensures { IfOk result (λ merged. (entries : List Entry) → IsCutOf self.now entries →
             IsMergedTo entries (length entries / 64) top new.now merged.items) }
     {
-        let older = latest_of(alloc, &self.buffer)?;
-        let newer = latest_of(alloc, new)?;
-        let mut merged = merge(alloc, &newer, &older, false)?;
+        let older = latest_of(builder, alloc, &self.buffer)?;
+        let newer = latest_of(builder, alloc, new)?;
+        let mut merged = builder.merge(&newer, &older, false)?;
         for i in 0..top {
             if let Some(level) = self.level(i) {
-                merged = merge(alloc, &merged, level.entries(), false)?;
+                merged = builder.merge(&merged, level.entries(), false)?;
             }
         }
         Ok(merged)
@@ -41,7 +50,14 @@ impl LogMap {
 
     /// Level `top`, where `new` more entries change bit `top` as the highest one: what was below
     /// it, and new entries up to the end of its block.
-    fn merged_level(&self, alloc: Global, new: &[Entry], top: usize) -> Result<Arc<Level>, NoMemory>
+    fn merged_level<B: Builder>(
+        &self,
+        builder: &B,
+        alloc: Global,
+        new: &[Entry],
+        top: usize,
+    ) -> Result<Arc<Level>, NoMemory>
+        requires ready { B.ready builder.now }
         requires inside { top < length self.now.levels }
         requires change { IsHighestChange self.now.accepted (length new.now) top }
         requires room { self.now.accepted + length new.now ≤ capacity_of self.now }
@@ -51,19 +67,21 @@ impl LogMap {
     {
         let blocks = self.blocks_with(new.len());
         let end = entries_from_bit(top, blocks) - self.accepted();
-        let merged = self.merged_below(alloc, top, &new[..end as usize])?;
-        let level = kept_of(alloc, merged, blocks >> (top + 1) == 0)?;
-        shared(alloc, level)
+        let merged = self.merged_below(builder, alloc, top, &new[..end as usize])?;
+        let level = kept_of(builder, alloc, merged, blocks >> (top + 1) == 0)?;
+        shared(builder, alloc, level)
     }
 
     /// A level below it, if it is occupied: a block of new entries.
-    fn fresh_level(
+    fn fresh_level<B: Builder>(
         &self,
+        builder: &B,
         alloc: Global,
         new: &[Entry],
         top: usize,
         i: usize,
     ) -> Result<Option<Arc<Level>>, NoMemory>
+        requires ready { B.ready builder.now }
         requires inside { top < length self.now.levels }
         requires change { IsHighestChange self.now.accepted (length new.now) top }
         requires room { self.now.accepted + length new.now ≤ capacity_of self.now }
@@ -79,19 +97,21 @@ impl LogMap {
         let accepted = self.accepted();
         let start = entries_from_bit(i + 1, blocks) - accepted;
         let end = entries_from_bit(i, blocks) - accepted;
-        let latest = latest_of(alloc, part(new, start as usize, end as usize))?;
-        Ok(Some(shared(alloc, latest)?))
+        let latest = latest_of(builder, alloc, part(new, start as usize, end as usize))?;
+        Ok(Some(shared(builder, alloc, latest)?))
     }
 
     /// Level `i` with new entries, where they change bit `top` of the number of blocks as the
     /// highest one.
-    fn level_with(
+    fn level_with<B: Builder>(
         &self,
+        builder: &B,
         alloc: Global,
         new: &[Entry],
         top: usize,
         i: usize,
     ) -> Result<Option<Arc<Level>>, NoMemory>
+        requires ready { B.ready builder.now }
         requires inside { top < length self.now.levels }
         requires change { IsHighestChange self.now.accepted (length new.now) top }
         requires room { self.now.accepted + length new.now ≤ capacity_of self.now }
@@ -101,19 +121,21 @@ impl LogMap {
             (shared_of level)) }
     {
         match i.cmp(&top) {
-            Ordering::Less => self.fresh_level(alloc, new, top, i),
-            Ordering::Equal => Ok(Some(self.merged_level(alloc, new, top)?)),
+            Ordering::Less => self.fresh_level(builder, alloc, new, top, i),
+            Ordering::Equal => Ok(Some(self.merged_level(builder, alloc, new, top)?)),
             Ordering::Greater => self.shared_level(i),
         }
     }
 
     /// All levels with new entries.
-    fn levels_with(
+    fn levels_with<B: Builder>(
         &self,
+        builder: &B,
         alloc: Global,
         new: &[Entry],
         top: usize,
     ) -> Result<Vec<Option<Arc<Level>>>, NoMemory>
+        requires ready { B.ready builder.now }
         requires inside { top < length self.now.levels }
         requires change { IsHighestChange self.now.accepted (length new.now) top }
         requires room { self.now.accepted + length new.now ≤ capacity_of self.now }
@@ -126,13 +148,19 @@ impl LogMap {
         let count = self.stored.len();
         let mut levels = Vec::with_capacity(alloc, count)?;
         for i in 0..count {
-            levels.push(self.level_with(alloc, new, top, i)?)?;
+            levels.push(self.level_with(builder, alloc, new, top, i)?)?;
         }
         Ok(levels)
     }
 
     /// The map with new entries, which fill a block or more.
-    pub(crate) fn with_entries(&self, alloc: Global, new: &[Entry]) -> Result<LogMap, NoMemory>
+    pub(crate) fn with_entries<B: Builder>(
+        &self,
+        builder: &B,
+        alloc: Global,
+        new: &[Entry],
+    ) -> Result<LogMap, NoMemory>
+        requires ready { B.ready builder.now }
         requires flush { self.now.accepted / BLOCK < (self.now.accepted + length new.now) / BLOCK }
         requires room { self.now.accepted + length new.now ≤ capacity_of self.now }
         ensures cut { IfOk result (λ map. (entries : List Entry) → IsCutOf self.now entries →
@@ -141,7 +169,7 @@ impl LogMap {
     {
         let blocks = self.blocks_with(new.len());
         let top = highest_change(self.accepted / BLOCK, blocks);
-        let stored = self.levels_with(alloc, new, top)?;
+        let stored = self.levels_with(builder, alloc, new, top)?;
         let accepted = self.accepted + new.len() as u64;
         let start = blocks * BLOCK - self.accepted;
         let mut buffer = Vec::with_capacity(alloc, BLOCK as usize)?;
@@ -154,7 +182,13 @@ impl LogMap {
     }
 
     /// Adds entries. After an error the map is as it was.
-    pub(crate) fn append(&mut self, alloc: Global, new: &[Entry]) -> Result<(), NoMemory>
+    pub(crate) fn append<B: Builder>(
+        &mut self,
+        builder: &B,
+        alloc: Global,
+        new: &[Entry],
+    ) -> Result<(), NoMemory>
+        requires ready { B.ready builder.now }
         requires room { self.old.accepted + length new.now ≤ capacity_of self.old }
         ensures cut { OnOk result ((entries : List Entry) → IsCutOf self.old entries →
             IsCutOf self.new (entries ++ new.now)) }
@@ -163,7 +197,7 @@ impl LogMap {
     {
         let after = self.accepted + new.len() as u64;
         if self.accepted / BLOCK < after / BLOCK {
-            *self = self.with_entries(alloc, new)?;
+            *self = self.with_entries(builder, alloc, new)?;
             return Ok(());
         }
         self.buffer.extend_from_slice(new)?;
@@ -195,26 +229,37 @@ impl LogMap {
 }
 
 /// Entries, in the deepest level without the deletions.
-fn kept_of(alloc: Global, entries: Vec<Entry>, deepest: bool) -> Result<Vec<Entry>, NoMemory>
-    requires { IsAscending entries.items }
+fn kept_of<B: Builder>(
+    builder: &B,
+    alloc: Global,
+    entries: Vec<Entry>,
+    deepest: bool,
+) -> Result<Vec<Entry>, NoMemory>
+    requires ready { B.ready builder.now }
+    requires ascending { IsAscending entries.items }
     ensures ascending { IfOk result (λ level. IsAscending level.items) }
     ensures keeps { IfOk result (λ level. (key : ℕ) →
         entry_at level.items key ≡ kept deepest (entry_at entries.items key)) }
 {
     if deepest {
-        merge(alloc, &entries, &[], true)
+        builder.merge(&entries, &[], true)
     } else {
         Ok(entries)
     }
 }
 
 /// A level of entries, to be shared.
-fn shared(alloc: Global, entries: Vec<Entry>) -> Result<Arc<Level>, NoMemory>
+fn shared<B: Builder>(
+    builder: &B,
+    alloc: Global,
+    entries: Vec<Entry>,
+) -> Result<Arc<Level>, NoMemory>
+    requires ready { B.ready builder.now }
     requires ascending { IsAscending entries.items }
     requires few { vec_len entries < 2 ^ 32 }
     ensures { IfOk result (λ level. arc_value level ≡ entries.items) }
 {
-    let level = Level::of(alloc, entries)?;
+    let level = Level::of(builder, alloc, entries)?;
     Ok(Arc::new(alloc, level)?)
 }
 

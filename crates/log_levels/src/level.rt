@@ -8,11 +8,11 @@ ghost use Rattle.log_levels.specs.Kept.{IsBelow};
 ghost use Rattle.window_search.specs.Searches.{lb};
 ghost use Rattle.log_levels.specs.Shapes.{level_keys};
 
-use budget::{NoMemory, Steps};
+use crate::builder::Builder;
+use budget::NoMemory;
 use levels::{Index, Keys};
 use std::alloc::Global;
-use std::marker::{Brand, Model};
-use std::sync::ledger::{Blank, Ledger};
+use std::marker::Model;
 use tombstones::Entry;
 
 /// The error bounds of a level's index: of its level 0 and of the levels above.
@@ -42,14 +42,19 @@ impl Model for Level {
 }
 
 impl Level {
-    /// A level of entries, its index built on the calling thread.
-    pub fn of(alloc: Global, entries: Vec<Entry>) -> Result<Level, NoMemory>
+    /// A level of entries.
+    pub fn of<B: Builder>(
+        builder: &B,
+        alloc: Global,
+        entries: Vec<Entry>,
+    ) -> Result<Level, NoMemory>
+        requires ready { B.ready builder.now }
         requires ascending { IsAscending entries.items }
         requires few { vec_len entries < 2 ^ 32 }
         ensures { IfOk result (λ level. level ≡ entries.items) }
     {
         let keys = keys_of(alloc, &entries)?;
-        let index = index_of::<Brand>(alloc, keys, Blank::new(1))?;
+        let index = builder.index(keys)?;
         Ok(Level { entries, index })
     }
 
@@ -148,17 +153,4 @@ fn keys_of(alloc: Global, entries: &[Entry]) -> Result<Keys, NoMemory>
         keys.push(entry.key)?;
     }
     Keys::of(alloc, keys)
-}
-
-/// The index of keys, its steps counted from a new ledger.
-fn index_of<L: Ledger>(alloc: Global, keys: Keys, blank: Blank) -> Result<Index, NoMemory>
-    requires name { blank.name ≡ L.name }
-    requires parts { blank.parts ≡ L.parts }
-    requires one { blank.parts ≡ 1 }
-    ensures keys { IfOk result (λ index. index.keys ≡ keys) }
-    ensures eps { IfOk result (λ index. index.eps ≡ EPS) }
-    ensures eps_rec { IfOk result (λ index. index.eps_rec ≡ EPS_REC) }
-{
-    let mut steps = Steps::<L>::new(blank);
-    Index::build_here(alloc, keys, EPS, EPS_REC, &mut steps)
 }

@@ -13,6 +13,7 @@
 #![tactic(auto)]
 
 mod apply;
+mod builder;
 mod fault;
 mod growth;
 mod latest;

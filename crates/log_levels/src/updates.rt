@@ -1,5 +1,6 @@
 // Updates of a map.
-ghost use Rattle.std.specs.Prelude.{◌≡◌, ◌+◌, ◌<◌, ◌≤◌, ◌++◌, ◌∷◌, [], ℕ, List, length};
+ghost use Rattle.std.specs.Prelude.{◌≡◌, ◌+◌, ◌<◌, ◌≤◌, ◌++◌, ◌∷◌};
+ghost use Rattle.std.specs.Prelude.{[], ℕ, List, length};
 ghost use Rattle.std.specs.Prelude.{IfOk, IfErr, OnOk, OnErr, MatchResult, Err};
 ghost use Rattle.tombstones.specs.declared.entry.Entry.{Entry};
 ghost use Rattle.log_levels.specs.declared.update.Update.{Update};
@@ -9,6 +10,7 @@ ghost use Rattle.log_levels.specs.Shapes.{IsCutOf, StandsFor, capacity_of};
 ghost use Rattle.log_levels.specs.Maps.{map_after, count_between};
 ghost use Rattle.log_levels.specs.Accepted.{entries_of, entries_for};
 
+use crate::builder::{Builder, Here};
 use crate::fault::MapFault;
 use crate::log_map::LogMap;
 use budget::NoMemory;
@@ -90,13 +92,39 @@ impl LogMap {
         ensures unchanged { OnErr result (self.new ≡ self.old) }
         ensures levels { length self.new.levels ≡ length self.old.levels }
     {
+        self.sweep_by(&Here { alloc }, alloc, low, high)
+    }
+
+    /// The same, the levels made by a builder.
+    pub(crate) fn sweep_by<B: Builder>(
+        &mut self,
+        builder: &B,
+        alloc: Global,
+        low: u64,
+        high: u64,
+    ) -> Result<u64, MapFault>
+        requires { B.ready builder.now }
+        ensures swept { OnOk result ((updates : List Update) → StandsFor self.old updates →
+            StandsFor self.new (updates ++ Sweep low high ∷ [])) }
+        ensures count { IfOk result (λ count. (updates : List Update) →
+            StandsFor self.old updates → count ≡ count_between (map_after updates) low high) }
+        ensures full { (updates : List Update) → StandsFor self.old updates →
+            capacity_of self.old < length (entries_of (updates ++ Sweep low high ∷ [])) →
+            result ≡ Err (Full self.old.accepted) }
+        ensures full_only { (accepted : ℕ) → result ≡ Err (Full accepted) →
+            (accepted ≡ self.old.accepted) × ((updates : List Update) →
+            StandsFor self.old updates →
+            capacity_of self.old < length (entries_of (updates ++ Sweep low high ∷ []))) }
+        ensures unchanged { OnErr result (self.new ≡ self.old) }
+        ensures levels { length self.new.levels ≡ length self.old.levels }
+    {
         let accepted = self.accepted();
         let count = self.count(low, high);
         if count > self.capacity() - accepted {
             return Err(MapFault::Full { accepted });
         }
         let deletions = self.deletions(alloc, low, high, count)?;
-        self.append(alloc, &deletions)?;
+        self.append(builder, alloc, &deletions)?;
         Ok(count)
     }
 
@@ -141,7 +169,7 @@ impl LogMap {
         if accepted == self.capacity() {
             return Err(MapFault::Full { accepted });
         }
-        self.append(alloc, &[entry])?;
+        self.append(&Here { alloc }, alloc, &[entry])?;
         Ok(())
     }
 }

@@ -1,5 +1,6 @@
 // A walk over the keys of a map in rising order.
-ghost use Rattle.std.specs.Prelude.{◌≡◌, ◌+◌, ◌<◌, ◌≤◌, ◌^◌, ◌⊎◌, ◌++◌, ℕ, List, length, All};
+ghost use Rattle.std.specs.Prelude.{◌≡◌, ◌+◌, ◌<◌, ◌≤◌, ◌^◌, ◌⊎◌};
+ghost use Rattle.std.specs.Prelude.{◌++◌, ℕ, List, length, All};
 ghost use Rattle.std.specs.Prelude.{Option, Some, None, IfSome, MatchOption, slice_index};
 ghost use Rattle.std.specs.Option.{option_copied};
 ghost use Rattle.tombstones.specs.declared.entry.Entry.{Entry};
@@ -55,7 +56,8 @@ impl LogMap {
     fn least_key(&self, places: &Places, from: u128) -> Option<u64>
         requires { ArePlaces self.now places.now from }
         ensures from { IfSome result (λ key. from ≤ key) }
-        ensures least { (key : ℕ) → from ≤ key → IsBelow key result → IsAbsent self.now key }
+        ensures least { (key : ℕ) → from ≤ key → IsBelow key result →
+            IsAbsent self.now key }
         ensures places { IfSome result (λ key. ArePlaces self.now places.now key) }
     {
         let mut least = least_from(&self.buffer, from);
@@ -120,7 +122,8 @@ impl LogMap {
 /// The least key from `from` on, if there is one.
 fn least_from(entries: &[Entry], from: u128) -> Option<u64>
     ensures from { IfSome result (λ key. from ≤ key) }
-    ensures least { (key : ℕ) → from ≤ key → IsBelow key result → last_at entries.now key ≡ None }
+    ensures least { (key : ℕ) → from ≤ key → IsBelow key result →
+        last_at entries.now key ≡ None }
 {
     let mut least = None;
     for entry in entries {

@@ -1,7 +1,9 @@
 -- A writer as callers see it.
-use Rattle.std.specs.Prelude.{ℕ, List}
+use Rattle.std.specs.Prelude.{ℕ, ◌<◌, List, ◌++◌, length}
 use Rattle.logbook.specs.Pages.{Book}
 use Rattle.log_levels.specs.declared.update.Update.{Update}
+use Rattle.log_levels.specs.Accepted.{entries_of}
+use Rattle.published.specs.Histories.{updates_of}
 
 -- the history that is published, the batch in hand, and how many entries the map can accept
 pub record Written : Type 0 where
@@ -9,3 +11,15 @@ pub record Written : Type 0 where
   pub history : List (List Update)
   pub batch : List Update
   pub capacity : ℕ
+
+-- the updates that are published, and those of the batch in hand behind them
+abbrev pub updates_in : Written → List Update
+updates_in writer = updates_of writer.history ++ writer.batch
+
+-- how many entries these are
+abbrev pub count_in : Written → ℕ
+count_in writer = length (entries_of (updates_in writer))
+
+-- with more updates the entries would be more than the map can accept
+abbrev pub IsOverfull : Written → List Update → Type 0
+IsOverfull writer updates = writer.capacity < length (entries_of (updates_in writer ++ updates))

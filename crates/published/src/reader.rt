@@ -86,7 +86,8 @@ impl Note {
 impl Reader {
     /// A reader that has seen this much. Its place knows the history.
     pub(crate) fn at(place: Place, known: Prefix) -> Reader
-        requires { (told : Front) × (view place.place ≡ Some told) × (told.origin ≡ known.origin) }
+        requires { (told : Front) × (view place.place ≡ Some told)
+            × (told.origin ≡ known.origin) }
         ensures { result ≡ known }
     {
         Reader { place, known }

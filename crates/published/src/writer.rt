@@ -1,12 +1,15 @@
 // The writer.
-ghost use Rattle.std.specs.Prelude.{◌≡◌, ◌⊎◌, ◌+◌, ◌-◌, ◌*◌, ◌^◌, ◌<◌, ◌≤◌, ◌++◌, ◌∷◌, [], ℕ};
-ghost use Rattle.std.specs.Prelude.{List, length, All, Some, IfOk, OnOk, OnErr, Err};
-ghost use Rattle.std.specs.Prelude.{vec_len, vec_capacity, true, ◌↔◌, IsTrue};
+ghost use Rattle.std.specs.Prelude.{◌≡◌, ◌⊎◌, ◌+◌, ◌-◌, ◌*◌, ◌^◌};
+ghost use Rattle.std.specs.Prelude.{◌<◌, ◌≤◌, ◌↔◌};
+ghost use Rattle.std.specs.Prelude.{◌++◌, ◌∷◌, [], ℕ, List, length, All, Some, true};
+ghost use Rattle.std.specs.Prelude.{IsTrue};
+ghost use Rattle.std.specs.Prelude.{IfOk, OnOk, OnErr, Err, vec_len, vec_capacity};
 ghost use Rattle.std.specs.Bool.{OnTrue};
 ghost use Rattle.left_right.specs.Sides.{view};
 ghost use Rattle.log_levels.specs.declared.fault.MapFault.TheVariants.{Full};
-ghost use Rattle.log_levels.specs.Accepted.{entries_of, IsPlain};
-ghost use Rattle.published.specs.Histories.{Front, updates_of, count_of, published};
+ghost use Rattle.log_levels.specs.Accepted.{IsPlain};
+ghost use Rattle.published.specs.Histories.{Front, count_of, published};
+ghost use Rattle.published.specs.Writers.{count_in, IsOverfull};
 
 use crate::copies::{Copies, give_up, seated, show, with_room};
 use crate::history::{Head, Prefix, open};
@@ -35,7 +38,8 @@ pub struct Writer {
 }
 
 impl Model for Writer {
-    ghost use Rattle.std.specs.Prelude.{◌≡◌, ◌+◌, ◌<◌, ◌^◌, ◌++◌, IsSome, vec_len};
+    ghost use Rattle.std.specs.Prelude.{◌≡◌, ◌+◌, ◌<◌, ◌^◌, ◌++◌, IsSome};
+    ghost use Rattle.std.specs.Prelude.{vec_len};
     ghost use Rattle.std.specs.Option.{option_map_or};
     ghost use Rattle.std.specs.Arc.{arc_value};
     ghost use Rattle.log_levels.specs.Shapes.{StandsFor, capacity_of};
@@ -153,8 +157,10 @@ fn push_within_capacity(seats: &mut Vec<Reader>, reader: Reader)
 impl Writer {
     /// Adds updates to the batch in hand, all or none.
     ///
-    /// The next version of the map is made aside, by `workers` workers, 1 to 64, which pass the
-    /// gate's piece places. Readers go on meanwhile, and see nothing of it.
+    /// The next version of the map is made aside, by `workers` workers, 1 to 64: they merge long
+    /// lists of entries, and build the index of each new level in pieces, passing the gate at
+    /// `PieceBegun` before each piece and at `PieceDone` after it. Readers go on meanwhile, and see
+    /// nothing of it. The call returns only if the gate does.
     ///
     /// # Errors
     ///
@@ -176,17 +182,14 @@ impl Writer {
         ensures unchanged { OnErr result (self.new ≡ self.old) }
         ensures own { self.new.origin ≡ self.old.origin }
         ensures capacity { self.new.capacity ≡ self.old.capacity }
-        ensures full { let before = updates_of self.old.history ++ self.old.batch in
-            self.old.capacity < length (entries_of (before ++ updates.now)) →
-            (result ≡ Err (Full (length (entries_of before)))) ⊎ (result ≡ Err MapFault.NoMemory) }
+        ensures full { IsOverfull self.old updates.now →
+            (result ≡ Err (Full (count_in self.old))) ⊎ (result ≡ Err MapFault.NoMemory) }
         // It is judged first where no update is a sweep.
-        ensures full_first { let before = updates_of self.old.history ++ self.old.batch in
-            All IsPlain updates.now →
-            self.old.capacity < length (entries_of before) + length updates.now →
-            result ≡ Err (Full (length (entries_of before))) }
-        ensures full_only { let before = updates_of self.old.history ++ self.old.batch in
-            (accepted : ℕ) → result ≡ Err (Full accepted) → (accepted ≡ length (entries_of before))
-            × (self.old.capacity < length (entries_of (before ++ updates.now))) }
+        ensures full_first { All IsPlain updates.now →
+            self.old.capacity < count_in self.old + length updates.now →
+            result ≡ Err (Full (count_in self.old)) }
+        ensures full_only { (accepted : ℕ) → result ≡ Err (Full accepted) →
+            (accepted ≡ count_in self.old) × IsOverfull self.old updates.now }
     {
         if self.are_too_many(updates) {
             let accepted = self.accepted();
@@ -197,8 +200,7 @@ impl Writer {
 
     /// How many entries the map has accepted, of the batch too.
     fn accepted(&self) -> u64
-        ensures { result ≡
-            length (entries_of (updates_of self.now.history ++ self.now.batch)) }
+        ensures { result ≡ count_in self.now }
     {
         self.map.accepted()
     }
@@ -206,12 +208,9 @@ impl Writer {
     /// Whether these updates, none of them a sweep, are more than there is room for. Of others it
     /// isn't judged.
     fn are_too_many(&self, updates: &[Update]) -> bool
-        ensures plain { let before = updates_of self.now.history ++ self.now.batch in
-            All IsPlain updates.now →
-            self.now.capacity < length (entries_of before) + length updates.now →
-            result ≡ true }
-        ensures full { let before = updates_of self.now.history ++ self.now.batch in
-            OnTrue result (self.now.capacity < length (entries_of (before ++ updates.now))) }
+        ensures plain { All IsPlain updates.now →
+            self.now.capacity < count_in self.now + length updates.now → result ≡ true }
+        ensures full { OnTrue result (IsOverfull self.now updates.now) }
     {
         let room = self.map.capacity().saturating_sub(self.map.accepted());
         if room < updates.len() as u64 && are_plain(updates) {
@@ -236,12 +235,10 @@ impl Writer {
         ensures unchanged { OnErr result (self.new ≡ self.old) }
         ensures own { self.new.origin ≡ self.old.origin }
         ensures capacity { self.new.capacity ≡ self.old.capacity }
-        ensures full { let before = updates_of self.old.history ++ self.old.batch in
-            self.old.capacity < length (entries_of (before ++ updates.now)) →
-            (result ≡ Err (Full (length (entries_of before)))) ⊎ (result ≡ Err MapFault.NoMemory) }
-        ensures full_only { let before = updates_of self.old.history ++ self.old.batch in
-            (accepted : ℕ) → result ≡ Err (Full accepted) → (accepted ≡ length (entries_of before))
-            × (self.old.capacity < length (entries_of (before ++ updates.now))) }
+        ensures full { IsOverfull self.old updates.now →
+            (result ≡ Err (Full (count_in self.old))) ⊎ (result ≡ Err MapFault.NoMemory) }
+        ensures full_only { (accepted : ℕ) → result ≡ Err (Full accepted) →
+            (accepted ≡ count_in self.old) × IsOverfull self.old updates.now }
     {
         let staged = self.front.len() + self.batch.len() as u64;
         if u64::MAX - staged < updates.len() as u64 {

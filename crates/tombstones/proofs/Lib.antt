@@ -1,4 +1,5 @@
 pub mod CallerLemmas
 pub mod EntryLemmas
 pub mod Order
+pub mod PartLemmas
 pub mod Progress

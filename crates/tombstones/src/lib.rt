@@ -12,19 +12,25 @@
 //!     merged    5 none  6 2   7 1
 //!     deepest           6 2   7 1
 //!
-//! Main clauses: `ascending` and `winners` of [`merge`]. The words of the clauses are in
-//! `specs/Entries.antt`.
+//! [`merge_in_pieces`] gives the same list by several workers.
+//!
+//! Main clauses: `ascending` and `winners` of [`merge`] and of [`merge_in_pieces`]. The words of
+//! the clauses are in `specs/Entries.antt`.
 #![tactic(auto)]
 
-ghost use Rattle.std.specs.Prelude.{◌≡◌, ℕ, ◌+◌, ◌<◌, ◌≤◌, ◌++◌, ◌∷◌, ◌↔◌, [], if◌then◌else◌, Some};
-ghost use Rattle.std.specs.Prelude.{None, IfOk, IsTrue, vec_len, vec_capacity};
+ghost use Rattle.std.specs.Prelude.{◌≡◌, ℕ, ◌+◌, ◌<◌, ◌≤◌, ◌++◌};
+ghost use Rattle.std.specs.Prelude.{◌∷◌, ◌↔◌, []};
+ghost use Rattle.std.specs.Prelude.{if◌then◌else◌, Some, None, IfOk, IsTrue};
+ghost use Rattle.std.specs.Prelude.{length, take, drop, All, vec_len, vec_capacity};
 ghost use Rattle.tombstones.specs.Entries.{IsAscending, entry_at, winner_at, kept};
 
 mod entry;
+mod pieces;
 mod remaining;
 
 pub use budget::NoMemory;
 pub use entry::Entry;
+pub use pieces::merge_in_pieces;
 use remaining::Remaining;
 use std::alloc::Global;
 
@@ -33,6 +39,17 @@ pub fn is_ascending(entries: &[Entry]) -> bool
     ensures { IsTrue result ↔ IsAscending entries.now }
 {
     entries.is_sorted_by(|x, y| x.key < y.key)
+}
+
+/// How many entries of a list, strictly ascending by key, are below a key: the place of the first
+/// one that isn't, or the length. Takes no memory.
+pub fn place_of(entries: &[Entry], key: u64) -> usize
+    requires { IsAscending entries.now }
+    ensures within { result ≤ length entries.now }
+    ensures below { All (λ entry. entry.key < key) (take result entries.now) }
+    ensures from { All (λ entry. key ≤ entry.key) (drop result entries.now) }
+{
+    entries.partition_point(|entry| entry.key < key)
 }
 
 /// Merges two lists of entries, each strictly ascending by key, into one.

@@ -1,6 +1,11 @@
+ghost use Rattle.std.specs.Prelude.{◌≤◌};
+ghost use Rattle.tombstones.specs.Entries.{IsAscending};
+
 use super::*;
+use crate::pieces::merge_parts;
 use std::process::Abort;
 use std::test::Fail;
+use std::thread::Threads;
 
 /// A merge, and what it gives.
 #[derive(Clone, Copy)]
@@ -36,6 +41,43 @@ fn check_merge<R: Abort + AllocGlobal>(
     assert_eq!(rt; merged.as_slice(), expected);
     assert_eq!(rt; merged.capacity(), newer.len() + older.len());
     Ok(())
+}
+
+/// Merges two lists by so many workers, and in so many parts, and compares the results.
+fn check_pieces<R: Abort + AllocGlobal + Threads + Sync>(
+    rt: &R,
+    newer: &[Entry],
+    older: &[Entry],
+    deepest: bool,
+    workers: u32,
+    expected: &[Entry],
+) -> Result<(), NoMemory>
+    requires newer_ascending { IsAscending newer.now }
+    requires older_ascending { IsAscending older.now }
+    requires staffed { 1 ≤ workers }
+    requires few_workers { workers ≤ 64 }
+{
+    let merged = merge_in_pieces(rt, rt.alloc(), newer, older, deepest, workers)?;
+    assert_eq!(rt; merged.as_slice(), expected);
+    let merged = merge_parts(rt, rt.alloc(), newer, older, deepest, workers as usize)?;
+    assert_eq!(rt; merged.as_slice(), expected);
+    Ok(())
+}
+
+/// The same with 1, 2, 3 and 64 workers.
+fn check_workers<R: Abort + AllocGlobal + Threads + Sync>(
+    rt: &R,
+    newer: &[Entry],
+    older: &[Entry],
+    deepest: bool,
+    expected: &[Entry],
+) -> Result<(), NoMemory> {
+    assert!(rt; is_ascending(newer));
+    assert!(rt; is_ascending(older));
+    check_pieces(rt, newer, older, deepest, 1, expected)?;
+    check_pieces(rt, newer, older, deepest, 2, expected)?;
+    check_pieces(rt, newer, older, deepest, 3, expected)?;
+    check_pieces(rt, newer, older, deepest, 64, expected)
 }
 
 #[test]
@@ -90,7 +132,30 @@ fn merges(rt: HostRuntime) -> Result<(), Fail> {
     for row in &rows {
         check_merge(&rt, row.newer, row.older, false, row.merged)?;
         check_merge(&rt, row.newer, row.older, true, row.deepest)?;
+        check_workers(&rt, row.newer, row.older, false, row.merged)?;
+        check_workers(&rt, row.newer, row.older, true, row.deepest)?;
     }
+    Ok(())
+}
+
+// The newer list has the even keys, each sixth one deleted, and the older one those that 3 divides:
+// of 12 keys 0, 2, 3, 4, 6, 8, 9 and 10, without 0 and 6 in the deepest list.
+#[test]
+fn merges_long_lists(rt: HostRuntime) -> Result<(), Fail> {
+    let mut newer = Vec::new(rt.alloc());
+    let mut older = Vec::new(rt.alloc());
+    let mut merged = Vec::new(rt.alloc());
+    let mut deepest = Vec::new(rt.alloc());
+    for block in 0..6000u64 {
+        let key = 6 * block;
+        newer.extend_from_slice(&[del(key), put(key + 2, 1), put(key + 4, 1)])?;
+        older.extend_from_slice(&[put(key, 2), put(key + 3, 2)])?;
+        merged.extend_from_slice(&[del(key), put(key + 2, 1), put(key + 3, 2), put(key + 4, 1)])?;
+        deepest.extend_from_slice(&[put(key + 2, 1), put(key + 3, 2), put(key + 4, 1)])?;
+    }
+    check_workers(&rt, &newer, &older, false, &merged)?;
+    check_workers(&rt, &newer, &older, true, &deepest)?;
+    check_workers(&rt, &older, &[], true, &older)?;
     Ok(())
 }
 

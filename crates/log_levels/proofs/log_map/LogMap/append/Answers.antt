@@ -5,7 +5,7 @@ use Rattle.log_levels.proofs.GrowthLemmas.{buffered-kept}
 use Rattle.log_levels.proofs.log_map.LogMap.append.Goals as goal
 
 pub invariant_of-self-2 : goal.invariant_of-self-2
-invariant_of-self-2 c =
+invariant_of-self-2 g c =
     let (entries, cut) = c.self.invariant.cut in
     let inside = held_of c.self.inside.accepted c.self.inside.buffer.items c.self.inside.stored.items in
     record {
@@ -20,7 +20,7 @@ invariant_of-self-2 c =
     }
 
 pub returns-clause-cut : goal.returns-clause-cut
-returns-clause-cut c = λ entries cut.
+returns-clause-cut g c = λ entries cut.
     let inside = held_of c.self.inside.accepted c.self.inside.buffer.items c.self.inside.stored.items in
     buffered-kept inside c.args.self.now c.args.new.now c.extend_from_slice.new.self.items entries c.self.view_is c.self.invariant.few c.requires.room
     (omega (arith, c.if-self-after.false)) c.in_ok-extend_from_slice.ensures.items cut

@@ -6,7 +6,7 @@ use Rattle.log_levels.proofs.HeldLemmas.{length-levels_of, levels_of-before, lev
 use Rattle.log_levels.proofs.log_map.LogMap.levels_with.Goals as goal
 
 pub loop-i-preserved : goal.loop-i-preserved
-loop-i-preserved c = record {
+loop-i-preserved g c = record {
   count = omega (arith, c.push.new.self.ok.0, c.loop-i.levels.ok.0, c.in_ok-push.ensures.len, c.loop-i.invariant.count);
   levels = λ entries i cut below.
       let blocks = (c.args.self.now.accepted + length c.args.new.now) / 64 in
@@ -23,6 +23,6 @@ loop-i-preserved c = record {
 }
 
 pub returns-clause-levels : goal.returns-clause-levels
-returns-clause-levels c = λ entries i cut inside.
+returns-clause-levels g c = λ entries i cut inside.
     c.loop-i.invariant.levels entries i cut
     (omega (arith, ap (λ (held : Held). length held.levels) c.self.view_is, length-levels_of c.self.inside.stored.items, c.self.inside.stored.ok.0, c.len-count.ensures, c.loop-i.auto.i-end))

@@ -8,7 +8,7 @@ use Rattle.log_levels.proofs.log_map.LogMap.merged_below.Goals as goal
 use Rattle.log_levels.proofs.log_map.LogMap.merged_below.Goals.{in-Some+in_ok-merged-2, in_default}
 
 pub loop-i-init : goal.loop-i-init
-loop-i-init c = record {
+loop-i-init g c = record {
   ascending = c.in_ok-merged.ensures.ascending;
   lasts = λ entries cut. merged-none entries (length entries / 64) c.args.new.now c.deref.result.now c.deref-3.result.now c.deref-2.result.now c.in_ok-merged.merged.items
       (c.deref.ensures.value ∙ ap (λ (held : Held). held.buffer) c.self.view_is ∙ cut.buffer)
@@ -18,7 +18,7 @@ loop-i-init c = record {
 }
 
 pub loop-i-preserved : goal.loop-i-preserved
-loop-i-preserved c = elim c.match-level.branch [
+loop-i-preserved g c = elim c.match-level.branch [
   | in-Some+in_ok-merged-2 w ↦
       let is : c.match-level.merged.items ≡ w.in_ok-merged-2.merged.items = ap (λ (v : Vec Entry Global). v.items) w.merged-is in
       let next : IsMerged c w.in_ok-merged-2.merged.items = record {
@@ -37,11 +37,11 @@ loop-i-preserved c = elim c.match-level.branch [
       subst (IsMerged c) (sym is) next
 ]
   where
-    IsMerged : goal.Joined-level → List Entry → Type 0
+    IsMerged : goal.Joined-level g → List Entry → Type 0
     IsMerged c items = record {
       ascending : IsAscending items;
       lasts : (entries : List Entry) → IsCutOf c.args.self.now entries → IsMergedTo entries (length entries / 64) (c.loop-i.i + 1) c.args.new.now items;
     }
 
 pub returns : goal.returns
-returns c = λ entries cut. subst (λ i. IsMergedTo entries (length entries / 64) i c.args.new.now c.loop-i.merged.items) (omega arith) (c.loop-i.invariant.lasts entries cut)
+returns g c = λ entries cut. subst (λ i. IsMergedTo entries (length entries / 64) i c.args.new.now c.loop-i.merged.items) (omega arith) (c.loop-i.invariant.lasts entries cut)

@@ -9,7 +9,7 @@ use Rattle.log_levels.proofs.UpdateLemmas.{length-plain, take-drop, take-rest, f
 use Rattle.log_levels.proofs.log_map.LogMap.with_updates.Goals as goal
 
 pub returns-then-are_too_many-clause-full_only : goal.returns-then-are_too_many-clause-full_only
-returns-then-are_too_many-clause-full_only c = λ accepted is.
+returns-then-are_too_many-clause-full_only g c = λ accepted is.
     let same : c.accepted-accepted.result ≡ accepted = cc in
     let over = c.are_too_many.ensures.only c.if-are_too_many.true in (
       omega (arith, c.accepted-accepted.ensures.count),
@@ -18,7 +18,7 @@ returns-then-are_too_many-clause-full_only c = λ accepted is.
     )
 
 pub loop-done-preserved : goal.loop-done-preserved
-loop-done-preserved c =
+loop-done-preserved g c =
     let rest = take_rest c.args.updates.now c.loop-done.done in
     record {
       within = omega (arith, c.in-Ok.ensures.within, ap (λ (l : List Update). length l) rest, length-drop c.loop-done.done c.args.updates.now);
@@ -30,11 +30,11 @@ loop-done-preserved c =
     }
 
 pub returns-clause-applied : goal.returns-clause-applied
-returns-clause-applied c = λ before stands.
+returns-clause-applied g c = λ before stands.
     subst (λ updates. StandsFor c.loop-done.map (before ++ updates)) (take_all c.loop-done.done c.args.updates.now (omega (arith, c.loop-done-test.false))) (c.loop-done.invariant.stands before stands)
 
 pub returns-in-Err-clause-full_only : goal.returns-in-Err-clause-full_only
-returns-in-Err-clause-full_only c = λ accepted is.
+returns-in-Err-clause-full_only g c = λ accepted is.
     let behind : c.behind.result ≡ Full accepted = cc in
     let (same, was_full) = c.behind.ensures.full accepted behind in
     let (inner, fault) = full-is c.in-Err.fault was_full in

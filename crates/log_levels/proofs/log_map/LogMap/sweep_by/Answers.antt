@@ -6,10 +6,10 @@ use Rattle.log_levels.specs.Maps.{map_after}
 use Rattle.log_levels.specs.Shapes.{IsCutOf}
 use Rattle.log_levels.proofs.UpdateLemmas.{entries_of-sweep}
 use Rattle.log_levels.proofs.WalkLemmas.{length-sweep}
-use Rattle.log_levels.proofs.log_map.LogMap.sweep.Goals as goal
+use Rattle.log_levels.proofs.log_map.LogMap.sweep_by.Goals as goal
 
 pub returns-then-count-capacity-clause-full_only : goal.returns-then-count-capacity-clause-full_only
-returns-then-count-capacity-clause-full_only c = λ accepted is.
+returns-then-count-capacity-clause-full_only g c = λ accepted is.
     let same : c.accepted-accepted.result ≡ accepted = cc in (
       omega (arith, c.accepted-accepted.ensures.count),
       λ updates stands.
@@ -17,15 +17,16 @@ returns-then-count-capacity-clause-full_only c = λ accepted is.
     )
 
 pub returns-in_err-deletions-clause-full : goal.returns-in_err-deletions-clause-full
-returns-in_err-deletions-clause-full c = λ updates stands over.
+returns-in_err-deletions-clause-full g c = λ updates stands over.
     absurd (omega (arith, length-sweep updates c.args.low c.args.high, stands.accepted, c.accepted-accepted.ensures.count, c.accepted-accepted.ensures.within, c.count-count.ensures updates stands, c.capacity.ensures, c.if-count-capacity.false))
 
 pub append-requires : goal.append-requires
-append-requires c =
+append-requires g c =
     let (updates, stands) = c.accepted-accepted.ensures.stands in
     let size = ap (λ (l : List Entry). length l) (c.deref.ensures.value ∙ c.in_ok-deletions.ensures updates stands) in
     let all = ap (λ (l : List Entry). length l) (entries_of-sweep updates c.args.low c.args.high) in
     record {
+      ready = c.requires;
       room = omega (
         arith,
         length-append (entries_of updates) c.deref.result.now,
@@ -41,15 +42,15 @@ append-requires c =
     }
 
 pub returns-in_err-append-clause-full : goal.returns-in_err-append-clause-full
-returns-in_err-append-clause-full c = λ updates stands over.
+returns-in_err-append-clause-full g c = λ updates stands over.
     absurd (omega (arith, length-sweep updates c.args.low c.args.high, stands.accepted, c.accepted-accepted.ensures.count, c.accepted-accepted.ensures.within, c.count-count.ensures updates stands, c.capacity.ensures, c.if-count-capacity.false))
 
 pub returns-clause-swept : goal.returns-clause-swept
-returns-clause-swept c = λ updates stands.
+returns-clause-swept g c = λ updates stands.
     subst (IsCutOf c.append.new.self)
     (ap (λ (list : List Entry). entries_of updates ++ list) (c.deref.ensures.value ∙ c.in_ok-deletions.ensures updates stands) ∙ sym (entries_of-sweep updates c.args.low c.args.high))
     (c.in_ok-append.ensures.cut (entries_of updates) stands)
 
 pub returns-clause-full : goal.returns-clause-full
-returns-clause-full c = λ updates stands over.
+returns-clause-full g c = λ updates stands over.
     absurd (omega (arith, length-sweep updates c.args.low c.args.high, stands.accepted, c.accepted-accepted.ensures.count, c.accepted-accepted.ensures.within, c.count-count.ensures updates stands, c.capacity.ensures, c.if-count-capacity.false))
