@@ -1,4 +1,4 @@
-use Rattle.std.proofs.Common.{Some, Option, ap, ◌∙◌}
+use Rattle.std.proofs.Common.{Some, ap, ◌∙◌}
 use Rattle.published.specs.Histories.{Front}
 use Rattle.published.proofs.copies.show.Goals as goal
 

@@ -1,4 +1,4 @@
-use Rattle.std.proofs.Common.{◌≡◌, [], ◌∷◌, ◌++◌, List, fold, sym, ap, ◌∙◌}
+use Rattle.std.proofs.Common.{◌≡◌, List, fold, sym, ap, ◌∙◌}
 use Rattle.published.specs.Histories.{Front}
 use Rattle.published.specs.Rules.{IsLastOf}
 use Rattle.published.proofs.OneHistory.{shows, last_of}

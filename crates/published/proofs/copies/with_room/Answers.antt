@@ -1,4 +1,4 @@
-use Rattle.std.proofs.Common.{◌≡◌, [], ◌∷◌, ◌++◌, List, drop, length, Bool, false, Result, Ok, Err, MatchResult, Some, Option, ap, sym, ◌∙◌}
+use Rattle.std.proofs.Common.{◌≡◌, drop, false, Result, Ok, Err, MatchResult, Some, ap, sym, ◌∙◌}
 use Rattle.std.specs.Result.{is_err}
 use Rattle.published.specs.Histories.{Front}
 use Rattle.published.specs.Rules.{IsLastOf}

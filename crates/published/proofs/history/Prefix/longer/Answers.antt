@@ -1,7 +1,7 @@
-use Rattle.std.proofs.Common.{◌≤◌, sym, ◌∙◌, ap, subst, arith, List}
+use Rattle.std.proofs.Common.{◌≤◌, ap, subst, arith, List}
 use mathlib.Core.List.{IsPrefix}
 use Rattle.log_levels.specs.declared.update.Update.{Update}
-use Rattle.published.specs.Histories.{Front, count_of}
+use Rattle.published.specs.Histories.{count_of}
 use Rattle.published.proofs.Prefixes.{prefix_shorter}
 use Rattle.published.proofs.history.Prefix.longer.Goals as goal
 

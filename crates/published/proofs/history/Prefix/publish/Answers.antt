@@ -1,4 +1,4 @@
-use Rattle.std.proofs.Common.{◌≡◌, ◌==◌, ℕ, ◌+◌, sym, ◌∙◌, ap, refl, arith}
+use Rattle.std.proofs.Common.{◌≡◌, ◌==◌, ◌+◌, sym, ◌∙◌, ap, refl, arith}
 use Rattle.published.specs.Histories.{Front, count_of}
 use Rattle.published.proofs.Adding.{adds_moves, adds_counts}
 use Rattle.published.proofs.history.Prefix.publish.Goals as goal
