@@ -1,0 +1,4 @@
+pub mod DrawLemmas
+pub mod InputLemmas
+pub mod ListLemmas
+pub mod LiveLemmas
