@@ -16,6 +16,7 @@ pub data Task : Type 0 where
   explain : (keys : List ℕ) (bounds : Bounds) → Task
   query : (keys : List ℕ) (bounds : Bounds) (questions : List ℕ) (windows : Bool) → Task
   box : (d : ℕ) (coords : List ℕ) (regions : List Region) → Task
+  drill : (n seed : ℕ) (bounds : Bounds) → Task
 
 -- the task that the program's own type stands for
 abbrev pub bounds_of : declared_bounds.Bounds → Bounds
@@ -27,3 +28,4 @@ task_of (variant.Explain keys bounds workers) = explain keys.keys.items (bounds_
 task_of (variant.Query keys bounds workers questions windows table) =
     query keys.keys.items (bounds_of bounds) questions.items windows
 task_of (variant.Box search) = box search.dims search.coords.items search.regions.items
+task_of (variant.Drill d bounds workers) = drill d.number d.seed (bounds_of bounds)

@@ -1,17 +1,19 @@
 -- The text of each task.
 use Rattle.std.specs.Prelude.{ℕ, List}
 use Rattle.commands.specs.Tasks.{Task}
-use Rattle.commands.specs.Tasks.Task.{build, explain, query, box}
+use Rattle.commands.specs.Tasks.Task.{build, explain, query, box, drill}
 use Rattle.commands.specs.Texts.Build.{IsBuilt}
 use Rattle.commands.specs.Texts.Explain.{IsExplained}
 use Rattle.commands.specs.Texts.Query.{IsAnswered}
 use Rattle.commands.specs.Texts.Regions.{IsSearched}
+use Rattle.commands.specs.Texts.Drill.{IsDrilled}
 pub mod InTurn
 pub mod Indexing
 pub mod Build
 pub mod Explain
 pub mod Query
 pub mod Regions
+pub mod Drill
 
 -- one equation for each command
 abbrev pub IsText : Task → List (List ℕ) → Type 0
@@ -19,3 +21,4 @@ IsText (build keys bounds) pieces = IsBuilt keys bounds pieces
 IsText (explain keys bounds) pieces = IsExplained keys bounds pieces
 IsText (query keys bounds questions windows) pieces = IsAnswered keys bounds questions windows pieces
 IsText (box d coords regions) pieces = IsSearched d coords regions pieces
+IsText (drill n seed bounds) pieces = IsDrilled n seed bounds pieces

@@ -17,6 +17,7 @@ ghost use Rattle.commands.specs.Tasks.{task_of};
 ghost use Rattle.commands.specs.Texts.{IsText};
 
 mod build;
+mod drill;
 mod explain;
 mod finder;
 mod indexing;
@@ -25,10 +26,11 @@ mod query;
 mod regions;
 mod task;
 
+pub use drill::one_drill;
 use edge::{Gate, Sink};
 use std::alloc::Global;
 use std::thread::Threads;
-pub use task::{Bounds, Search, SortedKeys, Table, Task, Workers};
+pub use task::{Bounds, Drill, Search, SortedKeys, Table, Task, Workers};
 use written::Unfinished;
 
 /// Writes the text of the task. An index is built by workers, which pass the gate before and after
@@ -64,5 +66,10 @@ pub fn write<R: Threads + Sync, S: Sink, G: Gate>(
             rt, alloc, keys, bounds, workers, &questions, windows, table, out, gate,
         ),
         Task::Box { search } => regions::write(rt, alloc, search, out),
+        Task::Drill {
+            drill,
+            bounds,
+            workers,
+        } => drill::write(rt, alloc, drill, bounds, workers, out, gate),
     }
 }

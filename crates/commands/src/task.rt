@@ -59,6 +59,18 @@ pub struct Table {
     pub ghost few: { bits ≤ 20 },
 }
 
+/// A number and a seed, for which inputs are drawn.
+#[derive(Clone, Copy, Debug)]
+pub struct Drill {
+    /// How many inputs there are of each kind, from 1 to 1,000,000.
+    pub number: u32,
+    /// The seed, below 2^31.
+    pub seed: u32,
+    pub ghost some: { 1 ≤ number },
+    pub ghost few: { number ≤ 1000000 },
+    pub ghost below: { seed < 2 ^ 31 },
+}
+
 /// A command, with its inputs and its options.
 #[derive(Drop)]
 pub enum Task {
@@ -86,5 +98,11 @@ pub enum Task {
     /// Write the points in each region, and at how many places was looked.
     Box {
         search: Search,
+    },
+    /// Write what is counted of inputs of every kind that are drawn.
+    Drill {
+        drill: Drill,
+        bounds: Bounds,
+        workers: Workers,
     },
 }

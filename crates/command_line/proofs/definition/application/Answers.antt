@@ -34,5 +34,7 @@ returns c =
     let query_is = ap top_of (c.in_ok-query_command.ensures.shape) in
     let third_is = c.in_ok-subcommand-3.ensures.shape c.in_ok-query_command.ensures.local ∙ added _ _ _ _ second_is query_is in
     let box_is = ap top_of (c.in_ok-box_command.ensures.shape) in
-    IfOk-weaker c.subcommand-4.result _ _
-    (λ program h. h.shape c.in_ok-box_command.ensures.local ∙ added _ _ _ _ third_is box_is) c.subcommand-4.ensures
+    let fourth_is = c.in_ok-subcommand-4.ensures.shape c.in_ok-box_command.ensures.local ∙ added _ _ _ _ third_is box_is in
+    let drill_is = ap top_of (c.in_ok-drill_command.ensures.shape) in
+    IfOk-weaker c.subcommand-5.result _ _
+    (λ program h. h.shape c.in_ok-drill_command.ensures.local ∙ added _ _ _ _ fourth_is drill_is) c.subcommand-5.ensures
