@@ -52,6 +52,11 @@ query_rules = build_rules ++ positional (codes "SCRIPT") ∷ flag (codes "window
 abbrev pub box_rules : List Rule
 box_rules = positional (codes "FILE") ∷ positional (codes "SCRIPT") ∷ number (codes "dims") 2 4 (codes "2") ∷ []
 
+-- a script of updates and questions, and how the map that they are made to and asked of is kept
+abbrev pub replay_rules : List Rule
+replay_rules = positional (codes "SCRIPT") ∷ number (codes "levels") 1 26 (codes "20")
+    ∷ number (codes "batch") 1 65536 (codes "16") ∷ number (codes "workers") 1 64 (codes "4") ∷ []
+
 -- how many inputs are drawn of each kind, and a seed
 abbrev pub drawn_rules : List Rule
 drawn_rules = positional_number (codes "N") 1 1000000 ∷ positional_number (codes "SEED") 0 2147483647 ∷ []
@@ -63,7 +68,19 @@ drill_rules = drawn_rules ++ bounds_rules
 abbrev pub commands : List Shape
 commands = command (codes "build") build_rules ∷ command (codes "explain") build_rules
     ∷ command (codes "query") query_rules ∷ command (codes "box") box_rules
-    ∷ command (codes "drill") drill_rules ∷ []
+    ∷ command (codes "replay") replay_rules ∷ command (codes "drill") drill_rules ∷ []
+
+-- the program before its commands. No public clause cites it
+abbrev pub bare_program : App
+bare_program = record {
+  top = record (new_shape (codes "pgmtool")) {
+    disable_help_flag = true;
+    disable_help_subcommand = true;
+    disable_version_flag = true;
+    subcommand_required = true;
+  };
+  subs = [];
+}
 
 -- the program: one of its commands has to be given, and it tells no help and no version
 abbrev pub application : App

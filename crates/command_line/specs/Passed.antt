@@ -39,6 +39,12 @@ pub record AreQueryOptions (rows : List Row) : Type 0 where
 abbrev pub IsDimensionOption : List Row → Type 0
 IsDimensionOption rows = IsNumberIn 2 4 (codes "dims") rows
 
+-- what the options of a replay hold
+pub record AreReplayOptions (rows : List Row) : Type 0 where
+  pub levels : IsNumberIn 1 26 (codes "levels") rows
+  pub batch : IsNumberIn 1 65536 (codes "batch") rows
+  pub workers : IsNumberIn 1 64 (codes "workers") rows
+
 -- what the numbers of a drill hold, and how its index is built
 pub record AreDrillOptions (rows : List Row) : Type 0 where
   pub number : IsNumberIn 1 1000000 (codes "N") rows

@@ -5,6 +5,7 @@ use Rattle.std.specs.Str.Parse.{digits_value, without_leading_plus}
 use Rattle.clap.specs.Words.{Text, Row, first_of, one_of}
 use Rattle.command_line.specs.declared.request.Building as declared_building
 use Rattle.command_line.specs.declared.request.Searching as declared_searching
+use Rattle.command_line.specs.declared.request.Replaying as declared_replaying
 use Rattle.command_line.specs.declared.request.Drilling as declared_drilling
 use Rattle.command_line.specs.declared.request.Request as declared
 use Rattle.command_line.specs.declared.request.Request.TheVariants as variant
@@ -22,6 +23,11 @@ pub record Searching : Type 0 where
   pub script : Text
   pub dims : ℕ
 
+-- a script of updates and questions, and how many levels the map has; batches and workers aren't told, since no answer depends on them
+pub record Replaying : Type 0 where
+  pub script : Text
+  pub levels : ℕ
+
 -- how many inputs are drawn of each kind, the seed, and how an index of the keys is built
 pub record Drilling : Type 0 where
   pub number : ℕ
@@ -35,6 +41,7 @@ pub data Request : Type 0 where
   explain : (building : Building) → Request
   query : (building : Building) (script : Text) (windows : Bool) → Request
   box : (searching : Searching) → Request
+  replay : (replaying : Replaying) → Request
   drill : (drilling : Drilling) → Request
 
 -- the number that an option has, or else its default; the name; and whether a flag is given
@@ -65,6 +72,9 @@ searching_of rows = record {
   dims = number_in (codes "dims") 2 rows;
 }
 
+abbrev pub replaying_of : List Row → Replaying
+replaying_of rows = record { script = name_in (codes "SCRIPT") rows; levels = number_in (codes "levels") 20 rows }
+
 abbrev pub drilling_of : List Row → Drilling
 drilling_of rows = record {
   number = number_in (codes "N") 1 rows;
@@ -80,7 +90,8 @@ request_for name rows =
     else (if bytes_eq name (codes "explain") then Some (explain (building_of rows))
     else (if bytes_eq name (codes "query") then Some (query_of rows)
     else (if bytes_eq name (codes "box") then Some (box (searching_of rows))
-    else (if bytes_eq name (codes "drill") then Some (drill (drilling_of rows)) else None))))
+    else (if bytes_eq name (codes "replay") then Some (replay (replaying_of rows))
+    else (if bytes_eq name (codes "drill") then Some (drill (drilling_of rows)) else None)))))
 
 -- the request that the program's own type stands for
 abbrev pub built_of : declared_building.Building → Building
@@ -88,6 +99,9 @@ built_of b = record { file = b.file.now; narrow = b.narrow; eps = b.eps; eps_rec
 
 abbrev pub searched_of : declared_searching.Searching → Searching
 searched_of s = record { file = s.file.now; script = s.script.now; dims = s.dims }
+
+abbrev pub replayed_of : declared_replaying.Replaying → Replaying
+replayed_of r = record { script = r.script.now; levels = r.levels }
 
 abbrev pub drilled_of : declared_drilling.Drilling → Drilling
 drilled_of d = record { number = d.number; seed = d.seed; eps = d.eps; eps_rec = d.eps_rec }
@@ -97,6 +111,7 @@ asked_of (variant.Build building) = build (built_of building)
 asked_of (variant.Explain building) = explain (built_of building)
 asked_of (variant.Query building script windows table) = query (built_of building) script.now windows
 asked_of (variant.Box searching) = box (searched_of searching)
+asked_of (variant.Replay replaying) = replay (replayed_of replaying)
 asked_of (variant.Drill drilling) = drill (drilled_of drilling)
 
 -- the file that is read first, if one is read
@@ -105,4 +120,5 @@ first_file (build building) = Some building.file
 first_file (explain building) = Some building.file
 first_file (query building script windows) = Some building.file
 first_file (box searching) = Some searching.file
+first_file (replay replaying) = Some replaying.script
 first_file (drill drilling) = None

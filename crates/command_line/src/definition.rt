@@ -3,9 +3,9 @@ ghost use Rattle.std.specs.Prelude.{◌≡◌, ◌<◌, ◌∷◌, ◌++◌, ◌
 ghost use Rattle.clap.specs.Words.{app_of, rule_of};
 ghost use Rattle.clap.specs.declared.builder.command.Command.TheViews.{out-Command};
 ghost use Rattle.command_line.specs.Application.{application, build_rules, index_rules};
-ghost use Rattle.command_line.specs.Application.{query_rules, box_rules, command};
+ghost use Rattle.command_line.specs.Application.{query_rules, box_rules, replay_rules, command};
 ghost use Rattle.command_line.specs.Application.{flag, number, positional};
-ghost use Rattle.command_line.specs.Application.{drawn_rules, drill_rules};
+ghost use Rattle.command_line.specs.Application.{bare_program, drawn_rules, drill_rules};
 ghost use Rattle.command_line.specs.Application.{positional_number, ranged};
 ghost use Rattle.exact_cross.specs.declared.TheConstants.{MAX_EPSILON};
 
@@ -29,16 +29,24 @@ const GREATEST_SEED: u32 = 0x7fff_ffff;
 pub fn application<'a>(alloc: Global) -> Result<Command<'a>, AllocError>
     ensures { IfOk result (λ program. app_of program ≡ application) }
 {
+    bare_program(alloc)
+        .subcommand(index_command(alloc, "build")?)?
+        .subcommand(index_command(alloc, "explain")?)?
+        .subcommand(query_command(alloc)?)?
+        .subcommand(box_command(alloc)?)?
+        .subcommand(replay_command(alloc)?)?
+        .subcommand(drill_command(alloc)?)
+}
+
+// The program before its commands.
+fn bare_program<'a>(alloc: Global) -> Command<'a>
+    ensures { app_of result ≡ bare_program }
+{
     Command::new(alloc, "pgmtool")
         .disable_help_flag(true)
         .disable_help_subcommand(true)
         .disable_version_flag(true)
         .subcommand_required(true)
-        .subcommand(index_command(alloc, "build")?)?
-        .subcommand(index_command(alloc, "explain")?)?
-        .subcommand(query_command(alloc)?)?
-        .subcommand(box_command(alloc)?)?
-        .subcommand(drill_command(alloc)?)
 }
 
 // A command over the index of a key file.
@@ -83,6 +91,18 @@ fn box_command<'a>(alloc: Global) -> Result<Command<'a>, AllocError>
         .arg(positional(alloc, "FILE"))?
         .arg(positional(alloc, "SCRIPT"))?
         .arg(number(alloc, "dims", 2, 4, "2"))
+}
+
+fn replay_command<'a>(alloc: Global) -> Result<Command<'a>, AllocError>
+    ensures shape { IfOk result
+        (λ made. app_of made ≡ record { top = command (codes "replay") replay_rules; subs = [] }) }
+    ensures local { IfOk result (λ made. (out-Command made).has_globals ≡ false) }
+{
+    Command::new(alloc, "replay")
+        .arg(positional(alloc, "SCRIPT"))?
+        .arg(number(alloc, "levels", 1, 26, "20"))?
+        .arg(number(alloc, "batch", 1, 65_536, "16"))?
+        .arg(workers(alloc))
 }
 
 fn drill_command<'a>(alloc: Global) -> Result<Command<'a>, AllocError>

@@ -42,6 +42,25 @@ pub struct Searching<'a> {
     pub ghost few: { dims ≤ 4 },
 }
 
+/// A script of updates and questions, and how the map for them is kept.
+#[derive(Clone, Copy, Debug)]
+pub struct Replaying<'a> {
+    /// The name of the script.
+    pub script: &'a str,
+    /// How many levels the map has, from 1 to 26.
+    pub levels: u32,
+    /// How many updates a batch has, which no answer depends on.
+    pub batch: u32,
+    /// How many workers build a level, which no answer depends on.
+    pub workers: u32,
+    pub ghost some_levels: { 1 ≤ levels },
+    pub ghost few_levels: { levels ≤ 26 },
+    pub ghost some_updates: { 1 ≤ batch },
+    pub ghost few_updates: { batch ≤ 65536 },
+    pub ghost staffed: { 1 ≤ workers },
+    pub ghost few_workers: { workers ≤ 64 },
+}
+
 /// How many inputs of each kind are drawn, and how an index of the keys is built.
 #[derive(Clone, Copy, Debug)]
 pub struct Drilling {
@@ -88,6 +107,10 @@ pub enum Request<'a> {
     /// Write the points in each box of a script.
     Box {
         searching: Searching<'a>,
+    },
+    /// Write what the questions of a script get after all its updates.
+    Replay {
+        replaying: Replaying<'a>,
     },
     /// Write what is counted of inputs of every kind that are drawn.
     Drill {

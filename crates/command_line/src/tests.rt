@@ -111,7 +111,7 @@ struct Refused {
     words: &'static [&'static str],
 }
 
-const REFUSED: [Refused; 47] = [
+const REFUSED: [Refused; 54] = [
     Refused {
         name: "no command",
         words: &[],
@@ -221,6 +221,34 @@ const REFUSED: [Refused; 47] = [
         words: &["box", "points", "script", "--dims", "2", "--dims", "2"],
     },
     Refused {
+        name: "a replay without its script",
+        words: &["replay"],
+    },
+    Refused {
+        name: "a replay of two scripts",
+        words: &["replay", "script", "script"],
+    },
+    Refused {
+        name: "no level",
+        words: &["replay", "script", "--levels", "0"],
+    },
+    Refused {
+        name: "a level too many",
+        words: &["replay", "script", "--levels", "27"],
+    },
+    Refused {
+        name: "empty batches",
+        words: &["replay", "script", "--batch", "0"],
+    },
+    Refused {
+        name: "batches past their range",
+        words: &["replay", "script", "--batch", "65537"],
+    },
+    Refused {
+        name: "an error bound of a replay",
+        words: &["replay", "script", "--eps", "4"],
+    },
+    Refused {
         name: "a table of too many bits",
         words: &["query", "keys", "script", "--buckets", "21"],
     },
@@ -318,6 +346,20 @@ const BOXES: [(&[&str], u32); 4] = [
     (&["box", "points", "--dims", "+04", "--", "script"], 4),
 ];
 
+// Replays of the script `script`, with their levels, batch and workers.
+const REPLAYS: [(&[&str], (u32, u32, u32)); 4] = [
+    (&["replay", "script"], (20, 16, 4)),
+    (&["replay", "script", "--levels=1"], (1, 16, 4)),
+    (
+        &["replay", "--batch", "65536", "script", "--levels", "26"],
+        (26, 65536, 4),
+    ),
+    (
+        &["replay", "--batch=1", "--workers", "64", "--", "script"],
+        (20, 1, 64),
+    ),
+];
+
 // Drills, and what they ask for: how many inputs, the seed, the two error bounds and the workers.
 const DRILLS: [(&[&str], (u32, u32, u32, u32, u32)); 5] = [
     (&["drill", "2", "1"], (2, 1, 64, 4, 4)),
@@ -355,7 +397,7 @@ fn is_asked(request: Request<'_>, asks: Asked) -> bool {
         Request::Build { building } => asks.command == "build" && is_index(building, asks),
         Request::Explain { building } => asks.command == "explain" && is_index(building, asks),
         Request::Query { building, .. } => asks.command == "query" && is_index(building, asks),
-        Request::Box { .. } | Request::Drill { .. } => false,
+        Request::Box { .. } | Request::Replay { .. } | Request::Drill { .. } => false,
     }
 }
 
@@ -417,6 +459,19 @@ fn boxes_have_points_and_a_script(rt: HostRuntime) -> Result<(), Fail> {
         };
         let asked = (searching.file, searching.script, searching.dims);
         assert_eq!(rt; asked, ("points", "script", dims));
+    }
+    Ok(())
+}
+
+#[test]
+fn replays_have_a_script(rt: HostRuntime) -> Result<(), Fail> {
+    for (words, asks) in REPLAYS {
+        let words = words_of(&rt, words)?;
+        let Request::Replay { replaying } = requested(rt.alloc(), &words)? else {
+            return Err(Fail::from("no replay"));
+        };
+        let options = (replaying.levels, replaying.batch, replaying.workers);
+        assert_eq!(rt; (replaying.script, options), ("script", asks));
     }
     Ok(())
 }

@@ -7,15 +7,15 @@ ghost use Rattle.exact_cross.specs.declared.TheConstants.{MAX_EPSILON};
 ghost use Rattle.command_line.specs.Application.{application};
 ghost use Rattle.command_line.specs.Requests.{asked_of, building_of, built_of, is_given, name_in};
 ghost use Rattle.command_line.specs.Requests.{number_in, query_of, request_for, searched_of};
-ghost use Rattle.command_line.specs.Requests.{searching_of};
+ghost use Rattle.command_line.specs.Requests.{searching_of, replayed_of, replaying_of};
 ghost use Rattle.command_line.specs.Words.{AreRefused, AreTaken, AskFor, request_of};
-ghost use Rattle.command_line.specs.Passed.{AreIndexOptions, AreQueryOptions};
+ghost use Rattle.command_line.specs.Passed.{AreIndexOptions, AreQueryOptions, AreReplayOptions};
 ghost use Rattle.command_line.specs.Passed.{IsDimensionOption, IsFlag, IsNumberIn};
 ghost use Rattle.command_line.specs.Passed.{AreDrillOptions};
 ghost use Rattle.command_line.specs.Requests.{drilled_of, drilling_of};
 
 use crate::definition::application;
-use crate::request::{Building, Drilling, Request, Searching, Table};
+use crate::request::{Building, Drilling, Replaying, Request, Searching, Table};
 use clap::ArgMatches;
 use clap::error::ErrorKind;
 use std::alloc::{AllocError, Global};
@@ -79,6 +79,9 @@ fn request_in<'a>(matches: &ArgMatches<'a>) -> Option<Request<'a>>
     } else if name == "box" {
         let searching = searching_in(found);
         Some(Request::Box { searching })
+    } else if name == "replay" {
+        let replaying = replaying_in(found);
+        Some(Request::Replay { replaying })
     } else if name == "drill" {
         let drilling = drilling_in(found);
         Some(Request::Drill { drilling })
@@ -129,6 +132,18 @@ fn searching_in<'a>(found: &ArgMatches<'a>) -> Searching<'a>
         file: name_in(found, "FILE"),
         script: name_in(found, "SCRIPT"),
         dims: number_in(found, "dims", 2),
+    }
+}
+
+fn replaying_in<'a>(found: &ArgMatches<'a>) -> Replaying<'a>
+    requires { AreReplayOptions (rows_of (found_of found.now)) }
+    ensures { replayed_of result ≡ replaying_of (rows_of (found_of found.now)) }
+{
+    Replaying {
+        script: name_in(found, "SCRIPT"),
+        levels: number_in(found, "levels", 20),
+        batch: number_in(found, "batch", 16),
+        workers: number_in(found, "workers", 4),
     }
 }
 

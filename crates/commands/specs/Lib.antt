@@ -1,4 +1,5 @@
 pub mod Finders
+pub mod Histories
 pub mod Pieces
 pub mod PointRegions
 pub mod Tasks

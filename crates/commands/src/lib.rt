@@ -24,13 +24,15 @@ mod indexing;
 mod positions;
 mod query;
 mod regions;
+mod replay;
 mod task;
 
 pub use drill::one_drill;
 use edge::{Gate, Sink};
+pub use log_levels::Update;
 use std::alloc::Global;
 use std::thread::Threads;
-pub use task::{Bounds, Drill, Search, SortedKeys, Table, Task, Workers};
+pub use task::{Bounds, Drill, History, Question, Search, SortedKeys, Table, Task, Workers};
 use written::Unfinished;
 
 /// Writes the text of the task. An index is built by workers, which pass the gate before and after
@@ -66,6 +68,7 @@ pub fn write<R: Threads + Sync, S: Sink, G: Gate>(
             rt, alloc, keys, bounds, workers, &questions, windows, table, out, gate,
         ),
         Task::Box { search } => regions::write(rt, alloc, search, out),
+        Task::Replay { history } => replay::write(rt, alloc, history, out, gate),
         Task::Drill {
             drill,
             bounds,

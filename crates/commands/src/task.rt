@@ -1,11 +1,13 @@
 // What there is to do when all inputs are read.
-ghost use Rattle.std.specs.Prelude.{◌<◌, ◌≤◌, ◌^◌, vec_len};
+ghost use Rattle.std.specs.Prelude.{◌-◌, ◌<◌, ◌≤◌, ◌^◌, vec_len};
 ghost use Rattle.std.specs.List.Sorted.{IsNonDecreasing};
 ghost use Rattle.std.specs.Prelude.{◌≡◌, ◌*◌, ◌/◌, All, length};
 ghost use Rattle.exact_cross.specs.declared.TheConstants.{MAX_EPSILON};
 ghost use Rattle.zorder.specs.Codes.{IsDimension, coordinate_bits};
+ghost use Rattle.log_levels.specs.Accepted.{entries_of};
 ghost use Rattle.commands.specs.PointRegions.{IsRegionOf};
 
+use log_levels::Update;
 use zorder::Region;
 
 /// The keys of a file: they never fall, and are fewer than 2^32.
@@ -59,6 +61,33 @@ pub struct Table {
     pub ghost few: { bits ≤ 20 },
 }
 
+/// A question to a map.
+#[derive(Clone, Copy, Debug, PartialEq, Eq)]
+pub enum Question {
+    /// The value at this key.
+    Get(u64),
+    /// The least key from this one on, with its value.
+    Next(u64),
+    /// How many keys there are from the first to the second, both included.
+    Count(u64, u64),
+}
+
+/// Updates of a map, and the questions that are asked of it after them.
+#[derive(Drop)]
+pub struct History {
+    /// How many levels the map has, from 1 to 26. No text depends on it.
+    pub levels: u32,
+    /// The workers that build a level.
+    pub workers: Workers,
+    /// The updates, in order.
+    pub updates: Vec<Update>,
+    /// The questions, in order.
+    pub questions: Vec<Question>,
+    pub ghost some_levels: { 1 ≤ levels },
+    pub ghost few_levels: { levels ≤ 26 },
+    pub ghost fits: { length (entries_of updates.items) ≤ 64 * 2 ^ levels - 1 },
+}
+
 /// A number and a seed, for which inputs are drawn.
 #[derive(Clone, Copy, Debug)]
 pub struct Drill {
@@ -98,6 +127,10 @@ pub enum Task {
     /// Write the points in each region, and at how many places was looked.
     Box {
         search: Search,
+    },
+    /// Write what a map answers after updates, and how many keys it has.
+    Replay {
+        history: History,
     },
     /// Write what is counted of inputs of every kind that are drawn.
     Drill {

@@ -2,7 +2,8 @@
 --
 -- Main results: a call that reads two inputs answers what the files define for both (`then_stops`, `then_goes_on`); and where
 -- at most one reading of the first is defined, and of what goes on with it, so it is for both (`then_one`).
-use Rattle.std.proofs.Common.{◌≡◌, inl, inr, ℕ, ◌<◌, ◌≤◌, Result, Ok, Err, sym, subst, ◌∙◌}
+use Rattle.std.proofs.Common.{◌≡◌, inl, inr, ℕ, ◌<◌, ◌≤◌, Result, Ok, Err, ap, sym, subst, ◌∙◌}
+use Rattle.std.specs.Result.{IsErrAnd}
 use Rattle.pgmtool.specs.declared.refusal.Refusal.{Refusal}
 use Rattle.pgmtool.specs.declared.refusal.Refusal.TheVariants.{ReadFault}
 use Rattle.pgmtool.specs.declared.refusal.Stopped.{Stopped}
@@ -52,6 +53,26 @@ module _ {A B X Y : Type 0} (first : Reading A) (next : A → Reading B) (value_
     faulted = λ rose. two.faulted (subst (λ (n : ℕ). n < after) (sym one.unfaulted) rose);
     never_falls = subst (λ (n : ℕ). n ≤ after) one.unfaulted two.never_falls;
   }
+
+-- what stops the second of three stops all
+pub second_stops : {A B C X Y Z : Type 0} (first : Reading A) (second : A → Reading B) (last : A → B → Reading C) (value_of : X → A) (other_of : Y → B) (made_of : Z → C)
+    (before middle after : ℕ) (value : X) (stopped : Stopped) → Answers {B = X} first value_of before middle (Ok value) →
+    Answers {B = Y} (second (value_of value)) other_of middle after (Err stopped) →
+    Answers {B = Z} (then first (λ a. then (second a) (last a))) made_of before after (Err stopped)
+second_stops first second last value_of other_of made_of before middle after value stopped one two =
+    then_goes_on first (λ a. then (second a) (last a)) value_of made_of before after middle value (Err stopped) one
+    (then_stops (second (value_of value)) (last (value_of value)) other_of made_of middle after stopped two)
+
+-- a call that stopped gave nothing, whatever it would have given
+pub stopped_alike : {A X Y : Type 0} (reading : Reading A) (value_of : X → A) (made_of : Y → A) (before after : ℕ) (stopped : Stopped) →
+    Answers {B = X} reading value_of before after (Err stopped) → Answers {B = Y} reading made_of before after (Err stopped)
+stopped_alike reading value_of made_of before after stopped one =
+    record { ok = tt; unfaulted = tt; stopped = one.stopped; faulted = λ rose. let same = one.faulted rose in cc; never_falls = one.never_falls }
+
+-- a call that hands an error on
+pub handed_on : {X : Type 0} (r : Result X Stopped) (stopped : Stopped) → IsErrAnd r (λ other. other ≡ stopped) → r ≡ Err stopped
+handed_on (Ok value) stopped is = absurd is
+handed_on (Err other) stopped is = ap Err is
 
 -- at most one thing is defined
 abbrev pub IsFunctional : {A : Type 0} → Reading A → Type 0

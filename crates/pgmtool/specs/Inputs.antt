@@ -1,5 +1,5 @@
 -- What the files define for a request: its task, or the refusal that the first bad input gives.
-use Rattle.std.specs.Prelude.{◌≡◌, ◌⊎◌, ℕ, ◌<◌, ◌≤◌, Bool, not, List, length, filter_map, All, Option, Result, Ok, Err, None, Some}
+use Rattle.std.specs.Prelude.{◌≡◌, ◌⊎◌, ℕ, ◌*◌, ◌-◌, ◌^◌, ◌<◌, ◌≤◌, Bool, not, List, length, filter_map, All, Option, Result, Ok, Err, None, Some}
 use Rattle.sosd_reader.specs.declared.fault.KeyFault.{KeyFault}
 use Rattle.sosd_reader.specs.FileFaults.{ReadsAsFile}
 use Rattle.sosd_reader.specs.KeyFiles.{key_width}
@@ -10,13 +10,16 @@ use Rattle.pgm_script.specs.declared.fault.ScriptFault.TheVariants as script
 use Rattle.pgm_script.specs.declared.script.ScriptKind.{ScriptKind}
 use Rattle.pgm_script.specs.declared.script.ScriptLine.{ScriptLine}
 use Rattle.pgm_script.specs.Scripts.{IsLineOf, ReadsAs as ReadsScript}
+use Rattle.log_levels.specs.declared.update.Update.{Update}
+use Rattle.log_levels.specs.Accepted.{entries_of}
 use Rattle.command_line.specs.Requests.{Building, Request}
-use Rattle.command_line.specs.Requests.Request.{build, explain, query, box}
+use Rattle.command_line.specs.Requests.Request.{build, explain, query, box, replay}
 use Rattle.pgmtool.specs.declared.refusal.Refusal.{Refusal}
-use Rattle.pgmtool.specs.declared.refusal.Refusal.TheVariants.{ReadFault, TooLong, Script}
+use Rattle.pgmtool.specs.declared.refusal.Refusal.TheVariants.{ReadFault, TooLong, Script, Full}
 use Rattle.pgmtool.specs.declared.inputs.TheConstants.{SCRIPT_LIMIT}
 use Rattle.pgmtool.specs.Files.{Files, HoldsOfFile, IsFaultOf, IsMissing, IsReadable}
 use Rattle.pgmtool.specs.Refusals.{refusal_of}
+use Rattle.commands.specs.declared.task.Question.{Question}
 use Rattle.commands.specs.Tasks.{Bounds}
 use Rattle.commands.specs.Tasks as tasks
 
@@ -64,6 +67,37 @@ region_in line = None
 abbrev pub regions_in : List ScriptLine → List Region
 regions_in lines = filter_map region_in lines
 
+-- the updates of a script, in order
+abbrev pub update_in : ScriptLine → Option Update
+update_in (ScriptLine.Put key value) = Some (Update.Put key value)
+update_in (ScriptLine.Del key) = Some (Update.Del key)
+update_in (ScriptLine.Sweep low high) = Some (Update.Sweep low high)
+update_in line = None
+
+abbrev pub updates_in : List ScriptLine → List Update
+updates_in lines = filter_map update_in lines
+
+-- the questions to a map of a script, in order
+abbrev pub asked_in : ScriptLine → Option Question
+asked_in (ScriptLine.Get key) = Some (Question.Get key)
+asked_in (ScriptLine.Next from) = Some (Question.Next from)
+asked_in (ScriptLine.Count low high) = Some (Question.Count low high)
+asked_in line = None
+
+abbrev pub all_asked_in : List ScriptLine → List Question
+all_asked_in lines = filter_map asked_in lines
+
+-- how many entries a map of so many levels can accept
+abbrev pub room_of : ℕ → ℕ
+room_of levels = 64 * 2 ^ levels - 1
+
+-- what a script asks for, where a map of so many levels has room for the entries of all its updates
+abbrev pub reads_history : ℕ → List ScriptLine → Reading tasks.Task
+reads_history levels lines (Ok task) = (length (entries_of (updates_in lines)) ≤ room_of levels)
+    × (task ≡ tasks.Task.replay (updates_in lines) (all_asked_in lines))
+reads_history levels lines (Err (Full asked room)) = (asked ≡ length (entries_of (updates_in lines))) × (room ≡ room_of levels) × (room < asked)
+reads_history levels lines (Err refusal) = ⊥
+
 -- one input, and then what goes on with it: the first refusal is that of both
 abbrev pub then : {A B : Type 0} → Reading A → (A → Reading B) → Reading B
 then first next (Ok y) = (x : _) × first (Ok x) × next x (Ok y)
@@ -90,3 +124,4 @@ reads files (query building name windows) = then (reads_index files building) (�
 reads files (box searching) = then (reads_points searching.dims files searching.file) (λ coords.
     then (reads_script (ScriptKind.Region searching.dims) files searching.script) (λ lines.
     gives (tasks.Task.box searching.dims coords (regions_in lines))))
+reads files (replay replaying) = then (reads_script ScriptKind.Replay files replaying.script) (reads_history replaying.levels)

@@ -7,7 +7,7 @@ use Rattle.pgm_script.specs.declared.fault.ScriptFault.TheVariants as script
 use Rattle.pgm_script.specs.declared.fault.Why.{Why}
 use Rattle.pgm_script.specs.declared.fault.Why.TheVariants.{NotUtf8, Word, Number, Missing, Extra}
 use Rattle.pgmtool.specs.declared.refusal.Refusal.{Refusal}
-use Rattle.pgmtool.specs.declared.refusal.Refusal.TheVariants.{Usage, ReadFault, TooMany, Short, Unsorted, Trailing, Wide, TooLong, Script}
+use Rattle.pgmtool.specs.declared.refusal.Refusal.TheVariants.{Usage, ReadFault, TooMany, Short, Unsorted, Trailing, Wide, TooLong, Script, Full}
 use Rattle.pgmtool.specs.declared.status.Status.{Status}
 use Rattle.pgmtool.specs.declared.status.Status.TheVariants as ends
 use Rattle.written.specs.TextLines.{text_line}
@@ -18,6 +18,7 @@ status_of Usage = ends.Usage
 status_of ReadFault = ends.ReadFault
 status_of TooLong = ends.BadScript
 status_of (Script line why) = ends.BadScript
+status_of (Full asked room) = ends.Full
 status_of refusal = ends.BadKeys
 
 -- what is wrong with a line of a script, in a word
@@ -39,6 +40,7 @@ refusal_line (Unsorted at before key) =
 refusal_line (Trailing byte) = text_line (codes "fault" ∷ codes "keys" ∷ codes "trailing" ∷ decimal byte ∷ [])
 refusal_line TooLong = text_line (codes "fault" ∷ codes "script" ∷ codes "too" ∷ codes "long" ∷ [])
 refusal_line (Script line why) = text_line (codes "fault" ∷ codes "script" ∷ decimal line ∷ why_word why ∷ [])
+refusal_line (Full asked room) = text_line (codes "fault" ∷ codes "full" ∷ decimal asked ∷ decimal room ∷ [])
 refusal_line (Wide at value) = text_line (codes "fault" ∷ codes "keys" ∷ codes "wide" ∷ decimal at ∷ decimal value ∷ [])
 
 -- the refusal that tells a fault of a file's bytes; want of memory is no fault of theirs

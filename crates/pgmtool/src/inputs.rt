@@ -10,6 +10,7 @@ ghost use Rattle.pgmtool.specs.Inputs.{reads, reads_index, reads_keys, reads_scr
 ghost use Rattle.pgmtool.specs.Inputs.{questions_in, reads_points, regions_in};
 ghost use Rattle.pgmtool.specs.Stops.{Answers};
 
+use crate::history::history_in;
 use crate::refusal::{Refusal, Stopped};
 use command_line::{Building, Request};
 use commands::{Bounds, Search, SortedKeys, Table, Task, Workers};
@@ -87,6 +88,11 @@ pub fn read<F: Shelf>(alloc: Global, files: &mut F, request: Request<'_>) -> Res
                 regions,
             };
             Ok(Task::Box { search })
+        }
+        Request::Replay { replaying } => {
+            let lines = script_lines(alloc, files, replaying.script, ScriptKind::Replay)?;
+            let history = history_in(alloc, replaying, &lines)?;
+            Ok(Task::Replay { history })
         }
     }
 }
@@ -182,6 +188,8 @@ fn script_lines<F: Shelf>(
     requires { IsKind kind }
     ensures answer { Answers (reads_script kind (F.files files.old) name.now)
         (λ lines. lines.items) (F.faults files.old) (F.faults files.new) result }
+    ensures missing { IsMissing (F.files files.old) name.now
+        → result ≡ Err (Stopped.Refused Refusal.ReadFault) }
     ensures files { F.files files.new ≡ F.files files.old }
 {
     match files.take_file(name) {

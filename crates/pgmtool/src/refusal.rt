@@ -31,6 +31,8 @@ pub enum Refusal {
     TooLong,
     /// A line of a script has something wrong with it.
     Script { line: u64, why: Why },
+    /// The updates of a script have more entries than the map can accept.
+    Full { asked: u64, room: u64 },
 }
 
 /// Why a request's inputs weren't read.
@@ -56,6 +58,7 @@ impl Refusal {
             | Refusal::Trailing { .. }
             | Refusal::Wide { .. } => Status::BadKeys,
             Refusal::TooLong | Refusal::Script { .. } => Status::BadScript,
+            Refusal::Full { .. } => Status::Full,
         }
     }
 }
@@ -95,6 +98,10 @@ fn fill_line(line: &mut TextLine, refusal: Refusal)
         Refusal::Script { line: number, why } => {
             push_kind(line, b" script", number);
             push_why(line, why);
+        }
+        Refusal::Full { asked, room } => {
+            push_kind(line, b" full", asked);
+            line.push_number(room);
         }
     }
     line.push(b"\n");

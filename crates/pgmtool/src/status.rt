@@ -19,7 +19,7 @@ pub enum Status {
     BadKeys = 5,
     /// The script that was read isn't in the grammar, or is too long.
     BadScript = 6,
-    /// A script has more updates than the map can hold.
+    /// The updates of a script have more entries than the map can accept.
     Full = 7,
 }
 

@@ -11,6 +11,7 @@ mod explain;
 mod query;
 mod refusals;
 mod regions;
+mod replay;
 
 // A device of the tests: the call that fails, 0 for none, and the most bytes that one call moves.
 #[derive(Clone, Copy)]

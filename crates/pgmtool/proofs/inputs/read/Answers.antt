@@ -1,14 +1,21 @@
-use Rattle.std.proofs.Common.{◌≡◌, ◌∙◌, ◌*◌, ◌<◌, ℕ, List, Ok, ap, sym, subst, arith}
+use Rattle.std.proofs.Common.{◌≡◌, ◌∙◌, ◌*◌, ◌<◌, ℕ, List, Vec, Global, Ok, Err, ap, sym, subst, arith}
 use Rattle.zorder.specs.declared.regions.Region.{Region}
 use Rattle.zorder.specs.Codes.{IsDimension}
 use Rattle.pgm_script.specs.declared.script.ScriptKind.{ScriptKind}
 use Rattle.pgm_script.specs.declared.script.ScriptLine.{ScriptLine}
-use Rattle.command_line.specs.Requests.{Searching, searched_of}
-use Rattle.command_line.specs.Requests.Request.{box as search}
+use Rattle.command_line.specs.Requests.{Searching, built_of, searched_of, replayed_of}
+use Rattle.command_line.specs.Requests.Request.{box as search, query, replay}
+use Rattle.commands.specs.declared.task.History.{History}
+use Rattle.commands.specs.declared.task.Task.TheVariants as declared_task
+use Rattle.commands.specs.Histories.{replay_of}
+use Rattle.commands.specs.Tasks.{task_of}
+use Rattle.commands.specs.Tasks as tasks
 use Rattle.commands.specs.Tasks.Task.{box}
 use Rattle.commands.proofs.SearchLemmas.{count_is}
 use Rattle.pgmtool.specs.Files.{Files}
-use Rattle.pgmtool.specs.Inputs.{reads, reads_points, reads_script, regions_in}
+use Rattle.pgmtool.specs.Stops.{Answers}
+use Rattle.pgmtool.specs.Inputs.{reads, reads_index, reads_points, reads_script, reads_history, regions_in, questions_in, bounds_in, gives}
+use Rattle.pgmtool.proofs.InputLemmas.{then_goes_on, second_stops, stopped_alike, handed_on}
 use Rattle.pgmtool.proofs.inputs.read.Goals as goal
 
 -- the task of points and regions that were read
@@ -51,3 +58,65 @@ returns-in_ok-regions-in-Box-clause-answer g c =
       faulted = λ rose. absurd (omega (arith, rose, quiet));
       never_falls = omega (arith, quiet);
     }
+
+-- a script that stopped, behind what was read first
+pub returns-in_err-lines-in-Query-clause-answer : goal.returns-in_err-lines-in-Query-clause-answer
+returns-in_err-lines-in-Query-clause-answer g c =
+    let before = g.F.Shelf.faults c.args.files.now in
+    let middle = g.F.Shelf.faults c.index_keys-in-Query.new.files in
+    let after = g.F.Shelf.faults c.script_lines.new.files in
+    let files = g.F.Shelf.files c.args.files.now in
+    let building = built_of c.in-Query.building in
+    let name = c.in-Query.script.now in
+    let stopped = c.in_err-lines-in-Query.field-0.0 in
+    let one = c.in_ok-keys-in-Query.ensures in
+    let two = subst (λ (f : Files). Answers {B = Vec ScriptLine Global} (reads_script ScriptKind.Find f name) (λ lines. lines.items) middle after (Err stopped)) one.files c.in_err-lines-in-Query.ensures.answer in
+    rw c.in-Query.is (subst (Answers (reads files (query building name c.in-Query.windows)) task_of before after)
+    (sym (handed_on _ stopped c.from_residual-in_err-lines-in-Query.ensures.1))
+    (second_stops (reads_index files building) (λ keys. reads_script ScriptKind.Find files name)
+    (λ keys lines. gives (tasks.Task.query keys (bounds_in building) (questions_in lines) c.in-Query.windows)) (λ sorted. sorted.keys.items)
+    (λ (lines : Vec ScriptLine Global). lines.items) task_of before middle after c.in_ok-keys-in-Query.keys stopped one.answer two))
+
+pub returns-in_err-lines-in-Box-clause-answer : goal.returns-in_err-lines-in-Box-clause-answer
+returns-in_err-lines-in-Box-clause-answer g c =
+    let before = g.F.Shelf.faults c.args.files.now in
+    let middle = g.F.Shelf.faults c.coordinates.new.files in
+    let after = g.F.Shelf.faults c.script_lines-in-Box.new.files in
+    let files = g.F.Shelf.files c.args.files.now in
+    let searching = searched_of c.in-Box.searching in
+    let stopped = c.in_err-lines-in-Box.field-0.0 in
+    let one = c.in_ok-coords-in-Box.ensures in
+    let two = subst (λ (f : Files). Answers {B = Vec ScriptLine Global} (reads_script (ScriptKind.Region searching.dims) f searching.script) (λ lines. lines.items) middle after (Err stopped)) one.files c.in_err-lines-in-Box.ensures.answer in
+    rw c.in-Box.is (subst (Answers (reads files (search searching)) task_of before after)
+    (sym (handed_on _ stopped c.from_residual-in_err-lines-in-Box.ensures.1))
+    (second_stops (reads_points searching.dims files searching.file) (λ coords. reads_script (ScriptKind.Region searching.dims) files searching.script)
+    (λ coords lines. gives (tasks.Task.box searching.dims coords (regions_in lines))) (λ (coords : Vec ℕ Global). coords.items)
+    (λ (lines : Vec ScriptLine Global). lines.items) task_of before middle after c.in_ok-coords-in-Box.coords stopped one.answer two))
+
+-- what a script of updates and questions asks for
+pub returns-in_err-history-in-Replay-clause-answer : goal.returns-in_err-history-in-Replay-clause-answer
+returns-in_err-history-in-Replay-clause-answer g c =
+    let before = g.F.Shelf.faults c.args.files.now in
+    let after = g.F.Shelf.faults c.script_lines-in-Replay.new.files in
+    let files = g.F.Shelf.files c.args.files.now in
+    let replaying = replayed_of c.in-Replay.replaying in
+    let stopped = c.in_err-history-in-Replay.field-0.0 in
+    let two = subst (λ (lines : List ScriptLine). Answers {B = History} (reads_history replaying.levels lines) replay_of after after (Err stopped)) c.deref-in-Replay.ensures.value (c.in_err-history-in-Replay.ensures after) in
+    rw c.in-Replay.is (subst (Answers (reads files (replay replaying)) task_of before after)
+    (sym (handed_on _ stopped c.from_residual-in_err-history-in-Replay.ensures.1))
+    (then_goes_on (reads_script ScriptKind.Replay files replaying.script) (reads_history replaying.levels) (λ (lines : Vec ScriptLine Global). lines.items) task_of
+    before after after c.in_ok-lines-in-Replay.lines (Err stopped) c.in_ok-lines-in-Replay.ensures.answer
+    (stopped_alike (reads_history replaying.levels c.in_ok-lines-in-Replay.lines.items) replay_of task_of after after stopped two)))
+
+pub returns-in_ok-history-in-Replay-clause-answer : goal.returns-in_ok-history-in-Replay-clause-answer
+returns-in_ok-history-in-Replay-clause-answer g c =
+    let before = g.F.Shelf.faults c.args.files.now in
+    let after = g.F.Shelf.faults c.script_lines-in-Replay.new.files in
+    let files = g.F.Shelf.files c.args.files.now in
+    let replaying = replayed_of c.in-Replay.replaying in
+    let history = c.in_ok-history-in-Replay.history in
+    let two = subst (λ (lines : List ScriptLine). Answers {B = History} (reads_history replaying.levels lines) replay_of after after (Ok history)) c.deref-in-Replay.ensures.value (c.in_ok-history-in-Replay.ensures after) in
+    rw c.in-Replay.is
+    (then_goes_on (reads_script ScriptKind.Replay files replaying.script) (reads_history replaying.levels) (λ (lines : Vec ScriptLine Global). lines.items) task_of
+    before after after c.in_ok-lines-in-Replay.lines (Ok (declared_task.Replay history)) c.in_ok-lines-in-Replay.ensures.answer
+    (record { ok = two.ok; unfaulted = two.unfaulted; stopped = tt; faulted = λ rose. absurd (omega (arith, rose)); never_falls = two.never_falls }))

@@ -1,0 +1,154 @@
+// What a script of updates and questions asks for.
+ghost use Rattle.std.specs.Prelude.{◌≡◌, ◌++◌, ◌∷◌, ◌≤◌, [], ℕ, List, All, length};
+ghost use Rattle.std.specs.Prelude.{IfOk, IsTrue, IsFalse, OnOk};
+ghost use Rattle.command_line.specs.Requests.{replayed_of};
+ghost use Rattle.log_levels.specs.declared.update.Update.{Update};
+ghost use Rattle.log_levels.specs.Accepted.{IsPlain, entries_of};
+ghost use Rattle.log_levels.specs.Shapes.{StandsFor, capacity_of};
+ghost use Rattle.commands.specs.Histories.{replay_of};
+ghost use Rattle.pgmtool.specs.Inputs.{all_asked_in, reads_history, room_of, updates_in};
+ghost use Rattle.pgmtool.specs.Stops.{Answers};
+
+use crate::refusal::{Refusal, Stopped};
+use command_line::Replaying;
+use commands::{History, Question, Workers};
+use log_levels::{LogMap, Update};
+use pgm_script::ScriptLine;
+use std::alloc::{AllocError, Global};
+
+/// The greatest map, which judges how many entries the updates of a script have.
+const MOST_LEVELS: u32 = 26;
+
+/// The updates and the questions of a script.
+///
+/// # Errors
+///
+/// `Full` where the updates have more entries than the map can accept, and `NoMemory`.
+pub fn history_in(
+    alloc: Global,
+    replaying: Replaying<'_>,
+    lines: &[ScriptLine],
+) -> Result<History, Stopped>
+    ensures { (faults : ℕ) → Answers (reads_history replaying.entry.levels lines.now) replay_of
+        faults faults result }
+{
+    let updates = updates_in(alloc, lines)?;
+    let questions = all_asked_in(alloc, lines)?;
+    let asked = entry_count(alloc, &updates)?;
+    let room = room_of(replaying.levels);
+    if room < asked {
+        return Err(Stopped::Refused(Refusal::Full { asked, room }));
+    }
+    let workers = Workers {
+        count: replaying.workers,
+    };
+    Ok(History {
+        levels: replaying.levels,
+        workers,
+        updates,
+        questions,
+    })
+}
+
+// How many entries a map of so many levels can accept.
+fn room_of(levels: u32) -> u64
+    requires { levels ≤ 26 }
+    ensures { result ≡ room_of levels }
+{
+    (64 << levels) - 1
+}
+
+// The updates of a script.
+fn updates_in(alloc: Global, lines: &[ScriptLine]) -> Result<Vec<Update>, AllocError>
+    ensures { IfOk result (λ updates. updates.items ≡ updates_in lines.now) }
+{
+    let mut updates = Vec::with_capacity(alloc, lines.len())?;
+    for i in 0..lines.len() {
+        push_update(&mut updates, &lines[i])?;
+    }
+    Ok(updates)
+}
+
+fn push_update(updates: &mut Vec<Update>, line: &ScriptLine) -> Result<(), AllocError>
+    ensures { OnOk result (updates.new.items ≡ updates.old.items ++ updates_in (line.now ∷ [])) }
+{
+    match line {
+        ScriptLine::Put(key, value) => updates.push(Update::Put(*key, *value))?,
+        ScriptLine::Del(key) => updates.push(Update::Del(*key))?,
+        ScriptLine::Sweep(low, high) => updates.push(Update::Sweep(*low, *high))?,
+        _ => {}
+    }
+    Ok(())
+}
+
+// The questions to a map of a script.
+fn all_asked_in(alloc: Global, lines: &[ScriptLine]) -> Result<Vec<Question>, AllocError>
+    ensures { IfOk result (λ questions. questions.items ≡ all_asked_in lines.now) }
+{
+    let mut questions = Vec::with_capacity(alloc, lines.len())?;
+    for i in 0..lines.len() {
+        push_asked(&mut questions, &lines[i])?;
+    }
+    Ok(questions)
+}
+
+fn push_asked(questions: &mut Vec<Question>, line: &ScriptLine) -> Result<(), AllocError>
+    ensures { OnOk result
+        (questions.new.items ≡ questions.old.items ++ all_asked_in (line.now ∷ [])) }
+{
+    match line {
+        ScriptLine::Get(key) => questions.push(Question::Get(*key))?,
+        ScriptLine::Next(from) => questions.push(Question::Next(*from))?,
+        ScriptLine::Count(low, high) => questions.push(Question::Count(*low, *high))?,
+        _ => {}
+    }
+    Ok(())
+}
+
+// How many entries the updates have.
+//
+// A sweep has one for each key that it takes away, so the updates are made to the greatest map. No
+// script is long enough to fill it: a put is swept away once at most.
+fn entry_count(alloc: Global, updates: &[Update]) -> Result<u64, AllocError>
+    ensures { IfOk result (λ count. count ≡ length (entries_of updates.now)) }
+{
+    if are_plain(updates) {
+        return Ok(updates.len() as u64);
+    }
+    let mut map = LogMap::new(alloc, MOST_LEVELS)?;
+    for i in 0..updates.len() {
+        accept(alloc, &mut map, updates[i])?;
+    }
+    Ok(map.accepted())
+}
+
+// Makes an update to the map.
+fn accept(alloc: Global, map: &mut LogMap, update: Update) -> Result<(), AllocError>
+    ensures { OnOk result ((before : List Update) → StandsFor map.old before →
+        StandsFor map.new (before ++ update ∷ [])) }
+{
+    let accepted = match update {
+        Update::Put(key, value) => map.put(alloc, key, value).is_ok(),
+        Update::Del(key) => map.del(alloc, key).is_ok(),
+        Update::Sweep(low, high) => map.sweep(alloc, low, high).is_ok(),
+    };
+    if accepted { Ok(()) } else { Err(AllocError) }
+}
+
+// Whether no update is a sweep.
+fn are_plain(updates: &[Update]) -> bool
+    ensures { IsTrue result → All IsPlain updates.now }
+{
+    for i in 0..updates.len() {
+        if is_sweep(updates[i]) {
+            return false;
+        }
+    }
+    true
+}
+
+fn is_sweep(update: Update) -> bool
+    ensures { IsFalse result → IsPlain update }
+{
+    matches!(update, Update::Sweep(_, _))
+}
