@@ -10,13 +10,17 @@ use Rattle.exact_cross.specs.declared.TheConstants.{MAX_EPSILON}
 abbrev pub positional : Text → Rule
 positional name = record (new_rule name) { required = true }
 
+-- a number from `low` to `high`
+abbrev pub ranged : Text → (low high : ℕ) → Rule
+ranged name low high = record (new_rule name) { parser = Some (parser.Signed (pos low) (pos high)) }
+
+-- one that has to be given
+abbrev pub positional_number : Text → (low high : ℕ) → Rule
+positional_number name low high = record (ranged name low high) { required = true }
+
 -- `--NAME N`, with N from `low` to `high`, and `default` where it isn't given
 abbrev pub number : Text → (low high : ℕ) → Text → Rule
-number name low high default = record (new_rule name) {
-  long = Some name;
-  parser = Some (parser.Signed (pos low) (pos high));
-  defaults = default ∷ [];
-}
+number name low high default = record (ranged name low high) { long = Some name; defaults = default ∷ [] }
 
 -- `--NAME`, given or not
 abbrev pub flag : Text → Rule
@@ -26,11 +30,14 @@ flag name = record (new_rule name) { long = Some name; action = Some SetTrue }
 abbrev pub command : Text → List Rule → Shape
 command name rules = record (new_shape name) { rules = rules }
 
--- how an index is built, of a key file
-abbrev pub index_rules : List Rule
-index_rules = positional (codes "FILE") ∷ number (codes "eps") 0 MAX_EPSILON (codes "64")
-    ∷ number (codes "rec") 0 MAX_EPSILON (codes "4")
+-- how an index is built
+abbrev pub bounds_rules : List Rule
+bounds_rules = number (codes "eps") 0 MAX_EPSILON (codes "64") ∷ number (codes "rec") 0 MAX_EPSILON (codes "4")
     ∷ number (codes "workers") 1 64 (codes "4") ∷ []
+
+-- of a key file
+abbrev pub index_rules : List Rule
+index_rules = positional (codes "FILE") ∷ bounds_rules
 
 -- and how wide its keys are
 abbrev pub build_rules : List Rule
@@ -50,10 +57,30 @@ abbrev pub replay_rules : List Rule
 replay_rules = positional (codes "SCRIPT") ∷ number (codes "levels") 1 26 (codes "20")
     ∷ number (codes "batch") 1 65536 (codes "16") ∷ number (codes "workers") 1 64 (codes "4") ∷ []
 
+-- how many inputs are drawn of each kind, and a seed
+abbrev pub drawn_rules : List Rule
+drawn_rules = positional_number (codes "N") 1 1000000 ∷ positional_number (codes "SEED") 0 2147483647 ∷ []
+
+-- and how an index is built
+abbrev pub drill_rules : List Rule
+drill_rules = drawn_rules ++ bounds_rules
+
 abbrev pub commands : List Shape
 commands = command (codes "build") build_rules ∷ command (codes "explain") build_rules
     ∷ command (codes "query") query_rules ∷ command (codes "box") box_rules
-    ∷ command (codes "replay") replay_rules ∷ []
+    ∷ command (codes "replay") replay_rules ∷ command (codes "drill") drill_rules ∷ []
+
+-- the program before its commands. No public clause cites it
+abbrev pub bare_program : App
+bare_program = record {
+  top = record (new_shape (codes "pgmtool")) {
+    disable_help_flag = true;
+    disable_help_subcommand = true;
+    disable_version_flag = true;
+    subcommand_required = true;
+  };
+  subs = [];
+}
 
 -- the program: one of its commands has to be given, and it tells no help and no version
 abbrev pub application : App

@@ -45,6 +45,14 @@ pub record AreReplayOptions (rows : List Row) : Type 0 where
   pub batch : IsNumberIn 1 65536 (codes "batch") rows
   pub workers : IsNumberIn 1 64 (codes "workers") rows
 
+-- what the numbers of a drill hold, and how its index is built
+pub record AreDrillOptions (rows : List Row) : Type 0 where
+  pub number : IsNumberIn 1 1000000 (codes "N") rows
+  pub seed : IsNumberIn 0 2147483647 (codes "SEED") rows
+  pub eps : IsNumberIn 0 MAX_EPSILON (codes "eps") rows
+  pub eps_rec : IsNumberIn 0 MAX_EPSILON (codes "rec") rows
+  pub workers : IsNumberIn 1 64 (codes "workers") rows
+
 -- what the options of an index hold
 pub record AreIndexOptions (rows : List Row) : Type 0 where
   pub eps : IsNumberIn 0 MAX_EPSILON (codes "eps") rows

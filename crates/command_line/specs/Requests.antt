@@ -6,6 +6,7 @@ use Rattle.clap.specs.Words.{Text, Row, first_of, one_of}
 use Rattle.command_line.specs.declared.request.Building as declared_building
 use Rattle.command_line.specs.declared.request.Searching as declared_searching
 use Rattle.command_line.specs.declared.request.Replaying as declared_replaying
+use Rattle.command_line.specs.declared.request.Drilling as declared_drilling
 use Rattle.command_line.specs.declared.request.Request as declared
 use Rattle.command_line.specs.declared.request.Request.TheVariants as variant
 
@@ -27,6 +28,13 @@ pub record Replaying : Type 0 where
   pub script : Text
   pub levels : ℕ
 
+-- how many inputs are drawn of each kind, the seed, and how an index of the keys is built
+pub record Drilling : Type 0 where
+  pub number : ℕ
+  pub seed : ℕ
+  pub eps : ℕ
+  pub eps_rec : ℕ
+
 -- each command, with the names of its files and its options; the table of a query isn't told, since no answer depends on it
 pub data Request : Type 0 where
   build : (building : Building) → Request
@@ -34,6 +42,7 @@ pub data Request : Type 0 where
   query : (building : Building) (script : Text) (windows : Bool) → Request
   box : (searching : Searching) → Request
   replay : (replaying : Replaying) → Request
+  drill : (drilling : Drilling) → Request
 
 -- the number that an option has, or else its default; the name; and whether a flag is given
 abbrev pub number_in : Text → ℕ → List Row → ℕ
@@ -66,6 +75,14 @@ searching_of rows = record {
 abbrev pub replaying_of : List Row → Replaying
 replaying_of rows = record { script = name_in (codes "SCRIPT") rows; levels = number_in (codes "levels") 20 rows }
 
+abbrev pub drilling_of : List Row → Drilling
+drilling_of rows = record {
+  number = number_in (codes "N") 1 rows;
+  seed = number_in (codes "SEED") 0 rows;
+  eps = number_in (codes "eps") 64 rows;
+  eps_rec = number_in (codes "rec") 4 rows;
+}
+
 -- what a command asks for, by what was found for its arguments
 abbrev pub request_for : Text → List Row → Option Request
 request_for name rows =
@@ -73,7 +90,8 @@ request_for name rows =
     else (if bytes_eq name (codes "explain") then Some (explain (building_of rows))
     else (if bytes_eq name (codes "query") then Some (query_of rows)
     else (if bytes_eq name (codes "box") then Some (box (searching_of rows))
-    else (if bytes_eq name (codes "replay") then Some (replay (replaying_of rows)) else None))))
+    else (if bytes_eq name (codes "replay") then Some (replay (replaying_of rows))
+    else (if bytes_eq name (codes "drill") then Some (drill (drilling_of rows)) else None)))))
 
 -- the request that the program's own type stands for
 abbrev pub built_of : declared_building.Building → Building
@@ -85,17 +103,22 @@ searched_of s = record { file = s.file.now; script = s.script.now; dims = s.dims
 abbrev pub replayed_of : declared_replaying.Replaying → Replaying
 replayed_of r = record { script = r.script.now; levels = r.levels }
 
+abbrev pub drilled_of : declared_drilling.Drilling → Drilling
+drilled_of d = record { number = d.number; seed = d.seed; eps = d.eps; eps_rec = d.eps_rec }
+
 abbrev pub asked_of : declared.Request → Request
 asked_of (variant.Build building) = build (built_of building)
 asked_of (variant.Explain building) = explain (built_of building)
 asked_of (variant.Query building script windows table) = query (built_of building) script.now windows
 asked_of (variant.Box searching) = box (searched_of searching)
 asked_of (variant.Replay replaying) = replay (replayed_of replaying)
+asked_of (variant.Drill drilling) = drill (drilled_of drilling)
 
--- the file that is read first
-abbrev pub first_file : Request → Text
-first_file (build building) = building.file
-first_file (explain building) = building.file
-first_file (query building script windows) = building.file
-first_file (box searching) = searching.file
-first_file (replay replaying) = replaying.script
+-- the file that is read first, if one is read
+abbrev pub first_file : Request → Option Text
+first_file (build building) = Some building.file
+first_file (explain building) = Some building.file
+first_file (query building script windows) = Some building.file
+first_file (box searching) = Some searching.file
+first_file (replay replaying) = Some replaying.script
+first_file (drill drilling) = None

@@ -5,6 +5,9 @@ ghost use Rattle.clap.specs.declared.builder.command.Command.TheViews.{out-Comma
 ghost use Rattle.command_line.specs.Application.{application, build_rules, index_rules};
 ghost use Rattle.command_line.specs.Application.{query_rules, box_rules, replay_rules, command};
 ghost use Rattle.command_line.specs.Application.{flag, number, positional};
+ghost use Rattle.command_line.specs.Application.{bare_program, drawn_rules, drill_rules};
+ghost use Rattle.command_line.specs.Application.{positional_number, ranged};
+ghost use Rattle.exact_cross.specs.declared.TheConstants.{MAX_EPSILON};
 
 use clap::{Arg, ArgAction, Command, value_parser};
 use exact_cross::MAX_EPSILON;
@@ -16,20 +19,34 @@ const MOST_WORKERS: u32 = 64;
 /// How many bits of a key a table goes by at most.
 const MOST_BITS: u32 = 20;
 
+/// How many inputs of each kind a drill draws at most.
+const MOST_DRAWN: u32 = 1_000_000;
+
+/// The greatest seed of a drill.
+const GREATEST_SEED: u32 = 0x7fff_ffff;
+
 /// The program and its commands.
 pub fn application<'a>(alloc: Global) -> Result<Command<'a>, AllocError>
     ensures { IfOk result (λ program. app_of program ≡ application) }
+{
+    bare_program(alloc)
+        .subcommand(index_command(alloc, "build")?)?
+        .subcommand(index_command(alloc, "explain")?)?
+        .subcommand(query_command(alloc)?)?
+        .subcommand(box_command(alloc)?)?
+        .subcommand(replay_command(alloc)?)?
+        .subcommand(drill_command(alloc)?)
+}
+
+// The program before its commands.
+fn bare_program<'a>(alloc: Global) -> Command<'a>
+    ensures { app_of result ≡ bare_program }
 {
     Command::new(alloc, "pgmtool")
         .disable_help_flag(true)
         .disable_help_subcommand(true)
         .disable_version_flag(true)
         .subcommand_required(true)
-        .subcommand(index_command(alloc, "build")?)?
-        .subcommand(index_command(alloc, "explain")?)?
-        .subcommand(query_command(alloc)?)?
-        .subcommand(box_command(alloc)?)?
-        .subcommand(replay_command(alloc)?)
 }
 
 // A command over the index of a key file.
@@ -49,9 +66,9 @@ fn counted_command<'a>(alloc: Global, name: &'a str) -> Result<Command<'a>, Allo
 {
     Command::new(alloc, name)
         .arg(positional(alloc, "FILE"))?
-        .arg(number(alloc, "eps", 0, MAX_EPSILON, "64"))?
-        .arg(number(alloc, "rec", 0, MAX_EPSILON, "4"))?
-        .arg(number(alloc, "workers", 1, MOST_WORKERS, "4"))
+        .arg(eps(alloc))?
+        .arg(eps_rec(alloc))?
+        .arg(workers(alloc))
 }
 
 fn query_command<'a>(alloc: Global) -> Result<Command<'a>, AllocError>
@@ -85,7 +102,61 @@ fn replay_command<'a>(alloc: Global) -> Result<Command<'a>, AllocError>
         .arg(positional(alloc, "SCRIPT"))?
         .arg(number(alloc, "levels", 1, 26, "20"))?
         .arg(number(alloc, "batch", 1, 65_536, "16"))?
-        .arg(number(alloc, "workers", 1, MOST_WORKERS, "4"))
+        .arg(workers(alloc))
+}
+
+fn drill_command<'a>(alloc: Global) -> Result<Command<'a>, AllocError>
+    ensures shape { IfOk result
+        (λ made. app_of made ≡ record { top = command (codes "drill") drill_rules; subs = [] }) }
+    ensures local { IfOk result (λ made. (out-Command made).has_globals ≡ false) }
+{
+    drawn_command(alloc)?
+        .arg(eps(alloc))?
+        .arg(eps_rec(alloc))?
+        .arg(workers(alloc))
+}
+
+// The same without its options.
+fn drawn_command<'a>(alloc: Global) -> Result<Command<'a>, AllocError>
+    ensures shape { IfOk result
+        (λ made. app_of made ≡ record { top = command (codes "drill") drawn_rules; subs = [] }) }
+    ensures local { IfOk result (λ made. (out-Command made).has_globals ≡ false) }
+{
+    Command::new(alloc, "drill")
+        .arg(positional_number(alloc, "N", 1, MOST_DRAWN))?
+        .arg(positional_number(alloc, "SEED", 0, GREATEST_SEED))
+}
+
+// `--eps N`, the error bound of level 0.
+fn eps<'a>(alloc: Global) -> Arg<'a>
+    ensures rule { rule_of result ≡ number (codes "eps") 0 MAX_EPSILON (codes "64") }
+    ensures local { result.global ≡ false }
+{
+    number(alloc, "eps", 0, MAX_EPSILON, "64")
+}
+
+// `--rec N`, that of the levels above.
+fn eps_rec<'a>(alloc: Global) -> Arg<'a>
+    ensures rule { rule_of result ≡ number (codes "rec") 0 MAX_EPSILON (codes "4") }
+    ensures local { result.global ≡ false }
+{
+    number(alloc, "rec", 0, MAX_EPSILON, "4")
+}
+
+// `--workers N`.
+fn workers<'a>(alloc: Global) -> Arg<'a>
+    ensures rule { rule_of result ≡ number (codes "workers") 1 64 (codes "4") }
+    ensures local { result.global ≡ false }
+{
+    number(alloc, "workers", 1, MOST_WORKERS, "4")
+}
+
+// A number that has to be given, from `least` to `most`.
+fn positional_number<'a>(alloc: Global, name: &'a str, least: u32, most: u32) -> Arg<'a>
+    ensures rule { rule_of result ≡ positional_number name.entry.now least most }
+    ensures local { result.global ≡ false }
+{
+    ranged(alloc, name, least, most).required(true)
 }
 
 // A name that has to be given.
@@ -101,10 +172,17 @@ fn number<'a>(alloc: Global, name: &'a str, least: u32, most: u32, default: &'a 
     ensures rule { rule_of result ≡ number name.entry.now least most default.entry.now }
     ensures local { result.global ≡ false }
 {
-    Arg::new(alloc, name)
+    ranged(alloc, name, least, most)
         .long(name)
-        .value_parser(value_parser!(u32).range(i64::from(least)..=i64::from(most)))
         .default_value(default)
+}
+
+// A number from `least` to `most`.
+fn ranged<'a>(alloc: Global, name: &'a str, least: u32, most: u32) -> Arg<'a>
+    ensures rule { rule_of result ≡ ranged name.entry.now least most }
+    ensures local { result.global ≡ false }
+{
+    Arg::new(alloc, name).value_parser(value_parser!(u32).range(i64::from(least)..=i64::from(most)))
 }
 
 // `--NAME`, given or not.

@@ -14,5 +14,5 @@ mod request;
 mod tests;
 mod words;
 
-pub use request::{Building, Replaying, Request, Searching, Table};
+pub use request::{Building, Drilling, Replaying, Request, Searching, Table};
 pub use words::{NoRequest, requested, taken_words_ask};

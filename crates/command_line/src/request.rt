@@ -1,5 +1,5 @@
 // What the words ask for.
-ghost use Rattle.std.specs.Prelude.{◌≤◌};
+ghost use Rattle.std.specs.Prelude.{◌<◌, ◌≤◌, ◌^◌};
 ghost use Rattle.exact_cross.specs.declared.TheConstants.{MAX_EPSILON};
 
 /// A key file, and how its index is built.
@@ -61,6 +61,28 @@ pub struct Replaying<'a> {
     pub ghost few_workers: { workers ≤ 64 },
 }
 
+/// How many inputs of each kind are drawn, and how an index of the keys is built.
+#[derive(Clone, Copy, Debug)]
+pub struct Drilling {
+    /// How many inputs there are of each kind, from 1 to 1,000,000.
+    pub number: u32,
+    /// The seed, below 2^31.
+    pub seed: u32,
+    /// The error bound `ε` of level 0, in ranks.
+    pub eps: u32,
+    /// The error bound `ε'` of the levels above, in ranks.
+    pub eps_rec: u32,
+    /// How many workers build the index, which no answer depends on.
+    pub workers: u32,
+    pub ghost some: { 1 ≤ number },
+    pub ghost few: { number ≤ 1000000 },
+    pub ghost below: { seed < 2 ^ 31 },
+    pub ghost bounded: { eps ≤ MAX_EPSILON },
+    pub ghost bounded_above: { eps_rec ≤ MAX_EPSILON },
+    pub ghost staffed: { 1 ≤ workers },
+    pub ghost few_workers: { workers ≤ 64 },
+}
+
 /// A command, with the names of its files and its options.
 #[derive(Clone, Copy, Debug)]
 pub enum Request<'a> {
@@ -89,5 +111,9 @@ pub enum Request<'a> {
     /// Write what the questions of a script get after all its updates.
     Replay {
         replaying: Replaying<'a>,
+    },
+    /// Write what is counted of inputs of every kind that are drawn.
+    Drill {
+        drilling: Drilling,
     },
 }

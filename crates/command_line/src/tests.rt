@@ -1,5 +1,5 @@
 // What no clause says: word lists and what they ask for, and that requests come at all.
-use crate::{Building, NoRequest, Request, requested};
+use crate::{Building, Drilling, NoRequest, Request, requested};
 use std::process::Abort;
 use std::test::Fail;
 
@@ -111,7 +111,7 @@ struct Refused {
     words: &'static [&'static str],
 }
 
-const REFUSED: [Refused; 45] = [
+const REFUSED: [Refused; 54] = [
     Refused {
         name: "no command",
         words: &[],
@@ -257,6 +257,42 @@ const REFUSED: [Refused; 45] = [
         words: &["build", "keys", "--buckets", "4"],
     },
     Refused {
+        name: "a drill of no number",
+        words: &["drill"],
+    },
+    Refused {
+        name: "a drill without a seed",
+        words: &["drill", "2"],
+    },
+    Refused {
+        name: "a drill of nothing",
+        words: &["drill", "0", "1"],
+    },
+    Refused {
+        name: "a drill of too many",
+        words: &["drill", "1000001", "1"],
+    },
+    Refused {
+        name: "a seed past its range",
+        words: &["drill", "2", "2147483648"],
+    },
+    Refused {
+        name: "a seed below its range",
+        words: &["drill", "2", "-1"],
+    },
+    Refused {
+        name: "a seed that is no number",
+        words: &["drill", "2", "one"],
+    },
+    Refused {
+        name: "a drill of a file",
+        words: &["drill", "2", "1", "keys"],
+    },
+    Refused {
+        name: "narrow keys that are drawn",
+        words: &["drill", "2", "1", "--narrow"],
+    },
+    Refused {
         name: "help as a command",
         words: &["help"],
     },
@@ -324,6 +360,27 @@ const REPLAYS: [(&[&str], (u32, u32, u32)); 4] = [
     ),
 ];
 
+// Drills, and what they ask for: how many inputs, the seed, the two error bounds and the workers.
+const DRILLS: [(&[&str], (u32, u32, u32, u32, u32)); 5] = [
+    (&["drill", "2", "1"], (2, 1, 64, 4, 4)),
+    (
+        &["drill", "1", "0", "--eps", "0", "--rec", "0"],
+        (1, 0, 0, 0, 4),
+    ),
+    (
+        &["drill", "--workers=64", "1000000", "2147483647"],
+        (1_000_000, 2_147_483_647, 64, 4, 64),
+    ),
+    (
+        &["drill", "+07", "--rec=1048576", "--", "009"],
+        (7, 9, 64, 1_048_576, 4),
+    ),
+    (
+        &["drill", "1000", "7", "--eps=1048576", "--workers", "1"],
+        (1000, 7, 1_048_576, 4, 1),
+    ),
+];
+
 // The words as a program gets them.
 fn words_of<R: AllocGlobal>(rt: &R, words: &[&str]) -> Result<Vec<String>, Fail> {
     let mut all = Vec::new(rt.alloc());
@@ -340,7 +397,7 @@ fn is_asked(request: Request<'_>, asks: Asked) -> bool {
         Request::Build { building } => asks.command == "build" && is_index(building, asks),
         Request::Explain { building } => asks.command == "explain" && is_index(building, asks),
         Request::Query { building, .. } => asks.command == "query" && is_index(building, asks),
-        Request::Box { .. } | Request::Replay { .. } => false,
+        Request::Box { .. } | Request::Replay { .. } | Request::Drill { .. } => false,
     }
 }
 
@@ -415,6 +472,26 @@ fn replays_have_a_script(rt: HostRuntime) -> Result<(), Fail> {
         };
         let options = (replaying.levels, replaying.batch, replaying.workers);
         assert_eq!(rt; (replaying.script, options), ("script", asks));
+    }
+    Ok(())
+}
+
+#[test]
+fn drills_have_a_number_and_a_seed(rt: HostRuntime) -> Result<(), Fail> {
+    for (words, asked) in DRILLS {
+        let words = words_of(&rt, words)?;
+        let Request::Drill { drilling } = requested(rt.alloc(), &words)? else {
+            return Err(Fail::from("no drill"));
+        };
+        let Drilling {
+            number,
+            seed,
+            eps,
+            eps_rec,
+            workers,
+            ..
+        } = drilling;
+        assert_eq!(rt; (number, seed, eps, eps_rec, workers), asked);
     }
     Ok(())
 }

@@ -11,9 +11,11 @@ ghost use Rattle.command_line.specs.Requests.{searching_of, replayed_of, replayi
 ghost use Rattle.command_line.specs.Words.{AreRefused, AreTaken, AskFor, request_of};
 ghost use Rattle.command_line.specs.Passed.{AreIndexOptions, AreQueryOptions, AreReplayOptions};
 ghost use Rattle.command_line.specs.Passed.{IsDimensionOption, IsFlag, IsNumberIn};
+ghost use Rattle.command_line.specs.Passed.{AreDrillOptions};
+ghost use Rattle.command_line.specs.Requests.{drilled_of, drilling_of};
 
 use crate::definition::application;
-use crate::request::{Building, Replaying, Request, Searching, Table};
+use crate::request::{Building, Drilling, Replaying, Request, Searching, Table};
 use clap::ArgMatches;
 use clap::error::ErrorKind;
 use std::alloc::{AllocError, Global};
@@ -80,6 +82,9 @@ fn request_in<'a>(matches: &ArgMatches<'a>) -> Option<Request<'a>>
     } else if name == "replay" {
         let replaying = replaying_in(found);
         Some(Request::Replay { replaying })
+    } else if name == "drill" {
+        let drilling = drilling_in(found);
+        Some(Request::Drill { drilling })
     } else {
         None
     }
@@ -113,9 +118,9 @@ fn building_in<'a>(found: &ArgMatches<'a>) -> Building<'a>
     Building {
         file: name_in(found, "FILE"),
         narrow: is_given(found, "narrow"),
-        eps: number_in(found, "eps", 64),
-        eps_rec: number_in(found, "rec", 4),
-        workers: number_in(found, "workers", 4),
+        eps: eps_in(found),
+        eps_rec: eps_rec_in(found),
+        workers: workers_in(found),
     }
 }
 
@@ -140,6 +145,46 @@ fn replaying_in<'a>(found: &ArgMatches<'a>) -> Replaying<'a>
         batch: number_in(found, "batch", 16),
         workers: number_in(found, "workers", 4),
     }
+}
+
+fn drilling_in(found: &ArgMatches<'_>) -> Drilling
+    requires { AreDrillOptions (rows_of (found_of found.now)) }
+    ensures { drilled_of result ≡ drilling_of (rows_of (found_of found.now)) }
+{
+    Drilling {
+        number: number_in(found, "N", 1),
+        seed: number_in(found, "SEED", 0),
+        eps: eps_in(found),
+        eps_rec: eps_rec_in(found),
+        workers: workers_in(found),
+    }
+}
+
+// The error bound of level 0.
+fn eps_in(found: &ArgMatches<'_>) -> u32
+    requires { IsNumberIn 0 MAX_EPSILON (codes "eps") (rows_of (found_of found.now)) }
+    ensures value { result ≡ number_in (codes "eps") 64 (rows_of (found_of found.now)) }
+    ensures bounded { result ≤ MAX_EPSILON }
+{
+    number_in(found, "eps", 64)
+}
+
+// That of the levels above.
+fn eps_rec_in(found: &ArgMatches<'_>) -> u32
+    requires { IsNumberIn 0 MAX_EPSILON (codes "rec") (rows_of (found_of found.now)) }
+    ensures value { result ≡ number_in (codes "rec") 4 (rows_of (found_of found.now)) }
+    ensures bounded { result ≤ MAX_EPSILON }
+{
+    number_in(found, "rec", 4)
+}
+
+// How many workers build an index.
+fn workers_in(found: &ArgMatches<'_>) -> u32
+    requires { IsNumberIn 1 64 (codes "workers") (rows_of (found_of found.now)) }
+    ensures some { 1 ≤ result }
+    ensures few { result ≤ 64 }
+{
+    number_in(found, "workers", 4)
 }
 
 // The name that was given.

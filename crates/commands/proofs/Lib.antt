@@ -5,3 +5,4 @@ pub mod AnswerTexts
 pub mod PieceLemmas
 pub mod SearchLemmas
 pub mod WritingLemmas
+pub mod OneDrill

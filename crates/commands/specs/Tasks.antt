@@ -19,6 +19,7 @@ pub data Task : Type 0 where
   query : (keys : List ℕ) (bounds : Bounds) (questions : List ℕ) (windows : Bool) → Task
   box : (d : ℕ) (coords : List ℕ) (regions : List Region) → Task
   replay : (updates : List Update) (questions : List Question) → Task
+  drill : (n seed : ℕ) (bounds : Bounds) → Task
 
 -- the task that the program's own type stands for
 abbrev pub bounds_of : declared_bounds.Bounds → Bounds
@@ -31,3 +32,4 @@ task_of (variant.Query keys bounds workers questions windows table) =
     query keys.keys.items (bounds_of bounds) questions.items windows
 task_of (variant.Box search) = box search.dims search.coords.items search.regions.items
 task_of (variant.Replay history) = replay history.updates.items history.questions.items
+task_of (variant.Drill d bounds workers) = drill d.number d.seed (bounds_of bounds)

@@ -1,12 +1,13 @@
 -- The text of each task.
 use Rattle.std.specs.Prelude.{ℕ, List}
 use Rattle.commands.specs.Tasks.{Task}
-use Rattle.commands.specs.Tasks.Task.{build, explain, query, box, replay}
+use Rattle.commands.specs.Tasks.Task.{build, explain, query, box, replay, drill}
 use Rattle.commands.specs.Texts.Build.{IsBuilt}
 use Rattle.commands.specs.Texts.Explain.{IsExplained}
 use Rattle.commands.specs.Texts.Query.{IsAnswered}
 use Rattle.commands.specs.Texts.Regions.{IsSearched}
 use Rattle.commands.specs.Texts.Replay.{IsReplayed}
+use Rattle.commands.specs.Texts.Drill.{IsDrilled}
 pub mod InTurn
 pub mod Indexing
 pub mod Build
@@ -14,6 +15,7 @@ pub mod Explain
 pub mod Query
 pub mod Regions
 pub mod Replay
+pub mod Drill
 
 -- one equation for each command
 abbrev pub IsText : Task → List (List ℕ) → Type 0
@@ -22,3 +24,4 @@ IsText (explain keys bounds) pieces = IsExplained keys bounds pieces
 IsText (query keys bounds questions windows) pieces = IsAnswered keys bounds questions windows pieces
 IsText (box d coords regions) pieces = IsSearched d coords regions pieces
 IsText (replay updates questions) pieces = IsReplayed updates questions pieces
+IsText (drill n seed bounds) pieces = IsDrilled n seed bounds pieces

@@ -17,6 +17,7 @@ ghost use Rattle.commands.specs.Tasks.{task_of};
 ghost use Rattle.commands.specs.Texts.{IsText};
 
 mod build;
+mod drill;
 mod explain;
 mod finder;
 mod indexing;
@@ -26,11 +27,12 @@ mod regions;
 mod replay;
 mod task;
 
+pub use drill::one_drill;
 use edge::{Gate, Sink};
+pub use log_levels::Update;
 use std::alloc::Global;
 use std::thread::Threads;
-pub use log_levels::Update;
-pub use task::{Bounds, History, Question, Search, SortedKeys, Table, Task, Workers};
+pub use task::{Bounds, Drill, History, Question, Search, SortedKeys, Table, Task, Workers};
 use written::Unfinished;
 
 /// Writes the text of the task. An index is built by workers, which pass the gate before and after
@@ -67,5 +69,10 @@ pub fn write<R: Threads + Sync, S: Sink, G: Gate>(
         ),
         Task::Box { search } => regions::write(rt, alloc, search, out),
         Task::Replay { history } => replay::write(rt, alloc, history, out, gate),
+        Task::Drill {
+            drill,
+            bounds,
+            workers,
+        } => drill::write(rt, alloc, drill, bounds, workers, out, gate),
     }
 }

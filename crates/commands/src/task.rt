@@ -88,6 +88,18 @@ pub struct History {
     pub ghost fits: { length (entries_of updates.items) ≤ 64 * 2 ^ levels - 1 },
 }
 
+/// A number and a seed, for which inputs are drawn.
+#[derive(Clone, Copy, Debug)]
+pub struct Drill {
+    /// How many inputs there are of each kind, from 1 to 1,000,000.
+    pub number: u32,
+    /// The seed, below 2^31.
+    pub seed: u32,
+    pub ghost some: { 1 ≤ number },
+    pub ghost few: { number ≤ 1000000 },
+    pub ghost below: { seed < 2 ^ 31 },
+}
+
 /// A command, with its inputs and its options.
 #[derive(Drop)]
 pub enum Task {
@@ -119,5 +131,11 @@ pub enum Task {
     /// Write what a map answers after updates, and how many keys it has.
     Replay {
         history: History,
+    },
+    /// Write what is counted of inputs of every kind that are drawn.
+    Drill {
+        drill: Drill,
+        bounds: Bounds,
+        workers: Workers,
     },
 }

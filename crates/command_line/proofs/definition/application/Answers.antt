@@ -1,21 +1,7 @@
-use Rattle.std.proofs.Common.{◌≡◌, ◌∙◌, rules, ap, ap₂}
-use Rattle.std.specs.Prelude.{true, codes, []}
+use Rattle.std.proofs.Common.{◌≡◌, ◌∙◌, ap, ap₂}
 use Rattle.std.proofs.lemmas.Result.{IfOk-weaker}
-use Rattle.clap.specs.Words.{App, Shape, app_of, with_subcommand}
-use Rattle.clap.specs.Simple.{new_shape}
+use Rattle.clap.specs.Words.{App, Shape, with_subcommand}
 use Rattle.command_line.proofs.definition.application.Goals as goal
-
--- the program before its commands
-abbrev start : App
-start = record {
-  top = record (new_shape (codes "pgmtool")) {
-    disable_help_flag = true;
-    disable_help_subcommand = true;
-    disable_version_flag = true;
-    subcommand_required = true;
-  };
-  subs = [];
-}
 
 abbrev top_of : App → Shape
 top_of a = a.top
@@ -26,9 +12,8 @@ added a b s t same one = ap₂ with_subcommand same one
 
 pub returns : goal.returns
 returns c =
-    let start_is : app_of c.subcommand_required.result ≡ start = search rules in
     let build_is = ap top_of (c.in_ok-index_command.ensures.shape) in
-    let first_is = c.in_ok-subcommand.ensures.shape c.in_ok-index_command.ensures.local ∙ added _ _ _ _ start_is build_is in
+    let first_is = c.in_ok-subcommand.ensures.shape c.in_ok-index_command.ensures.local ∙ added _ _ _ _ c.bare_program.ensures build_is in
     let explain_is = ap top_of (c.in_ok-index_command-2.ensures.shape) in
     let second_is = c.in_ok-subcommand-2.ensures.shape c.in_ok-index_command-2.ensures.local ∙ added _ _ _ _ first_is explain_is in
     let query_is = ap top_of (c.in_ok-query_command.ensures.shape) in
@@ -36,5 +21,7 @@ returns c =
     let box_is = ap top_of (c.in_ok-box_command.ensures.shape) in
     let fourth_is = c.in_ok-subcommand-4.ensures.shape c.in_ok-box_command.ensures.local ∙ added _ _ _ _ third_is box_is in
     let replay_is = ap top_of (c.in_ok-replay_command.ensures.shape) in
-    IfOk-weaker c.subcommand-5.result _ _
-    (λ program h. h.shape c.in_ok-replay_command.ensures.local ∙ added _ _ _ _ fourth_is replay_is) c.subcommand-5.ensures
+    let fifth_is = c.in_ok-subcommand-5.ensures.shape c.in_ok-replay_command.ensures.local ∙ added _ _ _ _ fourth_is replay_is in
+    let drill_is = ap top_of (c.in_ok-drill_command.ensures.shape) in
+    IfOk-weaker c.subcommand-6.result _ _
+    (λ program h. h.shape c.in_ok-drill_command.ensures.local ∙ added _ _ _ _ fifth_is drill_is) c.subcommand-6.ensures

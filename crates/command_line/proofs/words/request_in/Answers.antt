@@ -1,6 +1,6 @@
 use Rattle.std.proofs.Common.{sym}
 use Rattle.clap.specs.Words.{found_of, rows_of}
-use Rattle.command_line.proofs.TakenWords.{is_met, has_build, has_explain, has_query, has_box, has_replay}
+use Rattle.command_line.proofs.TakenWords.{is_met, has_build, has_explain, has_query, has_box, has_replay, has_drill}
 use Rattle.command_line.proofs.words.request_in.Goals as goal
 
 pub building_in-building-requires : goal.building_in-building-requires
@@ -32,3 +32,8 @@ pub replaying_in-replaying-requires : goal.replaying_in-replaying-requires
 replaying_in-replaying-requires c =
     has_replay (c.in_ok-name.name.now, rows_of (found_of c.in_ok-name.found.now)) (is_met c.args.matches.now _ _ c.in_ok-name.ensures.name c.in_ok-name.ensures.rows
     c.requires.0 c.requires.1 c.requires.2) (sym c.if-eq-5.ensures)
+
+pub drilling_in-drilling-requires : goal.drilling_in-drilling-requires
+drilling_in-drilling-requires c =
+    has_drill (c.in_ok-name.name.now, rows_of (found_of c.in_ok-name.found.now)) (is_met c.args.matches.now _ _ c.in_ok-name.ensures.name c.in_ok-name.ensures.rows
+    c.requires.0 c.requires.1 c.requires.2) (sym c.if-eq-6.ensures)
