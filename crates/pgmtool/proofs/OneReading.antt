@@ -4,7 +4,7 @@ use Rattle.pgm_script.specs.declared.script.ScriptKind.{ScriptKind}
 use Rattle.sosd_reader.specs.KeyFiles.{key_width}
 use Rattle.sosd_reader.specs.NumberFiles.Kind.{of_keys, of_points}
 use Rattle.command_line.specs.Requests.{Building, Request}
-use Rattle.command_line.specs.Requests.Request.{build, explain, query, box, replay}
+use Rattle.command_line.specs.Requests.Request.{build, explain, query, box, replay, drill}
 use Rattle.pgm_script.specs.declared.script.ScriptLine.{ScriptLine}
 use Rattle.commands.specs.Tasks as tasks
 use Rattle.pgmtool.specs.declared.refusal.Refusal.{Refusal}
@@ -40,3 +40,4 @@ module _ (contents : List ℕ → Option (List ℕ)) where
   reads_one (box searching) = then_one (reads_points searching.dims (Some contents) searching.file) _ (numbers_one (of_points searching.dims) contents searching.file)
       (λ coords. then_one _ _ (script_one (ScriptKind.Region searching.dims) contents searching.script) (λ lines. gives_one _))
   reads_one (replay replaying) = then_one _ _ (script_one ScriptKind.Replay contents replaying.script) (history_one replaying.levels)
+  reads_one (drill drilling) = gives_one _

@@ -19,6 +19,11 @@ HoldsOfFile files name P = IfSome files (λ contents. (bytes : List ℕ) × (con
 abbrev pub IsMissing : Files → List ℕ → Type 0
 IsMissing files name = (contents : List ℕ → Option (List ℕ)) × (files ≡ Some contents) × (contents name ≡ None)
 
+-- a file is read first, and none has its name
+abbrev pub IsFirstMissing : Files → Option (List ℕ) → Type 0
+IsFirstMissing files None = ⊥
+IsFirstMissing files (Some name) = IsMissing files name
+
 -- keys that never fall, fewer than 2^32
 pub record AreKeys (keys : List ℕ) : Type 0 where
   pub never_falls : IsNonDecreasing keys

@@ -12,8 +12,8 @@ use Rattle.pgm_script.specs.declared.script.ScriptLine.{ScriptLine}
 use Rattle.pgm_script.specs.Scripts.{IsLineOf, ReadsAs as ReadsScript}
 use Rattle.log_levels.specs.declared.update.Update.{Update}
 use Rattle.log_levels.specs.Accepted.{entries_of}
-use Rattle.command_line.specs.Requests.{Building, Request}
-use Rattle.command_line.specs.Requests.Request.{build, explain, query, box, replay}
+use Rattle.command_line.specs.Requests.{Building, Drilling, Request}
+use Rattle.command_line.specs.Requests.Request.{build, explain, query, box, replay, drill}
 use Rattle.pgmtool.specs.declared.refusal.Refusal.{Refusal}
 use Rattle.pgmtool.specs.declared.refusal.Refusal.TheVariants.{ReadFault, TooLong, Script, Full}
 use Rattle.pgmtool.specs.declared.inputs.TheConstants.{SCRIPT_LIMIT}
@@ -114,6 +114,10 @@ reads_index files building = reads_keys (not building.narrow) files building.fil
 abbrev pub bounds_in : Building → Bounds
 bounds_in building = record { eps = building.eps; eps_rec = building.eps_rec }
 
+-- the drill of a number and a seed
+abbrev pub drill_of : Drilling → tasks.Task
+drill_of drilling = tasks.Task.drill drilling.number drilling.seed (record { eps = drilling.eps; eps_rec = drilling.eps_rec })
+
 -- the inputs of each request, in turn
 abbrev pub reads : Files → Request → Reading tasks.Task
 reads files (build building) = then (reads_index files building) (λ keys. gives (tasks.Task.build keys (bounds_in building)))
@@ -125,3 +129,4 @@ reads files (box searching) = then (reads_points searching.dims files searching.
     then (reads_script (ScriptKind.Region searching.dims) files searching.script) (λ lines.
     gives (tasks.Task.box searching.dims coords (regions_in lines))))
 reads files (replay replaying) = then (reads_script ScriptKind.Replay files replaying.script) (reads_history replaying.levels)
+reads files (drill drilling) = gives (drill_of drilling)

@@ -3,17 +3,17 @@ ghost use Rattle.std.specs.Prelude.{◌≡◌, ◌++◌, ◌∷◌, [], All, Err
 ghost use Rattle.zorder.specs.Codes.{IsDimension};
 ghost use Rattle.pgm_script.specs.Scripts.{IsKind, IsLineOf};
 ghost use Rattle.commands.specs.PointRegions.{IsRegionOf};
-ghost use Rattle.command_line.specs.Requests.{asked_of, first_file, built_of};
-ghost use Rattle.pgmtool.specs.Files.{IsMissing};
+ghost use Rattle.command_line.specs.Requests.{asked_of, first_file, built_of, drilled_of};
+ghost use Rattle.pgmtool.specs.Files.{IsFirstMissing, IsMissing};
 ghost use Rattle.commands.specs.Tasks.{bounds_of, task_of};
 ghost use Rattle.pgmtool.specs.Inputs.{reads, reads_index, reads_keys, reads_script, bounds_in};
-ghost use Rattle.pgmtool.specs.Inputs.{questions_in, reads_points, regions_in};
+ghost use Rattle.pgmtool.specs.Inputs.{drill_of, questions_in, reads_points, regions_in};
 ghost use Rattle.pgmtool.specs.Stops.{Answers};
 
 use crate::history::history_in;
 use crate::refusal::{Refusal, Stopped};
-use command_line::{Building, Request};
-use commands::{Bounds, Search, SortedKeys, Table, Task, Workers};
+use command_line::{Building, Drilling, Request};
+use commands::{Bounds, Drill, Search, SortedKeys, Table, Task, Workers};
 use edge::Shelf;
 use pgm_script::{ScriptKind, ScriptLine, parse, read_text};
 use sosd_reader::{read_keys, read_points};
@@ -33,7 +33,7 @@ pub fn read<F: Shelf>(alloc: Global, files: &mut F, request: Request<'_>) -> Res
     ensures answer { Answers (reads (F.files files.old) (asked_of request.entry)) task_of
         (F.faults files.old) (F.faults files.new) result }
     // No memory is needed to find that the first file isn't there.
-    ensures missing { IsMissing (F.files files.old) (first_file (asked_of request.entry))
+    ensures missing { IsFirstMissing (F.files files.old) (first_file (asked_of request.entry))
         → result ≡ Err (Stopped.Refused Refusal.ReadFault) }
 {
     match request {
@@ -94,6 +94,26 @@ pub fn read<F: Shelf>(alloc: Global, files: &mut F, request: Request<'_>) -> Res
             let history = history_in(alloc, replaying, &lines)?;
             Ok(Task::Replay { history })
         }
+        Request::Drill { drilling } => Ok(drill_in(drilling)),
+    }
+}
+
+// A drill, which reads no file.
+fn drill_in(drilling: Drilling) -> Task
+    ensures { task_of result ≡ drill_of (drilled_of drilling) }
+{
+    Task::Drill {
+        drill: Drill {
+            number: drilling.number,
+            seed: drilling.seed,
+        },
+        bounds: Bounds {
+            eps: drilling.eps,
+            eps_rec: drilling.eps_rec,
+        },
+        workers: Workers {
+            count: drilling.workers,
+        },
     }
 }
 

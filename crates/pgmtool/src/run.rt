@@ -4,7 +4,7 @@ ghost use Rattle.std.specs.String.{string_bytes};
 ghost use Rattle.edge.specs.Risen.{HasRisen};
 ghost use Rattle.written.specs.Writing.{Writes, BreaksOff, WritesUntilFault};
 ghost use Rattle.pgmtool.specs.declared.refusal.Refusal.{Refusal};
-ghost use Rattle.pgmtool.specs.Files.{IsMissing};
+ghost use Rattle.pgmtool.specs.Files.{IsFirstMissing};
 ghost use Rattle.pgmtool.specs.Refusals.{refusal_line, status_of};
 ghost use Rattle.command_line.specs.Requests.{Request, first_file};
 ghost use Rattle.command_line.specs.Words.{AreRefused, AskFor};
@@ -67,7 +67,7 @@ pub fn run<R: AllocGlobal + Threads + Sync, F: Shelf, S: Sink, G: Gate>(
     // first file is told not to be there.
     ensures read_faulted { F.faults files.old < F.faults files.new → result ≡ Status.ReadFault }
     ensures missing { (request : Request) → AskFor (map string_bytes words.now) request
-        → IsMissing (F.files files.old) (first_file request)
+        → IsFirstMissing (F.files files.old) (first_file request)
         → (result ≡ Status.ReadFault) ⊎ (result ≡ Status.NoMemory) }
 
     // Usage: only where the words are refused, and there unless memory ran out. Then no file was

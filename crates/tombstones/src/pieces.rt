@@ -10,8 +10,8 @@ use std::alloc::Global;
 use std::thread;
 use std::thread::Threads;
 
-/// How many entries of the longer list a part has at least. To merge so many takes about as long as
-/// to start a thread.
+/// How many entries of the longer list a part has at least, so that the start of a thread is small
+/// beside its work. A guess; it wasn't measured.
 const SHORTEST: usize = 4096;
 
 /// Merges two lists of entries as [`merge`] does, by several workers: the same list for every
