@@ -3,7 +3,7 @@
 -- Main results: what a reader of numbers answered is what the file of that name defines (`numbers_came`, `numbers_stopped`); and
 -- told files define one reading of it (`numbers_one`), since any bytes have one reading as a file of this kind.
 use Rattle.std.proofs.Common.{◌≡◌, ◌≢◌, ◌⊎◌, inl, inr, ℕ, ◌<◌, ◌≤◌, List, Option, None, Some, Result, Ok, Err, refl, sym, ap, subst, ◌∙◌}
-use Rattle.std.specs.Prelude.{IfSome, IsSome}
+use Rattle.std.specs.Prelude.{IfSome}
 use Rattle.edge.specs.Risen.{HasRisen}
 use Rattle.edge.specs.Shelf.{TakesFile}
 use Rattle.sosd_reader.specs.declared.fault.KeyFault.{KeyFault}

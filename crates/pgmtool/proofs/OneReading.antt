@@ -1,15 +1,13 @@
 -- Told files define one reading of each request.
-use Rattle.std.proofs.Common.{◌≡◌, ◌<◌, ℕ, not, List, Option, Some, Result, Ok, Err, ap, sym, subst, ◌∙◌, arith}
+use Rattle.std.proofs.Common.{◌≡◌, ℕ, not, List, Option, Some, Ok, Err, ap, sym, ◌∙◌, arith}
 use Rattle.pgm_script.specs.declared.script.ScriptKind.{ScriptKind}
 use Rattle.sosd_reader.specs.KeyFiles.{key_width}
 use Rattle.sosd_reader.specs.NumberFiles.Kind.{of_keys, of_points}
 use Rattle.command_line.specs.Requests.{Building, Request}
 use Rattle.command_line.specs.Requests.Request.{build, explain, query, box, replay, drill}
 use Rattle.pgm_script.specs.declared.script.ScriptLine.{ScriptLine}
-use Rattle.commands.specs.Tasks as tasks
-use Rattle.pgmtool.specs.declared.refusal.Refusal.{Refusal}
 use Rattle.pgmtool.specs.declared.refusal.Refusal.TheVariants.{Full}
-use Rattle.pgmtool.specs.Inputs.{reads, reads_index, reads_points, reads_script, reads_history}
+use Rattle.pgmtool.specs.Inputs.{reads, reads_index, reads_points, reads_history}
 use Rattle.pgmtool.proofs.InputLemmas.{IsFunctional, then_one, gives_one}
 use Rattle.pgmtool.proofs.NumberInputs.{numbers_one}
 use Rattle.pgmtool.proofs.ScriptInputs.{script_one}

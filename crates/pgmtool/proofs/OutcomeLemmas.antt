@@ -13,7 +13,7 @@ use Rattle.pgmtool.specs.Files.{Files}
 use Rattle.pgmtool.specs.Refusals.{status_of}
 use Rattle.command_line.specs.Requests.{Request}
 use Rattle.commands.specs.Tasks.{Task}
-use Rattle.command_line.specs.Words.{AreRefused, AskFor, request_of}
+use Rattle.command_line.specs.Words.{AreRefused, AskFor}
 use Rattle.pgmtool.specs.Inputs.{reads}
 use Rattle.pgmtool.specs.Stops.{IsStopped}
 use Rattle.pgmtool.specs.Outcomes.{Defines, IsCause, EndsAs}

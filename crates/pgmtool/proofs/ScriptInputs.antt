@@ -3,7 +3,7 @@
 -- Main results: what a reader of scripts answered is what the file of that name defines (`text_stopped`, `parse_stopped`); and
 -- told files define one reading of it (`script_one`), since any text has one reading as a script.
 use Rattle.std.proofs.Common.{◌≡◌, ◌≢◌, ◌⊎◌, inl, inr, ℕ, ◌<◌, ◌≤◌, List, length, Option, None, Some, Result, Ok, Err, refl, sym, ap, subst, ◌∙◌, arith}
-use Rattle.std.specs.Prelude.{IfSome, IsSome}
+use Rattle.std.specs.Prelude.{IfSome}
 use Rattle.edge.specs.Risen.{HasRisen}
 use Rattle.edge.specs.Shelf.{TakesFile}
 use Rattle.pgm_script.specs.declared.fault.ScriptFault.{ScriptFault}

@@ -1,5 +1,5 @@
 -- Files that were taken, and what is said of errors.
-use Rattle.std.proofs.Common.{◌≡◌, ℕ, List, Option, None, Some, Result, Ok, Err, refl}
+use Rattle.std.proofs.Common.{◌≡◌, ℕ, List, Option, None, Some, Ok, Err, refl}
 use Rattle.std.specs.Prelude.{IfSome, IsSome, IsErrOf}
 use Rattle.edge.specs.Shelf.{TakesFile}
 use Rattle.written.proofs.Gaining.{if_some, at_some}

@@ -1,4 +1,4 @@
-use Rattle.std.proofs.Common.{◌≡◌, ◌∙◌, ◌+◌, [], ap, sym, subst, take, length, List, ℕ, arith}
+use Rattle.std.proofs.Common.{◌∙◌, [], ap, sym, subst, take, length, List, arith}
 use Rattle.std.proofs.lemmas.List.{take_all, take_more}
 use Rattle.log_levels.specs.declared.update.Update.{Update}
 use Rattle.log_levels.specs.declared.update.Update.TheVariants.{Put}
