@@ -1,6 +1,6 @@
 // The positions of many questions.
-ghost use Rattle.std.specs.Prelude.{◌≡◌, ◌+◌, ◌++◌, ◌<◌, ◌≤◌, ◌^◌, ℕ, length, map};
-ghost use Rattle.std.specs.Prelude.{slice_index, vec_len, vec_capacity};
+ghost use Rattle.std.specs.Prelude.{◌≡◌, ◌+◌, ◌++◌, ◌<◌, ◌≤◌, ◌^◌, ℕ};
+ghost use Rattle.std.specs.Prelude.{length, map, slice_index, vec_len, vec_capacity};
 ghost use Rattle.window_search.specs.Searches.{lb, IsPredecessor};
 ghost use Rattle.levels.specs.Indexes.{xs_at};
 
@@ -21,7 +21,8 @@ impl<'a> Buckets<'a> {
     /// takes no memory.
     pub fn positions(&self, qs: &[u64], into: &mut Vec<u32>)
         requires room { vec_len into.old + length qs.now ≤ vec_capacity into.old }
-        ensures positions { into.new.items ≡ into.old.items ++ map (lb self.now.index.keys) qs.now }
+        ensures positions { into.new.items
+            ≡ into.old.items ++ map (lb self.now.index.keys) qs.now }
         ensures capacity { vec_capacity into.old ≤ vec_capacity into.new }
     {
         let mut rest = qs;
@@ -38,7 +39,8 @@ impl<'a> Buckets<'a> {
     /// The positions of questions, one after the other.
     fn push_each(&self, qs: &[u64], into: &mut Vec<u32>)
         requires room { vec_len into.old + length qs.now ≤ vec_capacity into.old }
-        ensures positions { into.new.items ≡ into.old.items ++ map (lb self.now.index.keys) qs.now }
+        ensures positions { into.new.items
+            ≡ into.old.items ++ map (lb self.now.index.keys) qs.now }
         ensures capacity { vec_capacity into.old ≤ vec_capacity into.new }
     {
         for q in qs {
@@ -52,7 +54,8 @@ impl<'a> Buckets<'a> {
         requires some { 0 < length self.now.index.keys }
         requires sixteen { length qs.now ≡ 16 }
         requires room { vec_len into.old + length qs.now ≤ vec_capacity into.old }
-        ensures positions { into.new.items ≡ into.old.items ++ map (lb self.now.index.keys) qs.now }
+        ensures positions { into.new.items
+            ≡ into.old.items ++ map (lb self.now.index.keys) qs.now }
         ensures capacity { vec_capacity into.old ≤ vec_capacity into.new }
     {
         let index = self.index();

@@ -1,5 +1,6 @@
 // The table, in one pass over the runs.
-ghost use Rattle.std.specs.Prelude.{◌≡◌, ◌+◌, ◌-◌, ◌<◌, ◌≤◌, ◌^◌, ℕ, length, slice_index};
+ghost use Rattle.std.specs.Prelude.{◌≡◌, ◌+◌, ◌-◌, ◌<◌, ◌≤◌, ◌^◌};
+ghost use Rattle.std.specs.Prelude.{ℕ, length, slice_index};
 ghost use Rattle.std.specs.Prelude.{IfOk, vec_len, vec_capacity};
 ghost use Rattle.bucketed.specs.Tables.{IsTable, entry_at};
 

@@ -1,5 +1,6 @@
 //! Tables worked out by hand.
-ghost use Rattle.std.specs.Prelude.{◌≡◌, ◌+◌, ◌<◌, ◌≤◌, ◌^◌, length, vec_len, IsTrue};
+ghost use Rattle.std.specs.Prelude.{◌≡◌, ◌+◌, ◌<◌, ◌≤◌, ◌^◌};
+ghost use Rattle.std.specs.Prelude.{length, vec_len, IsTrue};
 ghost use Rattle.std.specs.List.Sorted.{IsNonDecreasing};
 
 use crate::{Buckets, MAX_BITS};

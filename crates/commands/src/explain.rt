@@ -1,5 +1,7 @@
 // The command `explain`.
-ghost use Rattle.std.specs.Prelude.{◌≡◌, ◌∷◌, ◌<◌, ◌≤◌, ◌^◌, ◌+◌, ◌++◌, ℕ, length, drop, codes};
+ghost use Rattle.std.specs.Prelude.{◌≡◌, ◌∷◌, ◌<◌, ◌≤◌};
+ghost use Rattle.std.specs.Prelude.{◌^◌, ◌+◌, ◌++◌};
+ghost use Rattle.std.specs.Prelude.{ℕ, length, drop, codes};
 ghost use Rattle.std.specs.Prelude.{decimal};
 ghost use Rattle.std.specs.Prelude.{OnOk, OnErr};
 ghost use Rattle.std.specs.Fmt.{signed_decimal};
@@ -155,7 +157,8 @@ fn fill_run_line(line: &mut TextLine, segment: &Segment, end: u32)
 fn push_line(text: &mut TextLine, line: &Line)
     requires { length text.old + 89 ≤ LINE_ROOM }
     ensures text { text.new
-        ≡ text.old ++ codes " line" ++ 32 ∷ decimal line.now.x0 ++ 32 ∷ signed_decimal line.now.y0
+        ≡ text.old ++ codes " line" ++ 32 ∷ decimal line.now.x0
+        ++ 32 ∷ signed_decimal line.now.y0
         ++ 32 ∷ decimal line.now.rise ++ 32 ∷ decimal line.now.run }
     ensures room { length text.new ≤ length text.old + 89 }
 {

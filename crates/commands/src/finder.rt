@@ -1,5 +1,6 @@
 // What finds positions: the levels of an index, or a table in place of those above level 0.
-ghost use Rattle.std.specs.Prelude.{◌≡◌, ◌+◌, ◌++◌, ◌≤◌, length, map, vec_capacity, vec_len, IfOk};
+ghost use Rattle.std.specs.Prelude.{◌≡◌, ◌+◌, ◌++◌, ◌≤◌, length, map};
+ghost use Rattle.std.specs.Prelude.{vec_capacity, vec_len, IfOk};
 ghost use Rattle.window_search.specs.Searches.{lb};
 ghost use Rattle.commands.specs.Finders.{keys_of};
 

@@ -29,7 +29,6 @@ mod task;
 
 pub use drill::one_drill;
 use edge::{Gate, Sink};
-pub use log_levels::Update;
 use std::alloc::Global;
 use std::thread::Threads;
 pub use task::{Bounds, Drill, History, Question, Search, SortedKeys, Table, Task, Workers};

@@ -1,5 +1,6 @@
 // The command `box`.
-ghost use Rattle.std.specs.Prelude.{◌≡◌, ◌∷◌, ◌≤◌, [], ℕ, List, All, length, map, OnOk, OnErr};
+ghost use Rattle.std.specs.Prelude.{◌≡◌, ◌∷◌, ◌≤◌, [], ℕ, List, All};
+ghost use Rattle.std.specs.Prelude.{length, map, OnOk, OnErr};
 ghost use Rattle.std.specs.Prelude.{◌+◌, ◌*◌, ◌++◌, codes, decimal, vec_capacity};
 ghost use Rattle.std.specs.List.{join_with_byte};
 ghost use Rattle.zorder.specs.Codes.{IsCode, IsDimension};

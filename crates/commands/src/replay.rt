@@ -1,5 +1,7 @@
 // The command `replay`.
-ghost use Rattle.std.specs.Prelude.{◌≡◌, ◌∷◌, ◌++◌, ◌+◌, ◌≤◌, [], ℕ, List, Option, length, map, codes};
+ghost use Rattle.std.specs.Prelude.{◌≡◌, ◌∷◌, ◌++◌, ◌+◌, ◌≤◌};
+ghost use Rattle.std.specs.Prelude.{[], ℕ, List};
+ghost use Rattle.std.specs.Prelude.{Option, length, map, codes};
 ghost use Rattle.std.specs.Prelude.{decimal, IfOk, OnErr, OnOk};
 ghost use Rattle.std.specs.List.{join_with_byte};
 ghost use Rattle.written.specs.Writing.{Writes, BreaksOff, WritesText};

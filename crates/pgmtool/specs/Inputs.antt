@@ -78,14 +78,14 @@ abbrev pub updates_in : List ScriptLine → List Update
 updates_in lines = filter_map update_in lines
 
 -- the questions to a map of a script, in order
-abbrev pub asked_in : ScriptLine → Option Question
-asked_in (ScriptLine.Get key) = Some (Question.Get key)
-asked_in (ScriptLine.Next from) = Some (Question.Next from)
-asked_in (ScriptLine.Count low high) = Some (Question.Count low high)
-asked_in line = None
+abbrev pub map_question_in : ScriptLine → Option Question
+map_question_in (ScriptLine.Get key) = Some (Question.Get key)
+map_question_in (ScriptLine.Next from) = Some (Question.Next from)
+map_question_in (ScriptLine.Count low high) = Some (Question.Count low high)
+map_question_in line = None
 
-abbrev pub all_asked_in : List ScriptLine → List Question
-all_asked_in lines = filter_map asked_in lines
+abbrev pub map_questions_in : List ScriptLine → List Question
+map_questions_in lines = filter_map map_question_in lines
 
 -- how many entries a map of so many levels can accept
 abbrev pub room_of : ℕ → ℕ
@@ -94,7 +94,7 @@ room_of levels = 64 * 2 ^ levels - 1
 -- what a script asks for, where a map of so many levels has room for the entries of all its updates
 abbrev pub reads_history : ℕ → List ScriptLine → Reading tasks.Task
 reads_history levels lines (Ok task) = (length (entries_of (updates_in lines)) ≤ room_of levels)
-    × (task ≡ tasks.Task.replay (updates_in lines) (all_asked_in lines))
+    × (task ≡ tasks.Task.replay (updates_in lines) (map_questions_in lines))
 reads_history levels lines (Err (Full asked room)) = (asked ≡ length (entries_of (updates_in lines))) × (room ≡ room_of levels) × (room < asked)
 reads_history levels lines (Err refusal) = ⊥
 

@@ -1,12 +1,13 @@
 // What a script of updates and questions asks for.
-ghost use Rattle.std.specs.Prelude.{◌≡◌, ◌++◌, ◌∷◌, ◌≤◌, [], ℕ, List, All, length};
+ghost use Rattle.std.specs.Prelude.{◌≡◌, ◌++◌, ◌∷◌, ◌≤◌, [], ℕ};
+ghost use Rattle.std.specs.Prelude.{List, All, length};
 ghost use Rattle.std.specs.Prelude.{IfOk, IsTrue, IsFalse, OnOk};
 ghost use Rattle.command_line.specs.Requests.{replayed_of};
 ghost use Rattle.log_levels.specs.declared.update.Update.{Update};
 ghost use Rattle.log_levels.specs.Accepted.{IsPlain, entries_of};
 ghost use Rattle.log_levels.specs.Shapes.{StandsFor, capacity_of};
 ghost use Rattle.commands.specs.Histories.{replay_of};
-ghost use Rattle.pgmtool.specs.Inputs.{all_asked_in, reads_history, room_of, updates_in};
+ghost use Rattle.pgmtool.specs.Inputs.{map_questions_in, reads_history, room_of, updates_in};
 ghost use Rattle.pgmtool.specs.Stops.{Answers};
 
 use crate::refusal::{Refusal, Stopped};
@@ -33,7 +34,7 @@ pub fn history_in(
         faults faults result }
 {
     let updates = updates_in(alloc, lines)?;
-    let questions = all_asked_in(alloc, lines)?;
+    let questions = map_questions_in(alloc, lines)?;
     let asked = entry_count(alloc, &updates)?;
     let room = room_of(replaying.levels);
     if room < asked {
@@ -70,7 +71,8 @@ fn updates_in(alloc: Global, lines: &[ScriptLine]) -> Result<Vec<Update>, AllocE
 }
 
 fn push_update(updates: &mut Vec<Update>, line: &ScriptLine) -> Result<(), AllocError>
-    ensures { OnOk result (updates.new.items ≡ updates.old.items ++ updates_in (line.now ∷ [])) }
+    ensures { OnOk result
+        (updates.new.items ≡ updates.old.items ++ updates_in (line.now ∷ [])) }
 {
     match line {
         ScriptLine::Put(key, value) => updates.push(Update::Put(*key, *value))?,
@@ -82,19 +84,19 @@ fn push_update(updates: &mut Vec<Update>, line: &ScriptLine) -> Result<(), Alloc
 }
 
 // The questions to a map of a script.
-fn all_asked_in(alloc: Global, lines: &[ScriptLine]) -> Result<Vec<Question>, AllocError>
-    ensures { IfOk result (λ questions. questions.items ≡ all_asked_in lines.now) }
+fn map_questions_in(alloc: Global, lines: &[ScriptLine]) -> Result<Vec<Question>, AllocError>
+    ensures { IfOk result (λ questions. questions.items ≡ map_questions_in lines.now) }
 {
     let mut questions = Vec::with_capacity(alloc, lines.len())?;
     for i in 0..lines.len() {
-        push_asked(&mut questions, &lines[i])?;
+        push_map_question(&mut questions, &lines[i])?;
     }
     Ok(questions)
 }
 
-fn push_asked(questions: &mut Vec<Question>, line: &ScriptLine) -> Result<(), AllocError>
+fn push_map_question(questions: &mut Vec<Question>, line: &ScriptLine) -> Result<(), AllocError>
     ensures { OnOk result
-        (questions.new.items ≡ questions.old.items ++ all_asked_in (line.now ∷ [])) }
+        (questions.new.items ≡ questions.old.items ++ map_questions_in (line.now ∷ [])) }
 {
     match line {
         ScriptLine::Get(key) => questions.push(Question::Get(*key))?,

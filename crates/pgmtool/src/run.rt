@@ -1,5 +1,6 @@
 // The one call that the program makes.
-ghost use Rattle.std.specs.Prelude.{◌≡◌, ◌⊎◌, ◌<◌, ◌∷◌, [], ℕ, List, map, Result, IsSome};
+ghost use Rattle.std.specs.Prelude.{◌≡◌, ◌⊎◌, ◌<◌, ◌∷◌, [], ℕ};
+ghost use Rattle.std.specs.Prelude.{List, map, Result, IsSome};
 ghost use Rattle.std.specs.String.{string_bytes};
 ghost use Rattle.edge.specs.Risen.{HasRisen};
 ghost use Rattle.written.specs.Writing.{Writes, BreaksOff, WritesUntilFault};
@@ -61,7 +62,8 @@ pub fn run<R: AllocGlobal + Threads + Sync, F: Shelf, S: Sink, G: Gate>(
     // them failed.
     ensures wherever { IsSome (F.files files.old) → (defined : Result Task Refusal)
         → Defines (F.files files.old) (map string_bytes words.now) defined
-        → EndsAs defined result ⊎ (result ≡ Status.NoMemory) ⊎ (result ≡ Status.ReadFault) }
+        → EndsAs defined result ⊎ (result ≡ Status.NoMemory)
+        ⊎ (result ≡ Status.ReadFault) }
 
     // ReadFault: wherever a call on the files failed, and, where memory doesn't run out, where the
     // first file is told not to be there.

@@ -4,17 +4,17 @@ use Rattle.std.proofs.lemmas.List.Elements.{filter_map-append}
 use Rattle.commands.specs.declared.task.Question.{Question}
 use Rattle.pgm_script.specs.declared.script.ScriptLine.{ScriptLine}
 use Rattle.pgm_script.specs.declared.script.ScriptLine.TheVariants.{Find}
-use Rattle.pgmtool.specs.Inputs.{asked_in, all_asked_in}
-use Rattle.pgmtool.proofs.history.all_asked_in.Goals as goal
+use Rattle.pgmtool.specs.Inputs.{map_question_in, map_questions_in}
+use Rattle.pgmtool.proofs.history.map_questions_in.Goals as goal
 
 -- the questions up to a place, and that of the line there
 one_more : (lines : List ScriptLine) (i : ℕ) (d : ScriptLine) → i < length lines →
-    all_asked_in (take i lines) ++ all_asked_in (get_or lines i d ∷ []) ≡ all_asked_in (take (i + 1) lines)
+    map_questions_in (take i lines) ++ map_questions_in (get_or lines i d ∷ []) ≡ map_questions_in (take (i + 1) lines)
 one_more lines i d there =
-    sym (filter_map-append asked_in (take i lines) (get_or lines i d ∷ [])) ∙ ap all_asked_in (sym (take_more lines i d there))
+    sym (filter_map-append map_question_in (take i lines) (get_or lines i d ∷ [])) ∙ ap map_questions_in (sym (take_more lines i d there))
 
 pub loop-i-preserved : goal.loop-i-preserved
 loop-i-preserved c =
     let line = get_or c.args.lines.now c.loop-i.i (Find 0) in
-    c.in_ok-push_asked.ensures ∙ ap (λ (u : List Question). u ++ all_asked_in (line ∷ [])) c.loop-i.invariant
+    c.in_ok-push_map_question.ensures ∙ ap (λ (u : List Question). u ++ map_questions_in (line ∷ [])) c.loop-i.invariant
     ∙ one_more c.args.lines.now c.loop-i.i (Find 0) (omega arith)
