@@ -158,6 +158,7 @@ unfolding clap_on_literals
 replay_options rows passed = record {
   levels = number_reads replay_filled 1 26 (codes "levels") rows refl passed;
   batch = number_reads replay_filled 1 65536 (codes "batch") rows refl passed;
+  readers = number_reads replay_filled 0 16 (codes "readers") rows refl passed;
   workers = number_reads replay_filled 1 64 (codes "workers") rows refl passed;
 }
 

@@ -43,6 +43,7 @@ IsDimensionOption rows = IsNumberIn 2 4 (codes "dims") rows
 pub record AreReplayOptions (rows : List Row) : Type 0 where
   pub levels : IsNumberIn 1 26 (codes "levels") rows
   pub batch : IsNumberIn 1 65536 (codes "batch") rows
+  pub readers : IsNumberIn 0 16 (codes "readers") rows
   pub workers : IsNumberIn 1 64 (codes "workers") rows
 
 -- what the numbers of a drill hold, and how its index is built

@@ -23,10 +23,12 @@ pub record Searching : Type 0 where
   pub script : Text
   pub dims : ℕ
 
--- a script of updates and questions, and how many levels the map has; batches and workers aren't told, since no answer depends on them
+-- a script of updates and questions, how many levels the map has, how many updates a batch, and how many readers there are; workers aren't told, since no answer depends on them
 pub record Replaying : Type 0 where
   pub script : Text
   pub levels : ℕ
+  pub batch : ℕ
+  pub readers : ℕ
 
 -- how many inputs are drawn of each kind, the seed, and how an index of the keys is built
 pub record Drilling : Type 0 where
@@ -73,7 +75,12 @@ searching_of rows = record {
 }
 
 abbrev pub replaying_of : List Row → Replaying
-replaying_of rows = record { script = name_in (codes "SCRIPT") rows; levels = number_in (codes "levels") 20 rows }
+replaying_of rows = record {
+  script = name_in (codes "SCRIPT") rows;
+  levels = number_in (codes "levels") 20 rows;
+  batch = number_in (codes "batch") 16 rows;
+  readers = number_in (codes "readers") 0 rows;
+}
 
 abbrev pub drilling_of : List Row → Drilling
 drilling_of rows = record {
@@ -101,7 +108,7 @@ abbrev pub searched_of : declared_searching.Searching → Searching
 searched_of s = record { file = s.file.now; script = s.script.now; dims = s.dims }
 
 abbrev pub replayed_of : declared_replaying.Replaying → Replaying
-replayed_of r = record { script = r.script.now; levels = r.levels }
+replayed_of r = record { script = r.script.now; levels = r.levels; batch = r.batch; readers = r.readers }
 
 abbrev pub drilled_of : declared_drilling.Drilling → Drilling
 drilled_of d = record { number = d.number; seed = d.seed; eps = d.eps; eps_rec = d.eps_rec }

@@ -16,6 +16,9 @@ use std::alloc::{AllocError, Global};
 /// How many workers build an index at most.
 const MOST_WORKERS: u32 = 64;
 
+/// How many readers ask beside the writer at most.
+const MOST_READERS: u32 = 16;
+
 /// How many bits of a key a table goes by at most.
 const MOST_BITS: u32 = 20;
 
@@ -102,6 +105,7 @@ fn replay_command<'a>(alloc: Global) -> Result<Command<'a>, AllocError>
         .arg(positional(alloc, "SCRIPT"))?
         .arg(number(alloc, "levels", 1, 26, "20"))?
         .arg(number(alloc, "batch", 1, 65_536, "16"))?
+        .arg(number(alloc, "readers", 0, MOST_READERS, "0"))?
         .arg(workers(alloc))
 }
 

@@ -49,14 +49,17 @@ pub struct Replaying<'a> {
     pub script: &'a str,
     /// How many levels the map has, from 1 to 26.
     pub levels: u32,
-    /// How many updates a batch has, which no answer depends on.
+    /// How many updates a batch has.
     pub batch: u32,
+    /// How many readers ask beside the writer, at most 16.
+    pub readers: u32,
     /// How many workers build a level, which no answer depends on.
     pub workers: u32,
     pub ghost some_levels: { 1 ≤ levels },
     pub ghost few_levels: { levels ≤ 26 },
     pub ghost some_updates: { 1 ≤ batch },
     pub ghost few_updates: { batch ≤ 65536 },
+    pub ghost few_readers: { readers ≤ 16 },
     pub ghost staffed: { 1 ≤ workers },
     pub ghost few_workers: { workers ≤ 64 },
 }
@@ -108,7 +111,7 @@ pub enum Request<'a> {
     Box {
         searching: Searching<'a>,
     },
-    /// Write what the questions of a script get after all its updates.
+    /// Write what the questions of a script get beside its updates and after all of them.
     Replay {
         replaying: Replaying<'a>,
     },

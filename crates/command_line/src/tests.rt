@@ -111,7 +111,7 @@ struct Refused {
     words: &'static [&'static str],
 }
 
-const REFUSED: [Refused; 54] = [
+const REFUSED: [Refused; 56] = [
     Refused {
         name: "no command",
         words: &[],
@@ -245,6 +245,14 @@ const REFUSED: [Refused; 54] = [
         words: &["replay", "script", "--batch", "65537"],
     },
     Refused {
+        name: "more readers than there are seats",
+        words: &["replay", "script", "--readers", "17"],
+    },
+    Refused {
+        name: "a number of readers below 0",
+        words: &["replay", "script", "--readers=-1"],
+    },
+    Refused {
         name: "an error bound of a replay",
         words: &["replay", "script", "--eps", "4"],
     },
@@ -346,17 +354,18 @@ const BOXES: [(&[&str], u32); 4] = [
     (&["box", "points", "--dims", "+04", "--", "script"], 4),
 ];
 
-// Replays of the script `script`, with their levels, batch and workers.
-const REPLAYS: [(&[&str], (u32, u32, u32)); 4] = [
-    (&["replay", "script"], (20, 16, 4)),
-    (&["replay", "script", "--levels=1"], (1, 16, 4)),
+// Replays of the script `script`, with their levels, batch, readers and workers.
+const REPLAYS: [(&[&str], (u32, u32, u32, u32)); 5] = [
+    (&["replay", "script"], (20, 16, 0, 4)),
+    (&["replay", "script", "--levels=1"], (1, 16, 0, 4)),
+    (&["replay", "--readers=16", "script"], (20, 16, 16, 4)),
     (
         &["replay", "--batch", "65536", "script", "--levels", "26"],
-        (26, 65536, 4),
+        (26, 65536, 0, 4),
     ),
     (
         &["replay", "--batch=1", "--workers", "64", "--", "script"],
-        (20, 1, 64),
+        (20, 1, 0, 64),
     ),
 ];
 
@@ -470,7 +479,12 @@ fn replays_have_a_script(rt: HostRuntime) -> Result<(), Fail> {
         let Request::Replay { replaying } = requested(rt.alloc(), &words)? else {
             return Err(Fail::from("no replay"));
         };
-        let options = (replaying.levels, replaying.batch, replaying.workers);
+        let options = (
+            replaying.levels,
+            replaying.batch,
+            replaying.readers,
+            replaying.workers,
+        );
         assert_eq!(rt; (replaying.script, options), ("script", asks));
     }
     Ok(())

@@ -143,6 +143,7 @@ fn replaying_in<'a>(found: &ArgMatches<'a>) -> Replaying<'a>
         script: name_in(found, "SCRIPT"),
         levels: number_in(found, "levels", 20),
         batch: number_in(found, "batch", 16),
+        readers: number_in(found, "readers", 0),
         workers: number_in(found, "workers", 4),
     }
 }

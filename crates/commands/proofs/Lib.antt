@@ -3,6 +3,7 @@ pub mod LevelTexts
 pub mod InTurnLemmas
 pub mod AnswerTexts
 pub mod PieceLemmas
+pub mod ReplayLemmas
 pub mod SearchLemmas
 pub mod WritingLemmas
 pub mod OneDrill

@@ -5,4 +5,4 @@ use Rattle.commands.specs.Tasks.Task.{replay}
 
 -- the task of a history
 abbrev pub replay_of : History → Task
-replay_of history = replay history.updates.items history.questions.items
+replay_of history = replay history.updates.items history.questions.items history.batch history.readers

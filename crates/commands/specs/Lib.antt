@@ -2,5 +2,6 @@ pub mod Finders
 pub mod Histories
 pub mod Pieces
 pub mod PointRegions
+pub mod ReplayLines
 pub mod Tasks
 pub mod Texts

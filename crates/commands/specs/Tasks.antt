@@ -2,7 +2,7 @@
 use Rattle.std.specs.Prelude.{ℕ, Bool, List}
 use Rattle.zorder.specs.declared.regions.Region.{Region}
 use Rattle.log_levels.specs.declared.update.Update.{Update}
-use Rattle.commands.specs.declared.task.Question.{Question}
+use Rattle.map_replay.specs.declared.question.Question.{Question}
 use Rattle.commands.specs.declared.task.Bounds as declared_bounds
 use Rattle.commands.specs.declared.task.Task as declared
 use Rattle.commands.specs.declared.task.Task.TheVariants as variant
@@ -18,7 +18,7 @@ pub data Task : Type 0 where
   explain : (keys : List ℕ) (bounds : Bounds) → Task
   query : (keys : List ℕ) (bounds : Bounds) (questions : List ℕ) (windows : Bool) → Task
   box : (d : ℕ) (coords : List ℕ) (regions : List Region) → Task
-  replay : (updates : List Update) (questions : List Question) → Task
+  replay : (updates : List Update) (questions : List Question) (batch readers : ℕ) → Task
   drill : (n seed : ℕ) (bounds : Bounds) → Task
 
 -- the task that the program's own type stands for
@@ -31,5 +31,5 @@ task_of (variant.Explain keys bounds workers) = explain keys.keys.items (bounds_
 task_of (variant.Query keys bounds workers questions windows table) =
     query keys.keys.items (bounds_of bounds) questions.items windows
 task_of (variant.Box search) = box search.dims search.coords.items search.regions.items
-task_of (variant.Replay history) = replay history.updates.items history.questions.items
+task_of (variant.Replay history) = replay history.updates.items history.questions.items history.batch history.readers
 task_of (variant.Drill d bounds workers) = drill d.number d.seed (bounds_of bounds)

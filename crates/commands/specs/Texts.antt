@@ -23,5 +23,5 @@ IsText (build keys bounds) pieces = IsBuilt keys bounds pieces
 IsText (explain keys bounds) pieces = IsExplained keys bounds pieces
 IsText (query keys bounds questions windows) pieces = IsAnswered keys bounds questions windows pieces
 IsText (box d coords regions) pieces = IsSearched d coords regions pieces
-IsText (replay updates questions) pieces = IsReplayed updates questions pieces
+IsText (replay updates questions batch readers) pieces = IsReplayed updates questions batch readers pieces
 IsText (drill n seed bounds) pieces = IsDrilled n seed bounds pieces

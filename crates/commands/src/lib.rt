@@ -30,13 +30,15 @@ mod task;
 pub use drill::one_drill;
 use edge::{Gate, Sink};
 use std::alloc::Global;
+use std::sync::Wait;
 use std::thread::Threads;
-pub use task::{Bounds, Drill, History, Question, Search, SortedKeys, Table, Task, Workers};
+pub use map_replay::Question;
+pub use task::{Bounds, Drill, History, Search, SortedKeys, Table, Task, Workers};
 use written::Unfinished;
 
 /// Writes the text of the task. An index is built by workers, which pass the gate before and after
-/// each piece.
-pub fn write<R: Threads + Sync, S: Sink, G: Gate>(
+/// each piece. Readers of a map pass it before each question, and their writer after each batch.
+pub fn write<R: Threads + Wait + Sync, S: Sink, G: Gate>(
     rt: &R,
     alloc: Global,
     task: Task,

@@ -1,41 +1,96 @@
 // The command `replay`.
-ghost use Rattle.std.specs.Prelude.{◌≡◌, ◌∷◌, ◌++◌, ◌+◌, ◌≤◌};
+ghost use Rattle.std.specs.Prelude.{◌≡◌, ◌∷◌, ◌++◌, ◌+◌, ◌≤◌, ◌<◌};
 ghost use Rattle.std.specs.Prelude.{[], ℕ, List};
-ghost use Rattle.std.specs.Prelude.{Option, length, map, codes};
-ghost use Rattle.std.specs.Prelude.{decimal, IfOk, OnErr, OnOk};
-ghost use Rattle.std.specs.List.{join_with_byte};
+ghost use Rattle.std.specs.Prelude.{Option, length, map, take, codes, decimal, All};
+ghost use Rattle.log_levels.specs.declared.update.Update.{Update};
+ghost use Rattle.std.specs.Prelude.{IfOk, OnErr, OnOk};
+ghost use Rattle.std.specs.List.{join_with_byte, range_with_len};
 ghost use Rattle.written.specs.Writing.{Writes, BreaksOff, WritesText};
 ghost use Rattle.written.specs.TextLines.{text_line};
-ghost use Rattle.log_levels.specs.declared.update.Update.{Update};
 ghost use Rattle.log_levels.specs.Maps.{map_after};
 ghost use Rattle.log_levels.specs.Shapes.{StandsFor};
-ghost use Rattle.commands.specs.Texts.Replay.{IsReplayed, count_words, end_line, end_lines};
-ghost use Rattle.commands.specs.Texts.Replay.{get_words, next_words, updates_line};
+ghost use Rattle.map_replay.specs.Questions.{answer_of};
+ghost use Rattle.map_replay.specs.Readings.{AreAnswers, IsWholeReading};
+ghost use Rattle.commands.specs.Texts.Replay.{IsReplayed, answer_words, closing_lines};
+ghost use Rattle.commands.specs.Texts.Replay.{count_words, end_line, end_lines, get_words};
+ghost use Rattle.commands.specs.Texts.Replay.{last_line, live_in, next_words, reader_line};
+ghost use Rattle.commands.specs.Texts.Replay.{reader_lines, updates_line};
+ghost use Rattle.commands.specs.ReplayLines.{read_lines, replayed_lines};
 
-use crate::task::{History, Question};
+use crate::task::History;
 use budget::NoMemory;
 use edge::{Failed, Gate, Sink};
 use log_levels::{LogMap, MapFault, Update};
+use map_replay::{Answer, Asked, Plan, Question, Reading, Replayed, Sighting, replay};
 use std::alloc::Global;
+use std::sync::Wait;
 use std::thread::Threads;
 use written::{TextLine, Unfinished, hand_over};
 
-/// Writes how many updates there are, what the map after them answers to each question, and how
-/// many keys it has.
+/// Writes how many updates there are, what each reader was answered beside them, what the map after
+/// all of them answers to each question, and how many keys it has.
 ///
-/// All memory is taken before the first byte: for the map.
-pub fn write<R: Threads + Sync, S: Sink, G: Gate>(
+/// Without readers the map is made at once, by workers; with readers it is published in batches.
+/// All memory is taken before the first byte.
+pub fn write<R: Threads + Wait + Sync, S: Sink, G: Gate>(
     rt: &R,
     alloc: Global,
     history: History,
     out: &mut S,
     gate: &G,
 ) -> Result<(), Unfinished>
-    ensures { WritesText S.Sink out.old result out.new
-        (IsReplayed history.updates.items history.questions.items) }
+    ensures { WritesText S.Sink out.old result out.new (IsReplayed history.updates.items
+        history.questions.items history.batch history.readers) }
 {
-    let map = map_of(rt, alloc, &history, gate)?;
-    match write_lines(out, &map, &history.updates, &history.questions) {
+    if history.readers == 0 {
+        return write_alone(rt, alloc, &history, out, gate);
+    }
+    write_beside(rt, alloc, &history, out, gate)
+}
+
+// The same without readers.
+fn write_alone<R: Threads + Sync, S: Sink, G: Gate>(
+    rt: &R,
+    alloc: Global,
+    history: &History,
+    out: &mut S,
+    gate: &G,
+) -> Result<(), Unfinished>
+    requires { history.now.readers ≡ 0 }
+    ensures { WritesText S.Sink out.old result out.new (IsReplayed history.now.updates.items
+        history.now.questions.items history.now.batch history.now.readers) }
+{
+    let map = map_of(rt, alloc, history, gate)?;
+    let none: [Reading; 0] = [];
+    match write_lines(out, &map, &none, &history.updates, &history.questions) {
+        Ok(()) => Ok(()),
+        Err(_) => Err(Unfinished::WriteFault),
+    }
+}
+
+// The same with readers.
+fn write_beside<R: Threads + Wait + Sync, S: Sink, G: Gate>(
+    rt: &R,
+    alloc: Global,
+    history: &History,
+    out: &mut S,
+    gate: &G,
+) -> Result<(), Unfinished>
+    requires { 0 < history.now.readers }
+    ensures { WritesText S.Sink out.old result out.new (IsReplayed history.now.updates.items
+        history.now.questions.items history.now.batch history.now.readers) }
+{
+    let plan = Plan {
+        levels: history.levels,
+        batch: history.batch,
+        readers: history.readers,
+        workers: history.workers.count,
+    };
+    let (updates, questions) = (&history.updates, &history.questions);
+    let left = replay(rt, alloc, updates, questions, plan, gate)?;
+    let done = write_lines(out, &left, left.readings(), updates, questions);
+    left.close(rt);
+    match done {
         Ok(()) => Ok(()),
         Err(_) => Err(Unfinished::WriteFault),
     }
@@ -59,62 +114,232 @@ fn map_of<R: Threads + Sync, G: Gate>(
 }
 
 // Writes the whole text.
-fn write_lines<S: Sink>(
+fn write_lines<S: Sink, A: Asked>(
     out: &mut S,
-    map: &LogMap,
+    asked: &A,
+    readings: &[Reading],
     updates: &[Update],
     questions: &[Question],
 ) -> Result<(), Failed>
-    requires { StandsFor map.now updates.now }
+    requires answers { A.answers_by asked.now (map_after updates.now) }
+    requires each { (batch : ℕ)
+        × All (IsWholeReading updates.now batch questions.now) readings.now }
     ensures ok { OnOk result (Writes S.Sink out.old out.new
-        (updates_line (length updates.now) ∷ end_lines (map_after updates.now) questions.now)) }
+        (replayed_lines updates.now questions.now readings.now)) }
     ensures err { OnErr result (BreaksOff S.Sink out.old out.new
-        (updates_line (length updates.now) ∷ end_lines (map_after updates.now) questions.now)) }
+        (replayed_lines updates.now questions.now readings.now)) }
 {
     let mut line = TextLine::new();
     fill_count(&mut line, b"updates", updates.len() as u64);
     hand_over(out, line.as_bytes())?;
-    write_answers(out, &mut line, map, questions)?;
-    fill_count(&mut line, b"live", map.count(0, u64::MAX));
-    hand_over(out, line.as_bytes())
+    write_rest(out, &mut line, asked, readings, updates, questions)
 }
 
-// Writes the answer to each question.
-fn write_answers<S: Sink>(
+// Writes all behind the first line.
+fn write_rest<S: Sink, A: Asked>(
     out: &mut S,
     line: &mut TextLine,
-    log_map: &LogMap,
+    asked: &A,
+    readings: &[Reading],
+    updates: &[Update],
     questions: &[Question],
 ) -> Result<(), Failed>
-    ensures ok { OnOk result ((updates : List Update) → StandsFor log_map.now updates →
-        Writes S.Sink out.old out.new (map (end_line (map_after updates)) questions.now)) }
-    ensures err { OnErr result ((updates : List Update) → StandsFor log_map.now updates →
-        BreaksOff S.Sink out.old out.new (map (end_line (map_after updates)) questions.now)) }
+    requires answers { A.answers_by asked.now (map_after updates.now) }
+    requires each { (batch : ℕ)
+        × All (IsWholeReading updates.now batch questions.now) readings.now }
+    ensures ok { OnOk result (Writes S.Sink out.old out.new
+        (read_lines updates.now questions.now 0 readings.now
+        ++ closing_lines updates.now questions.now (length readings.now))) }
+    ensures err { OnErr result (BreaksOff S.Sink out.old out.new
+        (read_lines updates.now questions.now 0 readings.now
+        ++ closing_lines updates.now questions.now (length readings.now))) }
+{
+    write_read(out, line, readings, updates, questions)?;
+    write_closing(out, line, asked, readings, updates, questions)
+}
+
+// Writes what each reader was answered beside the updates.
+fn write_read<S: Sink>(
+    out: &mut S,
+    line: &mut TextLine,
+    readings: &[Reading],
+    updates: &[Update],
+    questions: &[Question],
+) -> Result<(), Failed>
+    requires { (batch : ℕ) × All (IsWholeReading updates.now batch questions.now) readings.now }
+    ensures ok { OnOk result (Writes S.Sink out.old out.new
+        (read_lines updates.now questions.now 0 readings.now)) }
+    ensures err { OnErr result (BreaksOff S.Sink out.old out.new
+        (read_lines updates.now questions.now 0 readings.now)) }
+{
+    for i in 0..readings.len() {
+        write_reading(out, line, i, &readings[i].sightings, updates, questions)?;
+    }
+    Ok(())
+}
+
+// Writes what a reader was answered beside the updates.
+fn write_reading<S: Sink>(
+    out: &mut S,
+    line: &mut TextLine,
+    reader: usize,
+    sightings: &[Sighting],
+    updates: &[Update],
+    questions: &[Question],
+) -> Result<(), Failed>
+    requires { AreAnswers updates.now questions.now sightings.now }
+    ensures ok { OnOk result (Writes S.Sink out.old out.new
+        (reader_lines updates.now reader questions.now sightings.now)) }
+    ensures err { OnErr result (BreaksOff S.Sink out.old out.new
+        (reader_lines updates.now reader questions.now sightings.now)) }
 {
     for i in 0..questions.len() {
-        fill_answer(line, log_map, questions[i]);
+        fill_sighting(line, reader, questions[i], sightings[i]);
         hand_over(out, line.as_bytes())?;
     }
     Ok(())
 }
 
-fn fill_answer(line: &mut TextLine, map: &LogMap, question: Question)
-    ensures { (updates : List Update) → StandsFor map.now updates →
-        line.new ≡ end_line (map_after updates) question }
+// Writes that each reader saw all updates, and what the map after them answers.
+fn write_closing<S: Sink, A: Asked>(
+    out: &mut S,
+    line: &mut TextLine,
+    asked: &A,
+    readings: &[Reading],
+    updates: &[Update],
+    questions: &[Question],
+) -> Result<(), Failed>
+    requires answers { A.answers_by asked.now (map_after updates.now) }
+    requires each { All (λ reading. reading.last ≡ length updates.now) readings.now }
+    ensures ok { OnOk result (Writes S.Sink out.old out.new
+        (closing_lines updates.now questions.now (length readings.now))) }
+    ensures err { OnErr result (BreaksOff S.Sink out.old out.new
+        (closing_lines updates.now questions.now (length readings.now))) }
+{
+    write_lasts(out, line, readings, updates)?;
+    write_ends(out, line, asked, updates, questions)
+}
+
+// Writes how many updates each reader saw at the end.
+fn write_lasts<S: Sink>(
+    out: &mut S,
+    line: &mut TextLine,
+    readings: &[Reading],
+    updates: &[Update],
+) -> Result<(), Failed>
+    requires { All (λ reading. reading.last ≡ length updates.now) readings.now }
+    ensures ok { OnOk result (Writes S.Sink out.old out.new
+        (map (last_line (length updates.now)) (range_with_len 0 (length readings.now)))) }
+    ensures err { OnErr result (BreaksOff S.Sink out.old out.new
+        (map (last_line (length updates.now)) (range_with_len 0 (length readings.now)))) }
+{
+    for i in 0..readings.len() {
+        fill_last(line, i, readings[i].last);
+        hand_over(out, line.as_bytes())?;
+    }
+    Ok(())
+}
+
+// Writes what the map after all updates answers, and how many keys it has.
+fn write_ends<S: Sink, A: Asked>(
+    out: &mut S,
+    line: &mut TextLine,
+    asked: &A,
+    updates: &[Update],
+    questions: &[Question],
+) -> Result<(), Failed>
+    requires { A.answers_by asked.now (map_after updates.now) }
+    ensures ok { OnOk result (Writes S.Sink out.old out.new
+        (end_lines (map_after updates.now) questions.now)) }
+    ensures err { OnErr result (BreaksOff S.Sink out.old out.new
+        (end_lines (map_after updates.now) questions.now)) }
+{
+    write_answers(out, line, asked, updates, questions)?;
+    fill_count(line, b"live", live_in(asked));
+    hand_over(out, line.as_bytes())
+}
+
+// How many keys there are, from the least key to the greatest.
+fn live_in<A: Asked>(asked: &A) -> u64
+    ensures { (pairs : List (ℕ × ℕ)) → A.answers_by asked.now pairs → result ≡ live_in pairs }
+{
+    match asked.answer(Question::Count(0, u64::MAX)) {
+        Answer::Number(count) => count,
+        _ => 0,
+    }
+}
+
+// Writes the answer to each question.
+fn write_answers<S: Sink, A: Asked>(
+    out: &mut S,
+    line: &mut TextLine,
+    asked: &A,
+    updates: &[Update],
+    questions: &[Question],
+) -> Result<(), Failed>
+    requires { A.answers_by asked.now (map_after updates.now) }
+    ensures ok { OnOk result (Writes S.Sink out.old out.new
+        (map (end_line (map_after updates.now)) questions.now)) }
+    ensures err { OnErr result (BreaksOff S.Sink out.old out.new
+        (map (end_line (map_after updates.now)) questions.now)) }
+{
+    for i in 0..questions.len() {
+        fill_end(line, questions[i], asked.answer(questions[i]));
+        hand_over(out, line.as_bytes())?;
+    }
+    Ok(())
+}
+
+fn fill_end(line: &mut TextLine, question: Question, answer: Answer)
+    ensures { (pairs : List (ℕ × ℕ)) → answer ≡ answer_of pairs question →
+        line.new ≡ end_line pairs question }
 {
     line.clear();
     line.push(b"end");
-    match question {
-        Question::Get(key) => push_value(line, key, map.get(key)),
-        Question::Next(from) => push_pair(line, from, map.next(from)),
-        Question::Count(low, high) => {
-            line.push(b" count");
-            line.push_number(low);
-            line.push_number(high);
-            line.push_number(map.count(low, high));
-        }
-    }
+    push_answer(line, question, answer);
     line.push(b"\n");
+}
+
+fn fill_sighting(line: &mut TextLine, reader: usize, question: Question, sighting: Sighting)
+    ensures { (updates : List Update) →
+        sighting.answer ≡ answer_of (map_after (take sighting.length updates)) question →
+        line.new ≡ reader_line updates reader question sighting.length }
+{
+    line.clear();
+    line.push(b"reader");
+    line.push_number(reader);
+    line.push_number(sighting.length);
+    push_answer(line, question, sighting.answer);
+    line.push(b"\n");
+}
+
+fn fill_last(line: &mut TextLine, reader: usize, count: u64)
+    ensures { line.new ≡ last_line count reader }
+{
+    line.clear();
+    line.push(b"reader");
+    line.push_number(reader);
+    line.push(b" last");
+    line.push_number(count);
+    line.push(b"\n");
+}
+
+// Adds an answer to this question.
+fn push_answer(line: &mut TextLine, question: Question, answer: Answer)
+    requires { length line.old ≤ 64 }
+    ensures text { (pairs : List (ℕ × ℕ)) → answer ≡ answer_of pairs question →
+        line.new ≡ line.old ++ 32 ∷ join_with_byte 32 (answer_words pairs question) }
+    ensures room { length line.new ≤ length line.old + 96 }
+{
+    match (question, answer) {
+        (Question::Get(key), Answer::Value(value)) => push_value(line, key, value),
+        (Question::Next(from), Answer::Pair(pair)) => push_pair(line, from, pair),
+        (Question::Count(low, high), Answer::Number(count)) => {
+            push_count(line, low, high, count);
+        }
+        // Never comes: an answer is of its question's kind.
+        _ => {}
+    }
 }
 
 // Adds the value at a key, if there is one.
@@ -146,6 +371,18 @@ fn push_pair(line: &mut TextLine, from: u64, pair: Option<(u64, u64)>)
         }
         None => line.push(b" none"),
     }
+}
+
+// Adds how many keys there are between two.
+fn push_count(line: &mut TextLine, low: u64, high: u64, count: u64)
+    requires { length line.old ≤ 64 }
+    ensures text { line.new ≡ line.old ++ 32 ∷ join_with_byte 32 (count_words low high count) }
+    ensures room { length line.new ≤ length line.old + 80 }
+{
+    line.push(b" count");
+    line.push_number(low);
+    line.push_number(high);
+    line.push_number(count);
 }
 
 // A word and a number.

@@ -8,6 +8,7 @@ ghost use Rattle.log_levels.specs.Accepted.{entries_of};
 ghost use Rattle.commands.specs.PointRegions.{IsRegionOf};
 
 use log_levels::Update;
+use map_replay::Question;
 use zorder::Region;
 
 /// The keys of a file: they never fall, and are fewer than 2^32.
@@ -61,22 +62,14 @@ pub struct Table {
     pub ghost few: { bits ≤ 20 },
 }
 
-/// A question to a map.
-#[derive(Clone, Copy, Debug, PartialEq, Eq)]
-pub enum Question {
-    /// The value at this key.
-    Get(u64),
-    /// The least key from this one on, with its value.
-    Next(u64),
-    /// How many keys there are from the first to the second, both included.
-    Count(u64, u64),
-}
-
-/// Updates of a map, and the questions that are asked of it after them.
+/// Updates of a map, and the questions that are asked of it beside them and after them.
 #[derive(Drop)]
 pub struct History {
     /// How many levels the map has, from 1 to 26. No text depends on it.
     pub levels: u32,
+    /// How many updates a batch has, and how many readers ask beside them, at most 16.
+    pub batch: u32,
+    pub readers: u32,
     /// The workers that build a level.
     pub workers: Workers,
     /// The updates, in order.
@@ -85,6 +78,8 @@ pub struct History {
     pub questions: Vec<Question>,
     pub ghost some_levels: { 1 ≤ levels },
     pub ghost few_levels: { levels ≤ 26 },
+    pub ghost some_updates: { 1 ≤ batch },
+    pub ghost few_readers: { readers ≤ 16 },
     pub ghost fits: { length (entries_of updates.items) ≤ 64 * 2 ^ levels - 1 },
 }
 
@@ -128,7 +123,7 @@ pub enum Task {
     Box {
         search: Search,
     },
-    /// Write what a map answers after updates, and how many keys it has.
+    /// Write what a map answers beside updates and after them, and how many keys it has.
     Replay {
         history: History,
     },

@@ -3,7 +3,7 @@ use Rattle.std.proofs.Common.{◌≡◌, ℕ, not, List, Option, Some, Ok, Err, 
 use Rattle.pgm_script.specs.declared.script.ScriptKind.{ScriptKind}
 use Rattle.sosd_reader.specs.KeyFiles.{key_width}
 use Rattle.sosd_reader.specs.NumberFiles.Kind.{of_keys, of_points}
-use Rattle.command_line.specs.Requests.{Building, Request}
+use Rattle.command_line.specs.Requests.{Building, Replaying, Request}
 use Rattle.command_line.specs.Requests.Request.{build, explain, query, box, replay, drill}
 use Rattle.pgm_script.specs.declared.script.ScriptLine.{ScriptLine}
 use Rattle.pgmtool.specs.declared.refusal.Refusal.TheVariants.{Full}
@@ -13,18 +13,18 @@ use Rattle.pgmtool.proofs.NumberInputs.{numbers_one}
 use Rattle.pgmtool.proofs.ScriptInputs.{script_one}
 
 -- whether the map has room is a matter of two numbers
-history_one : (levels : ℕ) (lines : List ScriptLine) → IsFunctional (reads_history levels lines)
-history_one levels lines (Ok task) (Ok other) is same = ap Ok (is.1 ∙ sym same.1)
-history_one levels lines (Ok task) (Err (Full asked room)) is same = absurd (omega (arith, is.0, same.0, same.1, same.2))
-history_one levels lines (Ok task) (Err refusal) is same = absurd same
-history_one levels lines (Err (Full asked room)) (Ok task) is same = absurd (omega (arith, same.0, is.0, is.1, is.2))
-history_one levels lines (Err refusal) (Ok task) is same = absurd is
-history_one levels lines (Err (Full asked room)) (Err (Full others left)) is same =
+history_one : (replaying : Replaying) (lines : List ScriptLine) → IsFunctional (reads_history replaying lines)
+history_one replaying lines (Ok task) (Ok other) is same = ap Ok (is.1 ∙ sym same.1)
+history_one replaying lines (Ok task) (Err (Full asked room)) is same = absurd (omega (arith, is.0, same.0, same.1, same.2))
+history_one replaying lines (Ok task) (Err refusal) is same = absurd same
+history_one replaying lines (Err (Full asked room)) (Ok task) is same = absurd (omega (arith, same.0, is.0, is.1, is.2))
+history_one replaying lines (Err refusal) (Ok task) is same = absurd is
+history_one replaying lines (Err (Full asked room)) (Err (Full others left)) is same =
     let one : asked ≡ others = is.0 ∙ sym same.0 in
     let two : room ≡ left = is.1 ∙ sym same.1 in
     cc
-history_one levels lines (Err (Full asked room)) (Err refusal) is same = absurd same
-history_one levels lines (Err refusal) other is same = absurd is
+history_one replaying lines (Err (Full asked room)) (Err refusal) is same = absurd same
+history_one replaying lines (Err refusal) other is same = absurd is
 
 module _ (contents : List ℕ → Option (List ℕ)) where
   index_one : (building : Building) → IsFunctional (reads_index (Some contents) building)
@@ -37,5 +37,5 @@ module _ (contents : List ℕ → Option (List ℕ)) where
       (λ keys. then_one _ _ (script_one ScriptKind.Find contents name) (λ lines. gives_one _))
   reads_one (box searching) = then_one (reads_points searching.dims (Some contents) searching.file) _ (numbers_one (of_points searching.dims) contents searching.file)
       (λ coords. then_one _ _ (script_one (ScriptKind.Region searching.dims) contents searching.script) (λ lines. gives_one _))
-  reads_one (replay replaying) = then_one _ _ (script_one ScriptKind.Replay contents replaying.script) (history_one replaying.levels)
+  reads_one (replay replaying) = then_one _ _ (script_one ScriptKind.Replay contents replaying.script) (history_one replaying)
   reads_one (drill drilling) = gives_one _

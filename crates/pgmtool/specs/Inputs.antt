@@ -12,14 +12,14 @@ use Rattle.pgm_script.specs.declared.script.ScriptLine.{ScriptLine}
 use Rattle.pgm_script.specs.Scripts.{IsLineOf, ReadsAs as ReadsScript}
 use Rattle.log_levels.specs.declared.update.Update.{Update}
 use Rattle.log_levels.specs.Accepted.{entries_of}
-use Rattle.command_line.specs.Requests.{Building, Drilling, Request}
+use Rattle.command_line.specs.Requests.{Building, Drilling, Replaying, Request}
 use Rattle.command_line.specs.Requests.Request.{build, explain, query, box, replay, drill}
 use Rattle.pgmtool.specs.declared.refusal.Refusal.{Refusal}
 use Rattle.pgmtool.specs.declared.refusal.Refusal.TheVariants.{ReadFault, TooLong, Script, Full}
 use Rattle.pgmtool.specs.declared.inputs.TheConstants.{SCRIPT_LIMIT}
 use Rattle.pgmtool.specs.Files.{Files, HoldsOfFile, IsFaultOf, IsMissing, IsReadable}
 use Rattle.pgmtool.specs.Refusals.{refusal_of}
-use Rattle.commands.specs.declared.task.Question.{Question}
+use Rattle.map_replay.specs.declared.question.Question.{Question}
 use Rattle.commands.specs.Tasks.{Bounds}
 use Rattle.commands.specs.Tasks as tasks
 
@@ -92,11 +92,11 @@ abbrev pub room_of : ℕ → ℕ
 room_of levels = 64 * 2 ^ levels - 1
 
 -- what a script asks for, where a map of so many levels has room for the entries of all its updates
-abbrev pub reads_history : ℕ → List ScriptLine → Reading tasks.Task
-reads_history levels lines (Ok task) = (length (entries_of (updates_in lines)) ≤ room_of levels)
-    × (task ≡ tasks.Task.replay (updates_in lines) (map_questions_in lines))
-reads_history levels lines (Err (Full asked room)) = (asked ≡ length (entries_of (updates_in lines))) × (room ≡ room_of levels) × (room < asked)
-reads_history levels lines (Err refusal) = ⊥
+abbrev pub reads_history : Replaying → List ScriptLine → Reading tasks.Task
+reads_history replaying lines (Ok task) = (length (entries_of (updates_in lines)) ≤ room_of replaying.levels)
+    × (task ≡ tasks.Task.replay (updates_in lines) (map_questions_in lines) replaying.batch replaying.readers)
+reads_history replaying lines (Err (Full asked room)) = (asked ≡ length (entries_of (updates_in lines))) × (room ≡ room_of replaying.levels) × (room < asked)
+reads_history replaying lines (Err refusal) = ⊥
 
 -- one input, and then what goes on with it: the first refusal is that of both
 abbrev pub then : {A B : Type 0} → Reading A → (A → Reading B) → Reading B
@@ -128,5 +128,5 @@ reads files (query building name windows) = then (reads_index files building) (�
 reads files (box searching) = then (reads_points searching.dims files searching.file) (λ coords.
     then (reads_script (ScriptKind.Region searching.dims) files searching.script) (λ lines.
     gives (tasks.Task.box searching.dims coords (regions_in lines))))
-reads files (replay replaying) = then (reads_script ScriptKind.Replay files replaying.script) (reads_history replaying.levels)
+reads files (replay replaying) = then (reads_script ScriptKind.Replay files replaying.script) (reads_history replaying)
 reads files (drill drilling) = gives (drill_of drilling)

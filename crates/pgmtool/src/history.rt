@@ -30,7 +30,7 @@ pub fn history_in(
     replaying: Replaying<'_>,
     lines: &[ScriptLine],
 ) -> Result<History, Stopped>
-    ensures { (faults : ℕ) → Answers (reads_history replaying.entry.levels lines.now) replay_of
+    ensures { (faults : ℕ) → Answers (reads_history (replayed_of replaying.entry) lines.now) replay_of
         faults faults result }
 {
     let updates = updates_in(alloc, lines)?;
@@ -45,6 +45,8 @@ pub fn history_in(
     };
     Ok(History {
         levels: replaying.levels,
+        batch: replaying.batch,
+        readers: replaying.readers,
         workers,
         updates,
         questions,

@@ -33,6 +33,7 @@ pub use status::Status;
 use std::alloc::AllocError;
 use std::process::ExitCode;
 use std::rt::{Env, Files};
+use std::sync::Wait;
 use std::thread::Threads;
 use std::{env, io};
 
@@ -44,7 +45,7 @@ fn main(rt: HostRuntime) -> ExitCode {
 }
 
 // Makes the real objects, and calls `run`.
-fn execute<R: AllocGlobal + Env + Files + Print + Threads + Sync>(rt: &R) -> Status {
+fn execute<R: AllocGlobal + Env + Files + Print + Threads + Wait + Sync>(rt: &R) -> Status {
     let Ok(words) = words_of(rt) else {
         return Status::NoMemory;
     };

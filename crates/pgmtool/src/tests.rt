@@ -1,8 +1,9 @@
 // What no clause says: worked rows through the whole program, and that it gives answers at all.
 use crate::{Status, run};
-use edge::{FileShelf, MemShelf, MemSink, OpenGate, OutSink, Shelf, Sink};
+use edge::{FileShelf, Gate, MemShelf, MemSink, OpenGate, OutSink, Shelf, Sink};
 use std::fs;
 use std::process::Abort;
+use std::sync::Wait;
 use std::test::Fail;
 use std::thread::Threads;
 
@@ -10,6 +11,7 @@ mod build;
 mod drill;
 mod explain;
 mod query;
+mod readers;
 mod refusals;
 mod regions;
 mod replay;
@@ -43,9 +45,18 @@ struct Given<'a> {
 }
 
 // What a run says and writes.
-fn outcome<R: AllocGlobal + Threads + Sync>(
+fn outcome<R: AllocGlobal + Threads + Wait + Sync>(
     rt: &R,
     given: Given<'_>,
+) -> Result<(Status, Vec<u8>), Fail> {
+    outcome_at(rt, given, &OpenGate)
+}
+
+// The same with a gate that threads pass.
+fn outcome_at<R: AllocGlobal + Threads + Wait + Sync, G: Gate>(
+    rt: &R,
+    given: Given<'_>,
+    gate: &G,
 ) -> Result<(Status, Vec<u8>), Fail> {
     let mut words = Vec::new(rt.alloc());
     words.push(String::from_str(rt.alloc(), "pgmtool")?)?;
@@ -72,12 +83,12 @@ fn outcome<R: AllocGlobal + Threads + Sync>(
         vec![in rt.alloc(); given.writing.failing]?,
         given.writing.most.max(1),
     )?;
-    let status = run(rt, &words, &mut shelf, &mut sink, &OpenGate);
+    let status = run(rt, &words, &mut shelf, &mut sink, gate);
     Ok((status, sink.bytes().to_vec(rt.alloc())?))
 }
 
 // Fails with the row's name. The text is given line by line.
-fn check<R: AllocGlobal + Abort + Threads + Sync>(
+fn check<R: AllocGlobal + Abort + Threads + Wait + Sync>(
     rt: &R,
     name: &str,
     given: Given<'_>,
@@ -96,7 +107,7 @@ fn check<R: AllocGlobal + Abort + Threads + Sync>(
 }
 
 // What is written by whole devices and by such that move a byte at a time.
-fn check_text<'a, R: AllocGlobal + Abort + Threads + Sync>(
+fn check_text<'a, R: AllocGlobal + Abort + Threads + Wait + Sync>(
     rt: &R,
     name: &str,
     words: &'a [&'a str],

@@ -1,10 +1,14 @@
 -- The text of `replay`.
-use Rattle.std.specs.Prelude.{◌≡◌, ℕ, List, [], ◌∷◌, ◌++◌, length, map, codes, decimal, Option, None, Some}
+use Rattle.std.specs.Prelude.{◌≡◌, ◌+◌, ℕ, List, [], ◌∷◌, ◌++◌, length, take, map, codes, decimal, Option, None, Some}
+use Rattle.std.specs.List.{range_with_len}
 use Rattle.log_levels.specs.declared.update.Update.{Update}
 use Rattle.log_levels.specs.Maps.{map_after, value_at, next_from, count_between}
-use Rattle.commands.specs.declared.task.Question.{Question}
-use Rattle.commands.specs.declared.task.Question.TheVariants.{Get, Next, Count}
+use Rattle.map_replay.specs.declared.question.Question.{Question}
+use Rattle.map_replay.specs.declared.question.Question.TheVariants.{Get, Next, Count}
+use Rattle.map_replay.specs.declared.reading.Sighting.{Sighting}
+use Rattle.map_replay.specs.Readings.{IsReading}
 use Rattle.written.specs.TextLines.{text_line}
+use Rattle.commands.specs.Texts.InTurn.{TellsEach}
 
 -- `get K V`, or `get K none`
 abbrev pub get_words : ℕ → Option ℕ → List (List ℕ)
@@ -34,6 +38,26 @@ live_in pairs = count_between pairs 0 18446744073709551615
 abbrev pub updates_line : ℕ → List ℕ
 updates_line count = text_line (codes "updates" ∷ decimal count ∷ [])
 
+-- `reader R K ANSWER`: the answer of the map after the first K updates
+abbrev pub reader_line : List Update → (reader : ℕ) → Question → (length : ℕ) → List ℕ
+reader_line updates reader question length =
+    text_line (codes "reader" ∷ decimal reader ∷ decimal length ∷ answer_words (map_after (take length updates)) question)
+
+-- for each question in turn
+abbrev pub reader_lines : List Update → ℕ → List Question → List Sighting → List (List ℕ)
+reader_lines updates reader (question ∷ questions) (sighting ∷ sightings) =
+    reader_line updates reader question sighting.length ∷ reader_lines updates reader questions sightings
+reader_lines updates reader questions sightings = []
+
+-- the lines of reader R: each answer is after published updates, and after no fewer than the one before
+abbrev pub IsRead : List Update → List Question → (batch reader : ℕ) → List (List ℕ) → Type 0
+IsRead updates questions batch reader pieces =
+    (sightings : List Sighting) × IsReading updates batch questions sightings × (pieces ≡ reader_lines updates reader questions sightings)
+
+-- `reader R last K`
+abbrev pub last_line : (count reader : ℕ) → List ℕ
+last_line count reader = text_line (codes "reader" ∷ decimal reader ∷ codes "last" ∷ decimal count ∷ [])
+
 -- `end ANSWER`
 abbrev pub end_line : List (ℕ × ℕ) → Question → List ℕ
 end_line pairs question = text_line (codes "end" ∷ answer_words pairs question)
@@ -46,6 +70,13 @@ live_line pairs = text_line (codes "live" ∷ decimal (live_in pairs) ∷ [])
 abbrev pub end_lines : List (ℕ × ℕ) → List Question → List (List ℕ)
 end_lines pairs questions = map (end_line pairs) questions ++ live_line pairs ∷ []
 
--- how many updates there are, and what the map after all of them answers
-abbrev pub IsReplayed : List Update → List Question → List (List ℕ) → Type 0
-IsReplayed updates questions pieces = pieces ≡ updates_line (length updates) ∷ end_lines (map_after updates) questions
+-- what comes behind what the readers were answered: that each saw all updates, and what the map after them answers
+abbrev pub closing_lines : List Update → List Question → (readers : ℕ) → List (List ℕ)
+closing_lines updates questions readers =
+    map (last_line (length updates)) (range_with_len 0 readers) ++ end_lines (map_after updates) questions
+
+-- how many updates there are, what each reader was answered beside them, and what the map after all of them answers
+pub record IsReplayed (updates : List Update) (questions : List Question) (batch readers : ℕ) (pieces : List (List ℕ)) : Type 0 where
+  pub read : List (List ℕ)
+  pub each : TellsEach (IsRead updates questions batch) (range_with_len 0 readers) read
+  pub lines : pieces ≡ updates_line (length updates) ∷ (read ++ closing_lines updates questions readers)

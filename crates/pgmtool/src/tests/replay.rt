@@ -130,7 +130,7 @@ fn hundred<R: AllocGlobal>(rt: &R) -> Result<Vec<u8>, Fail> {
     Ok(script)
 }
 
-fn check_levels<R: AllocGlobal + Abort + Threads + Sync>(
+fn check_levels<R: AllocGlobal + Abort + Threads + Wait + Sync>(
     rt: &R,
     name: &str,
     levels: &str,

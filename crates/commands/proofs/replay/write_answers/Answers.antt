@@ -2,8 +2,8 @@ use Rattle.std.proofs.Common.{◌≡◌, ◌+◌, ◌<◌, [], ◌∷◌, ◌++�
 use Rattle.std.proofs.lemmas.List.{drop_all}
 use Rattle.written.proofs.CallerLemmas.{written_none, written_more, written_all, breaks_off_there}
 use Rattle.log_levels.specs.Maps.{map_after}
-use Rattle.commands.specs.declared.task.Question.{Question}
-use Rattle.commands.specs.declared.task.Question.TheVariants.{Get}
+use Rattle.map_replay.specs.declared.question.Question.{Question}
+use Rattle.map_replay.specs.declared.question.Question.TheVariants.{Get}
 use Rattle.commands.specs.Texts.Replay.{end_line}
 use Rattle.commands.proofs.WritingLemmas.{on_err}
 use Rattle.commands.proofs.replay.write_answers.Goals as goal
@@ -17,24 +17,26 @@ begins pairs questions i piece there is =
     ∙ ap (λ (line : List ℕ). line ∷ map (end_line pairs) (drop (i + 1) questions)) (sym is)
 
 pub loop-i-init : goal.loop-i-init
-loop-i-init g c = λ updates stands. written_none g.S.Sink c.args.out.now (map (end_line (map_after updates)) c.args.questions.now)
+loop-i-init g c = written_none g.S.Sink c.args.out.now (map (end_line (map_after c.args.updates.now)) c.args.questions.now)
 
 pub loop-i-preserved : goal.loop-i-preserved
-loop-i-preserved g c = λ updates stands.
+loop-i-preserved g c =
+    let pairs = map_after c.args.updates.now in
     let piece = c.as_bytes.result.now in
     written_more g.S.Sink c.args.out.now c.loop-i.out c.hand_over.new.out _ _ _ (piece ∷ [])
-    (begins (map_after updates) c.args.questions.now c.loop-i.i piece (omega arith) (c.as_bytes.ensures ∙ c.fill_answer.ensures updates stands))
-    c.in_ok-hand_over.ensures.ok (c.loop-i.invariant updates stands)
+    (begins pairs c.args.questions.now c.loop-i.i piece (omega arith) (c.as_bytes.ensures ∙ c.fill_end.ensures pairs (c.answer.ensures pairs c.requires)))
+    c.in_ok-hand_over.ensures.ok c.loop-i.invariant
 
 pub returns-in_err-hand_over-clause-err : goal.returns-in_err-hand_over-clause-err
 returns-in_err-hand_over-clause-err g c =
+    let pairs = map_after c.args.updates.now in
     let piece = c.as_bytes.result.now in
-    on_err c.from_residual.result _ (λ updates stands.
-    breaks_off_there g.S.Sink c.args.out.now c.loop-i.out c.hand_over.new.out _ _ _ (piece ∷ [])
-    (begins (map_after updates) c.args.questions.now c.loop-i.i piece (omega arith) (c.as_bytes.ensures ∙ c.fill_answer.ensures updates stands))
-    c.in_err-hand_over.ensures.err (c.loop-i.invariant updates stands))
+    on_err c.from_residual.result _
+    (breaks_off_there g.S.Sink c.args.out.now c.loop-i.out c.hand_over.new.out _ _ _ (piece ∷ [])
+    (begins pairs c.args.questions.now c.loop-i.i piece (omega arith) (c.as_bytes.ensures ∙ c.fill_end.ensures pairs (c.answer.ensures pairs c.requires)))
+    c.in_err-hand_over.ensures.err c.loop-i.invariant)
 
 pub returns-clause-ok : goal.returns-clause-ok
-returns-clause-ok g c = λ updates stands.
+returns-clause-ok g c =
     written_all g.S.Sink c.args.out.now c.loop-i.out _ _
-    (ap (map (end_line (map_after updates))) (drop_all c.loop-i.i c.args.questions.now (omega arith))) (c.loop-i.invariant updates stands)
+    (ap (map (end_line (map_after c.args.updates.now))) (drop_all c.loop-i.i c.args.questions.now (omega arith))) c.loop-i.invariant

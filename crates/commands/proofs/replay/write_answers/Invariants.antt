@@ -1,12 +1,10 @@
-use Rattle.std.proofs.Common.{drop, map, List}
-use Rattle.log_levels.specs.declared.update.Update.{Update}
+use Rattle.std.proofs.Common.{drop, map}
 use Rattle.log_levels.specs.Maps.{map_after}
-use Rattle.log_levels.specs.Shapes.{StandsFor}
 use Rattle.written.proofs.CallerLemmas.{HasWritten}
 use Rattle.commands.specs.Texts.Replay.{end_line}
 use Rattle.commands.proofs.replay.write_answers.Given as goal
 
 -- the answers to the questions before this place were written
 abbrev pub invariant-loop-i : goal.invariant-loop-i
-invariant-loop-i g l = (updates : List Update) → StandsFor l.log_map updates →
-    HasWritten g.S.Sink l.fn.out l.out (map (end_line (map_after updates)) l.questions) (map (end_line (map_after updates)) (drop l.i l.questions))
+invariant-loop-i g l =
+    HasWritten g.S.Sink l.fn.out l.out (map (end_line (map_after l.updates)) l.questions) (map (end_line (map_after l.updates)) (drop l.i l.questions))

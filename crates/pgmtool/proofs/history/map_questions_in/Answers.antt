@@ -1,7 +1,7 @@
 use Rattle.std.proofs.Common.{◌≡◌, ◌∙◌, ◌+◌, ◌<◌, ◌++◌, ◌∷◌, [], ap, sym, take, get_or, length, List, ℕ, arith}
 use Rattle.std.proofs.lemmas.List.{take_more}
 use Rattle.std.proofs.lemmas.List.Elements.{filter_map-append}
-use Rattle.commands.specs.declared.task.Question.{Question}
+use Rattle.map_replay.specs.declared.question.Question.{Question}
 use Rattle.pgm_script.specs.declared.script.ScriptLine.{ScriptLine}
 use Rattle.pgm_script.specs.declared.script.ScriptLine.TheVariants.{Find}
 use Rattle.pgmtool.specs.Inputs.{map_question_in, map_questions_in}

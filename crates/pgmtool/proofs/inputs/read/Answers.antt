@@ -101,12 +101,12 @@ returns-in_err-history-in-Replay-clause-answer g c =
     let files = g.F.Shelf.files c.args.files.now in
     let replaying = replayed_of c.in-Replay.replaying in
     let stopped = c.in_err-history-in-Replay.field-0.0 in
-    let two = subst (λ (lines : List ScriptLine). Answers {B = History} (reads_history replaying.levels lines) replay_of after after (Err stopped)) c.deref-in-Replay.ensures.value (c.in_err-history-in-Replay.ensures after) in
+    let two = subst (λ (lines : List ScriptLine). Answers {B = History} (reads_history replaying lines) replay_of after after (Err stopped)) c.deref-in-Replay.ensures.value (c.in_err-history-in-Replay.ensures after) in
     rw c.in-Replay.is (subst (Answers (reads files (replay replaying)) task_of before after)
     (sym (handed_on _ stopped c.from_residual-in_err-history-in-Replay.ensures.1))
-    (then_goes_on (reads_script ScriptKind.Replay files replaying.script) (reads_history replaying.levels) (λ (lines : Vec ScriptLine Global). lines.items) task_of
+    (then_goes_on (reads_script ScriptKind.Replay files replaying.script) (reads_history replaying) (λ (lines : Vec ScriptLine Global). lines.items) task_of
     before after after c.in_ok-lines-in-Replay.lines (Err stopped) c.in_ok-lines-in-Replay.ensures.answer
-    (stopped_alike (reads_history replaying.levels c.in_ok-lines-in-Replay.lines.items) replay_of task_of after after stopped two)))
+    (stopped_alike (reads_history replaying c.in_ok-lines-in-Replay.lines.items) replay_of task_of after after stopped two)))
 
 pub returns-in_ok-history-in-Replay-clause-answer : goal.returns-in_ok-history-in-Replay-clause-answer
 returns-in_ok-history-in-Replay-clause-answer g c =
@@ -115,8 +115,8 @@ returns-in_ok-history-in-Replay-clause-answer g c =
     let files = g.F.Shelf.files c.args.files.now in
     let replaying = replayed_of c.in-Replay.replaying in
     let history = c.in_ok-history-in-Replay.history in
-    let two = subst (λ (lines : List ScriptLine). Answers {B = History} (reads_history replaying.levels lines) replay_of after after (Ok history)) c.deref-in-Replay.ensures.value (c.in_ok-history-in-Replay.ensures after) in
+    let two = subst (λ (lines : List ScriptLine). Answers {B = History} (reads_history replaying lines) replay_of after after (Ok history)) c.deref-in-Replay.ensures.value (c.in_ok-history-in-Replay.ensures after) in
     rw c.in-Replay.is
-    (then_goes_on (reads_script ScriptKind.Replay files replaying.script) (reads_history replaying.levels) (λ (lines : Vec ScriptLine Global). lines.items) task_of
+    (then_goes_on (reads_script ScriptKind.Replay files replaying.script) (reads_history replaying) (λ (lines : Vec ScriptLine Global). lines.items) task_of
     before after after c.in_ok-lines-in-Replay.lines (Ok (declared_task.Replay history)) c.in_ok-lines-in-Replay.ensures.answer
     (record { ok = two.ok; unfaulted = two.unfaulted; stopped = tt; faulted = λ rose. absurd (omega (arith, rose)); never_falls = two.never_falls }))

@@ -1,0 +1,154 @@
+-- Updates cut into batches, and what prefixes of them show.
+use Rattle.std.proofs.Common.{◌≡◌, ◌≤◌, ◌<◌, ◌+◌, ◌-◌, ◌*◌, ◌++◌, ◌∷◌, [], ℕ, List, length, take, drop, min, zero, suc, ap, sym, refl, ◌∙◌, subst, arith, append_assoc, length-append}
+use Rattle.std.specs.Prelude.{All, ⊤}
+use Rattle.std.proofs.lemmas.List.{take-append-drop, take_min, length-drop}
+use Rattle.std.proofs.lemmas.List.Elements.{All-nil, All-cons, All-head, All-tail}
+use mathlib.Core.List.{IsPrefix}
+use Rattle.log_levels.specs.declared.update.Update.{Update}
+use Rattle.log_levels.specs.Accepted.{entries_of, entries_from}
+use Rattle.log_levels.specs.Maps.{map_after}
+use Rattle.log_levels.proofs.UpdateLemmas.{entries_of-append}
+use Rattle.published.specs.Histories.{updates_of, count_of}
+use Rattle.published.proofs.CallerLemmas.{prefix_count, updates_of-append, count_of-append}
+use Rattle.map_replay.specs.declared.question.Question.{Question}
+use Rattle.map_replay.specs.declared.reading.Sighting.{Sighting}
+use Rattle.map_replay.specs.Questions.{answer_of}
+use Rattle.map_replay.specs.Readings.{IsPublished, AreAnswers, IsReading}
+use Rattle.map_replay.specs.Watching.{AreBatches, IsSeen, AreSeen, WasAsked}
+
+-- batches that all have this size
+abbrev pub AreFull : ℕ → List (List Update) → Type 0
+AreFull size [] = ⊤
+AreFull size (batch ∷ later) = (length batch ≡ size) × AreFull size later
+
+pub full_more : (size : ℕ) (batches : List (List Update)) (batch : List Update) → AreFull size batches → length batch ≡ size → AreFull size (batches ++ batch ∷ [])
+full_more size [] batch full same = (same, tt)
+full_more size (b ∷ batches) batch full same = (full.0, full_more size batches batch full.1 same)
+
+-- behind full batches one more may be shorter
+pub batches_more : (size : ℕ) (batches : List (List Update)) (batch : List Update) → AreFull size batches → 0 < length batch → length batch ≤ size →
+    AreBatches size (batches ++ batch ∷ [])
+batches_more size [] batch full some few = (some, few)
+batches_more size (b ∷ []) batch full some few = (full.0, (some, few))
+batches_more size (b ∷ c ∷ batches) batch full some few = (full.0, batches_more size (c ∷ batches) batch full.1 some few)
+
+count_of-cons : (batch : List Update) (batches : List (List Update)) → count_of (batch ∷ batches) ≡ length batch + count_of batches
+count_of-cons batch batches = length-append batch (updates_of batches)
+
+-- as many updates as some batches have
+published_more : (size before count length_after : ℕ) → IsPublished size count length_after → before ≡ size → IsPublished size (before + count) (before + length_after)
+published_more size before count n (batches, is) same = (batches + 1, omega (arith, is, same))
+
+-- what a prefix of batches has, where it is seen in a history that has no more updates than they
+pub prefix_published : (size : ℕ) (history shown prefix : List (List Update)) → AreBatches size history → IsPrefix history shown →
+    count_of shown ≡ count_of history → IsPrefix prefix shown → IsPublished size (count_of history) (count_of prefix)
+prefix_published size history shown [] batches begins same starts = (0, omega arith)
+prefix_published size [] shown (b ∷ prefix) batches begins same starts =
+    (0, omega (arith, same, prefix_count (b ∷ prefix) shown starts))
+prefix_published size (h ∷ history) [] (b ∷ prefix) batches begins same starts = absurd (cc (starts.1))
+prefix_published size (h ∷ []) (s ∷ shown) (b ∷ prefix) batches begins same starts =
+    let heads : h ≡ s = cc (begins.1) in
+    let first : b ≡ s = cc (starts.1) in
+    let long : length h ≡ length s = ap (λ (l : List Update). length l) heads in
+    let long_b : length b ≡ length s = ap (λ (l : List Update). length l) first in
+    let rest = prefix_count prefix shown (starts.0, cc (starts.1)) in
+    (1, omega (arith, same, long, long_b, batches.0, batches.1, rest, count_of-cons h [], count_of-cons s shown, count_of-cons b prefix))
+prefix_published size (h ∷ g ∷ history) (s ∷ shown) (b ∷ prefix) batches begins same starts =
+    let heads : h ≡ s = cc (begins.1) in
+    let first : b ≡ s = cc (starts.1) in
+    let long : length h ≡ length s = ap (λ (l : List Update). length l) heads in
+    let long_b : length b ≡ length s = ap (λ (l : List Update). length l) first in
+    let later = prefix_published size (g ∷ history) shown prefix batches.1 (begins.0, cc (begins.1))
+        (omega (arith, same, long, count_of-cons h (g ∷ history), count_of-cons s shown)) (starts.0, cc (starts.1)) in
+    subst (λ (n : ℕ). IsPublished size n (count_of (b ∷ prefix))) (sym (count_of-cons h (g ∷ history)))
+    (subst (λ (n : ℕ). IsPublished size (length h + count_of (g ∷ history)) n) (omega (arith, long, long_b, count_of-cons b prefix))
+    (published_more size (length h) (count_of (g ∷ history)) (count_of prefix) later batches.0))
+
+-- the first updates of a list
+take-prefix : (xs ys : List Update) → take (length xs) (xs ++ ys) ≡ xs
+take-prefix [] ys = refl
+take-prefix (x ∷ xs) ys = ap (λ (l : List Update). x ∷ l) (take-prefix xs ys)
+
+-- the updates of a prefix are the first ones
+pub prefix_first : (prefix shown : List (List Update)) → IsPrefix prefix shown → take (count_of prefix) (updates_of shown) ≡ updates_of prefix
+prefix_first prefix shown starts =
+    ap (λ (l : List Update). take (count_of prefix) l) (sym (ap updates_of starts.1) ∙ updates_of-append prefix starts.0)
+    ∙ take-prefix (updates_of prefix) (updates_of starts.0)
+
+no_update : (xs : List Update) → length xs ≡ 0 → xs ≡ []
+no_update [] none = refl
+no_update (x ∷ xs) none = absurd (omega (arith, none))
+
+append_nil : (xs : List Update) → xs ++ [] ≡ xs
+append_nil [] = refl
+append_nil (x ∷ xs) = ap (λ (l : List Update). x ∷ l) (append_nil xs)
+
+-- one list begins with the other and has no more updates: they have the same ones
+pub same_updates : (history shown : List (List Update)) → IsPrefix history shown → count_of shown ≡ count_of history → updates_of shown ≡ updates_of history
+same_updates history shown begins same =
+    let split = sym (ap updates_of begins.1) ∙ updates_of-append history begins.0 in
+    let none = no_update (updates_of begins.0) (omega (arith, same, ap (λ (l : List Update). length l) split, length-append (updates_of history) (updates_of begins.0))) in
+    split ∙ ap (λ (l : List Update). updates_of history ++ l) none ∙ append_nil (updates_of history)
+
+-- entries of fewer updates are fewer
+pub fewer_entries : (xs ys : List Update) → length (entries_of xs) ≤ length (entries_of (xs ++ ys))
+fewer_entries xs ys = omega (arith, ap (λ l. length l) (entries_of-append xs ys), length-append (entries_of xs) (entries_from (map_after xs) ys))
+
+-- what was seen in a history that has the updates is a reading of them
+module _ (updates : List Update) (size : ℕ) (history shown : List (List Update)) (batches : AreBatches size history) (all : updates_of history ≡ updates)
+    (begins : IsPrefix history shown) (same : count_of shown ≡ count_of history) where
+  abbrev Published : Sighting → Type 0
+  Published s = IsPublished size (length updates) s.length
+
+  one_published : (question : Question) (sighting : Sighting) → IsSeen shown question sighting → Published sighting
+  one_published question sighting (prefix, starts, length_is, answer_is) =
+      let has = prefix_published size history shown prefix batches begins same starts in
+      (has.0, length_is ∙ has.1 ∙ ap (λ (n : ℕ). min (has.0 * size) n) (ap (λ (l : List Update). length l) all))
+
+  one_answer : (question : Question) (sighting : Sighting) → IsSeen shown question sighting →
+      sighting.answer ≡ answer_of (map_after (take sighting.length updates)) question
+  one_answer question sighting (prefix, starts, length_is, answer_is) =
+      let first : take sighting.length updates ≡ updates_of prefix =
+          ap (λ (n : ℕ). take n updates) length_is
+          ∙ ap (λ (l : List Update). take (count_of prefix) l) (sym (same_updates history shown begins same ∙ all)) ∙ prefix_first prefix shown starts in
+      answer_is ∙ ap (λ (l : List Update). answer_of (map_after l) question) (sym first)
+
+  all_published : (questions : List Question) (sightings : List Sighting) → AreSeen shown questions sightings → All Published sightings
+  all_published [] [] seen = All-nil _
+  all_published [] (s ∷ sightings) seen = absurd seen
+  all_published (q ∷ questions) [] seen = absurd seen
+  all_published (q ∷ questions) (s ∷ sightings) seen = All-cons Published s sightings (one_published q s seen.0) (all_published questions sightings seen.1)
+
+  all_answers : (questions : List Question) (sightings : List Sighting) → AreSeen shown questions sightings → AreAnswers updates questions sightings
+  all_answers [] [] seen = tt
+  all_answers [] (s ∷ sightings) seen = seen
+  all_answers (q ∷ questions) [] seen = seen
+  all_answers (q ∷ questions) (s ∷ sightings) seen = (one_answer q s seen.0, all_answers questions sightings seen.1)
+
+  pub is_reading : (questions : List Question) (sightings : List Sighting) → WasAsked shown questions sightings → IsReading updates size questions sightings
+  is_reading questions sightings asked = record {
+    answers = all_answers questions sightings asked.seen;
+    published = all_published questions sightings asked.seen;
+    never_falls = asked.never_falls;
+  }
+
+-- a batch, between the updates before it and those behind it
+pub around : (n m : ℕ) (xs : List Update) → (take n xs ++ take m (drop n xs)) ++ drop m (drop n xs) ≡ xs
+around n m xs =
+    append_assoc (take n xs) (take m (drop n xs)) (drop m (drop n xs))
+    ∙ (ap (λ (l : List Update). take n xs ++ l) (take-append-drop m (drop n xs)) ∙ take-append-drop n xs)
+
+take-add : (n m : ℕ) (xs : List Update) → take (n + m) xs ≡ take n xs ++ take m (drop n xs)
+take-add zero m xs = let none : 0 + m ≡ m = omega arith in ap (λ (k : ℕ). take k xs) none
+take-add (suc n) zero [] = let same : suc n + 0 ≡ suc n = omega arith in ap (λ (k : ℕ). take k []) same
+take-add (suc n) (suc m) [] = let same : suc n + suc m ≡ suc (n + suc m) = omega arith in ap (λ (k : ℕ). take k []) same
+take-add (suc n) m (x ∷ xs) =
+    let more : suc n + m ≡ suc (n + m) = omega arith in
+    ap (λ (k : ℕ). take k (x ∷ xs)) more ∙ ap (λ (l : List Update). x ∷ l) (take-add n m xs)
+
+-- the first updates with one batch more, which the end may cut off
+pub batch_more : (from size to : ℕ) (xs : List Update) → from ≤ length xs → to ≡ min (length xs) (from + size) →
+    take (from + size) xs ≡ take from xs ++ take (to - from) (drop from xs)
+batch_more from size to xs within to_is =
+    take-add from size xs ∙ ap (λ (l : List Update). take from xs ++ l)
+    (sym (take_min size (drop from xs)) ∙ ap (λ (n : ℕ). take n (drop from xs)) (omega (arith, length-drop from xs, within, to_is)))

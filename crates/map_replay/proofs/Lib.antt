@@ -1,0 +1,2 @@
+pub mod WatchingLemmas
+pub mod BatchLemmas

@@ -1,0 +1,5 @@
+pub mod Questions
+pub mod Readings
+pub mod Watching
+pub mod Crews
+pub use Rattle.published.specs.Histories

@@ -1,0 +1,33 @@
+-- What a reader was answered, by what it knows of the history. No public clause cites it.
+use Rattle.std.specs.Prelude.{◌≡◌, ◌≤◌, ◌<◌, ◌*◌, ◌∷◌, [], ℕ, List, All, length, ⊤}
+use Rattle.std.specs.List.Sorted.{IsNonDecreasingBy}
+use mathlib.Core.List.{IsPrefix}
+use Rattle.log_levels.specs.declared.update.Update.{Update}
+use Rattle.log_levels.specs.Maps.{map_after}
+use Rattle.published.specs.Histories.{updates_of, count_of}
+use Rattle.map_replay.specs.declared.question.Question.{Question}
+use Rattle.map_replay.specs.declared.reading.Sighting.{Sighting}
+use Rattle.map_replay.specs.Questions.{answer_of}
+
+-- an answer of the map after a prefix of these batches
+abbrev pub IsSeen : List (List Update) → Question → Sighting → Type 0
+IsSeen batches question sighting = (prefix : List (List Update)) × IsPrefix prefix batches × (sighting.length ≡ count_of prefix)
+    × (sighting.answer ≡ answer_of (map_after (updates_of prefix)) question)
+
+-- for each question in turn
+abbrev pub AreSeen : List (List Update) → List Question → List Sighting → Type 0
+AreSeen batches [] [] = ⊤
+AreSeen batches (question ∷ questions) (sighting ∷ sightings) = IsSeen batches question sighting × AreSeen batches questions sightings
+AreSeen batches questions sightings = ⊥
+
+-- these questions were asked in turn, by a reader that knows these batches
+pub record WasAsked (batches : List (List Update)) (questions : List Question) (sightings : List Sighting) : Type 0 where
+  pub seen : AreSeen batches questions sightings
+  pub never_falls : IsNonDecreasingBy (λ (sighting : Sighting). sighting.length) sightings
+  pub known : All (λ (sighting : Sighting). sighting.length ≤ count_of batches) sightings
+
+-- batches of one size, of which the last may be shorter
+abbrev pub AreBatches : ℕ → List (List Update) → Type 0
+AreBatches size [] = ⊤
+AreBatches size (batch ∷ []) = (0 < length batch) × (length batch ≤ size)
+AreBatches size (batch ∷ next ∷ later) = (length batch ≡ size) × AreBatches size (next ∷ later)

@@ -1,0 +1,30 @@
+//! Updates that are published in batches beside readers, which ask all their questions in turn.
+//!
+//! One writer stages and publishes a batch after the other, and tells each reader of it. Each
+//! reader goes once through the questions, in a thread of its own, and keeps what it was answered
+//! and how many updates that answer is after:
+//!
+//!     published   | put 1 10 | put 2 20
+//!     a reader    | get 1: 10 after 1 | get 2: 20 after 2        or none after 0, or after 1
+//!
+//! In which order writer and readers get on is left open. What is promised whatever the order: each
+//! answer is that of the ordered map after the first so many updates, these end a batch, and no
+//! reader sees fewer than it saw before. At the end each reader looks once more and sees all.
+//!
+//! Main clauses: `each` and `whole` of [`replay`]. The words of the clauses are in `specs/`.
+#![tactic(auto)]
+
+mod crew;
+mod question;
+mod reading;
+mod replaying;
+mod settling;
+mod threads;
+mod updating;
+
+pub use question::{Answer, Asked, Question};
+pub use reading::{Reading, Sighting};
+pub use replaying::{Plan, Replayed, replay};
+
+#[cfg(test)]
+mod tests;

@@ -1,0 +1,250 @@
+// Updates in batches beside readers, and what is left of it.
+ghost use Rattle.std.specs.Prelude.{◌≡◌, ◌*◌, ◌-◌, ◌^◌, ◌≤◌, All, length, IfOk, vec_len};
+ghost use Rattle.log_levels.specs.Accepted.{entries_of};
+ghost use Rattle.map_replay.specs.Readings.{IsWholeReading};
+ghost use Rattle.map_replay.specs.Crews.{HasRoom, HoldsAll, IsEnd, IsReady};
+
+use crate::crew::{Ended, Hall, Seat};
+use crate::question::{Answer, Asked, Question};
+use crate::reading::{Reading, Sighting};
+use crate::threads::read_beside;
+use crate::updating::Batching;
+use budget::NoMemory;
+use edge::Gate;
+use log_levels::Update;
+use published::{Look, MapName, Reader, Slot, Writer, start_map};
+use std::alloc::{AllocError, Global};
+use std::marker::{Brand, Model, PhantomData};
+use std::sync::Wait;
+use std::thread::Threads;
+
+/// How updates are replayed.
+#[derive(Clone, Copy, Debug)]
+pub struct Plan {
+    /// How many levels the map has, from 1 to 26.
+    pub levels: u32,
+    /// How many updates a batch has; the last may be shorter.
+    pub batch: u32,
+    /// How many readers ask beside the writer, from 1 to 16.
+    pub readers: u32,
+    /// How many workers build a level, from 1 to 64.
+    pub workers: u32,
+    pub ghost some_levels: { 1 ≤ levels },
+    pub ghost few_levels: { levels ≤ 26 },
+    pub ghost some_updates: { 1 ≤ batch },
+    pub ghost some_readers: { 1 ≤ readers },
+    pub ghost few_readers: { readers ≤ 16 },
+    pub ghost staffed: { 1 ≤ workers },
+    pub ghost few_workers: { workers ≤ 64 },
+}
+
+/// What is left when all updates are published and all readers are done, seen as the updates after
+/// which it answers and what the readers saw.
+///
+/// It can't be dropped: end it by [`Replayed::close`].
+pub struct Replayed {
+    writer: Writer,
+    look: Look,
+    readings: Vec<Reading>,
+}
+
+impl Model for Replayed {
+    ghost use Rattle.published.specs.Histories.{updates_of};
+    ghost use Rattle.map_replay.specs.Readings.{Left};
+
+    ghost Value = { Left };
+
+    ghost view = { λ r. record {
+        updates = updates_of r.look.batches;
+        readings = r.readings.items;
+    } };
+}
+
+/// Publishes all updates in batches, beside readers that go once through the questions.
+///
+/// The writer is the calling thread. For each batch it stages it, publishes it, leaves each reader a
+/// note, and passes the gate at `Published`. A reader passes the gate at `Look` before each question,
+/// learns its newest note if there is one, and looks once; where its door refuses, it looks again. A
+/// reader for which no thread can be had goes through its questions before the first batch. At the
+/// end each reader learns a last note and looks once more, until it sees all.
+///
+/// All room for the readers is taken before the first of them starts, and no reader takes memory.
+///
+/// # Errors
+///
+/// `NoMemory` alone. The readers went through their questions then, if they were started, and
+/// nothing is left.
+pub fn replay<R: Threads + Wait + Sync, G: Gate>(
+    rt: &R,
+    alloc: Global,
+    updates: &[Update],
+    questions: &[Question],
+    plan: Plan,
+    gate: &G,
+) -> Result<Replayed, NoMemory>
+    requires fits { length (entries_of updates.now) ≤ 64 * 2 ^ plan.levels - 1 }
+    ensures whole { IfOk result (λ left. left.updates ≡ updates.now) }
+    ensures count { IfOk result (λ left. length left.readings ≡ plan.readers) }
+    ensures each { IfOk result (λ left.
+        All (IsWholeReading updates.now plan.batch questions.now) left.readings) }
+{
+    let (writer, readers) = start_map(rt, alloc, plan.levels, plan.readers)?;
+    let batching = Batching {
+        size: plan.batch,
+        workers: plan.workers,
+    };
+    replay_in::<Brand, R, G>(rt, alloc, writer, readers, updates, questions, batching, gate)
+}
+
+impl Replayed {
+    /// What each reader saw, in turn.
+    pub fn readings(&self) -> &[Reading]
+        ensures { result.now ≡ self.now.readings }
+    {
+        &self.readings
+    }
+
+    /// Ends the look and the writer.
+    pub fn close<R: Wait>(self, rt: &R) {
+        let Replayed {
+            writer,
+            look,
+            readings: _readings,
+        } = self;
+        drop(look.leave());
+        writer.close(rt);
+    }
+}
+
+impl Asked for Replayed {
+    ghost use Rattle.std.specs.Prelude.{◌≡◌};
+    ghost use Rattle.log_levels.specs.Maps.{map_after};
+
+    ghost answers_by = { λ left pairs. pairs ≡ map_after left.updates };
+
+    /// The answer of the map after all updates, by the last look of the first reader.
+    fn answer(&self, question: Question) -> Answer {
+        self.look.answer(question)
+    }
+}
+
+/// The same for a map whose name is picked.
+fn replay_in<M: MapName + Send + Sync, R: Threads + Wait + Sync, G: Gate>(
+    rt: &R,
+    alloc: Global,
+    writer: Writer,
+    readers: Vec<Reader>,
+    updates: &[Update],
+    questions: &[Question],
+    batching: Batching,
+    gate: &G,
+) -> Result<Replayed, NoMemory>
+    requires own { writer.origin ≡ M.origin }
+    requires ready { IsReady updates.now writer }
+    requires some { 1 ≤ vec_len readers }
+    requires few { vec_len readers ≤ 16 }
+    requires readers { All (λ reader. reader.origin ≡ M.origin) readers.items }
+    ensures whole { IfOk result (λ left. left.updates ≡ updates.now) }
+    ensures count { IfOk result (λ left. length left.readings ≡ vec_len readers) }
+    ensures each { IfOk result (λ left.
+        All (IsWholeReading updates.now batching.size questions.now) left.readings) }
+{
+    let mut writer = writer;
+    match ended::<M, R, G>(
+        rt, alloc, &mut writer, readers, updates, questions, batching, gate,
+    ) {
+        Ok(Ended { look, readings }) => Ok(Replayed {
+            writer,
+            look,
+            readings,
+        }),
+        Err(NoMemory) => {
+            writer.close(rt);
+            Err(NoMemory)
+        }
+    }
+}
+
+/// Takes all room for the readers, and lets them go through the questions beside the writer.
+fn ended<M: MapName + Send + Sync, R: Threads + Wait + Sync, G: Gate>(
+    rt: &R,
+    alloc: Global,
+    writer: &mut Writer,
+    readers: Vec<Reader>,
+    updates: &[Update],
+    questions: &[Question],
+    batching: Batching,
+    gate: &G,
+) -> Result<Ended, NoMemory>
+    requires own { writer.old.origin ≡ M.origin }
+    requires ready { IsReady updates.now writer.old }
+    requires some { 1 ≤ vec_len readers }
+    requires few { vec_len readers ≤ 16 }
+    requires readers { All (λ reader. reader.origin ≡ M.origin) readers.items }
+    ensures { IfOk result (IsEnd updates.now batching.size questions.now (vec_len readers)) }
+{
+    let slots = slots_for::<M>(alloc, readers.len())?;
+    let hall = hall_for::<M>(alloc, readers, questions.len())?;
+    read_beside(
+        rt, alloc, writer, updates, questions, batching, &slots, hall, gate,
+    )
+}
+
+/// A seat for each reader, with room for so many sightings; the seat of the first reader is last.
+fn hall_for<M: MapName>(
+    alloc: Global,
+    readers: Vec<Reader>,
+    questions: usize,
+) -> Result<Hall<M>, AllocError>
+    requires some { 1 ≤ vec_len readers }
+    requires few { vec_len readers ≤ 16 }
+    requires own { All (λ reader. reader.origin ≡ M.origin) readers.items }
+    ensures seats { IfOk result (λ hall. vec_len hall.seats ≡ vec_len readers) }
+    ensures room { IfOk result (λ hall. HoldsAll questions (vec_len readers) hall) }
+{
+    let count = readers.len();
+    let watched = Vec::with_capacity(alloc, count)?;
+    let readings = Vec::with_capacity(alloc, count)?;
+    let seats = seats_for::<M>(alloc, readers, questions)?;
+    Ok(Hall {
+        seats,
+        watched,
+        readings,
+    })
+}
+
+/// The seats of these readers, the first one last.
+fn seats_for<M: MapName>(
+    alloc: Global,
+    readers: Vec<Reader>,
+    questions: usize,
+) -> Result<Vec<Seat<M>>, AllocError>
+    requires few { vec_len readers ≤ 16 }
+    requires own { All (λ reader. reader.origin ≡ M.origin) readers.items }
+    ensures seats { IfOk result (λ seats. vec_len seats ≡ vec_len readers) }
+    ensures room { IfOk result (λ seats. All (HasRoom questions) seats.items) }
+{
+    let mut seats = Vec::with_capacity(alloc, readers.len())?;
+    let mut readers = readers;
+    while let Some(reader) = readers.pop() {
+        let sightings: Vec<Sighting> = Vec::with_capacity(alloc, questions)?;
+        seats.push(Seat {
+            number: readers.len() as u32,
+            reader,
+            sightings,
+            of: PhantomData,
+        })?;
+    }
+    Ok(seats)
+}
+
+/// So many empty slots.
+fn slots_for<M: MapName>(alloc: Global, count: usize) -> Result<Vec<Slot<M>>, AllocError>
+    ensures { IfOk result (λ slots. vec_len slots ≡ count) }
+{
+    let mut slots = Vec::with_capacity(alloc, count)?;
+    for _number in 0..count {
+        slots.push(Slot::new())?;
+    }
+    Ok(slots)
+}
