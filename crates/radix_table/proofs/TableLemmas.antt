@@ -114,7 +114,7 @@ IsLedTo-at xs most q step low high table order is some at left right =
     let lower = IsEntry-at first shift xs step (slice_index table.entries step) order (is.each step (omega arith)) in
     let upper = IsEntry-at first shift xs (step + 1) (slice_index table.entries (step + 1)) order (is.each (step + 1) inside) in
     record {
-      within = omega (arith, right, upper.within);
+      within = λ numbers. omega (arith, right, upper.within);
       holds = λ place here. (
         elim (cases_lt place low) [
           | inl before ↦

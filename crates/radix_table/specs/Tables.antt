@@ -21,6 +21,6 @@ pub record IsTableOf (xs : List ℕ) (most : ℕ) (table : RadixEntries) : Type 
 
 -- the places low ..= high hold the predecessor of q, if there is one, and twice their number is at most `most`
 pub record IsLedTo (xs : List ℕ) (q most low high : ℕ) : Type 0 where
-  pub within : high ≤ length xs
+  pub within : 0 < length xs → high < length xs
   pub holds : (place : ℕ) → IsPredecessor xs q place → (low ≤ place) × (place ≤ high)
   pub narrow : 2 * (high - low + 1) ≤ most

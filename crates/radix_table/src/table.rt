@@ -49,7 +49,7 @@ impl RadixTable {
 
     /// The table of numbers that never fall, with at most two entries a number and two more.
     ///
-    /// No step leaves open more places than half of `most`; where one would, the table has no entry.
+    /// No step leaves open more places than half of `most`; where one would, there is no entry.
     ///
     /// # Errors
     ///
