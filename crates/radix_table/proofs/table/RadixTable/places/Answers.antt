@@ -1,7 +1,6 @@
 -- What the entries of a question's step say.
-use Rattle.std.proofs.Common.{◌≡◌, ◌+◌, ◌<◌, ◌-◌, ◌/◌, ◌^◌, ◌≤◌, ℕ, length, sym, subst, ap, ◌∙◌, arith}
+use Rattle.std.proofs.Common.{◌≡◌, ◌+◌, ◌<◌, ◌/◌, ◌^◌, ℕ, length, sym, subst, ap, arith}
 use Rattle.std.proofs.lemmas.List.{get_or_default}
-use Rattle.std.specs.Prelude.{min}
 use Rattle.radix_table.specs.Tables.{RadixEntries, step_of, IsTableOf}
 use Rattle.radix_table.proofs.TableLemmas.{IsLedTo-at}
 use Rattle.radix_table.proofs.table.RadixTable.places.Goals as goal
