@@ -37,13 +37,13 @@ lookup-one eps eps_rec levels before after is =
     four eps = omega arith
 
 -- one level more
-pub lookup-more : (eps_rec n m before middle after : ℕ) → m ≡ n + 1 → TakesAtMost (2 * (4 * (2 * eps_rec + 3)) ^ n) before middle →
-    TakesAtMost (2 * (2 * eps_rec + 3)) middle after → TakesAtMost (2 * (4 * (2 * eps_rec + 3)) ^ m) before after
-lookup-more eps_rec n m before middle after is so_far level =
+pub level-more : (eps_rec n m before middle after : ℕ) → m ≡ n + 1 → TakesAtMost ((4 * (2 * eps_rec + 3)) ^ n) before middle →
+    TakesAtMost (2 * (2 * eps_rec + 3)) middle after → TakesAtMost ((4 * (2 * eps_rec + 3)) ^ m) before after
+level-more eps_rec n m before middle after is so_far level =
     let base = 4 * (2 * eps_rec + 3) in
     let power : base ^ m ≡ base ^ n * base = ap (λ (k : ℕ). base ^ k) (is ∙ add-one n) ∙ pow-suc base n in
     let raised = TakesAtMost-raise (2 * (2 * eps_rec + 3)) base middle after (omega arith) level in
-    TakesAtMost-raise (2 * base ^ n * base) (2 * base ^ m) before after (omega (arith, power)) (TakesAtMost-more (2 * base ^ n) base before middle after so_far raised)
+    TakesAtMost-raise (base ^ n * base) (base ^ m) before after (omega (arith, power)) (TakesAtMost-more (base ^ n) base before middle after so_far raised)
 
 -- level 0 at the end
 pub lookup-last : (eps eps_rec levels n before middle after : ℕ) → n ≡ levels - 1 → TakesAtMost (2 * (4 * (2 * eps_rec + 3)) ^ n) before middle →

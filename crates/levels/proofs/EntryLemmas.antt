@@ -61,3 +61,10 @@ some_keys keys levels none level = elim (cases_lt 0 (length keys)) [
   | inl some ↦ some
   | inr empty ↦ absurd (omega (arith, none (omega arith)))
 ]
+
+-- and one level up
+pub share-up : (base level most next : ℕ) → 1 ≤ level → most ≤ base ^ (level - 1) → next ≤ most * base → next ≤ base ^ (level + 1 - 1)
+share-up base level most next some share more =
+    let step : level + 1 - 1 ≡ level - 1 + 1 = omega arith in
+    let power : base ^ (level + 1 - 1) ≡ base ^ (level - 1) * base = ap (λ (k : ℕ). base ^ k) (step ∙ add-one (level - 1)) ∙ pow-suc base (level - 1) in
+    omega (arith, power, mul-le-mul_right base share)

@@ -59,7 +59,7 @@ impl Index {
     {
         let segments = level_0_here(alloc, &keys, eps, steps)?;
         let stored = levels_over(alloc, &keys, segments, eps, eps_rec, steps)?;
-        Ok(Index::from_levels(keys, eps, eps_rec, stored))
+        Index::from_levels(alloc, keys, eps, eps_rec, stored)
     }
 
     /// The index of keys, level 0 built piece by piece by several workers, and the levels above on
@@ -101,7 +101,7 @@ impl Index {
     {
         let segments = level_0_in_pieces(rt, alloc, &keys, eps, cuts, workers, gate)?;
         let stored = levels_from::<Brand>(alloc, &keys, segments, eps, eps_rec, Blank::new(1))?;
-        Ok(Index::from_levels(keys, eps, eps_rec, stored))
+        Index::from_levels(alloc, keys, eps, eps_rec, stored)
     }
 }
 

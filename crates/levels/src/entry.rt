@@ -1,6 +1,6 @@
 // The level at which lookups start.
 ghost use Rattle.std.specs.Prelude.{◌≡◌, ◌+◌, ◌-◌, ◌*◌, ◌<◌, ◌≤◌, ◌^◌, ℕ, length};
-ghost use Rattle.levels.specs.Entries.{IsEntry};
+ghost use Rattle.levels.specs.Entries.{IsEntry, share_of};
 ghost use Rattle.levels.specs.Stored.{AreStored, segments_of};
 
 use crate::level::Level;
@@ -28,4 +28,18 @@ pub fn entry_of(keys: &Keys, eps_rec: u32, levels: &[Level]) -> u32
         top -= 1;
     }
     0
+}
+
+/// Two to the number of steps that the levels above level 0 may take, or as much of it as 64 bits
+/// hold.
+pub fn share(eps_rec: u32, levels: usize) -> u64
+    requires { 1 ≤ levels }
+    ensures { result ≤ share_of eps_rec levels }
+{
+    let each = 4 * (2 * u64::from(eps_rec) + 3);
+    let mut most: u64 = 1;
+    for _level in 1..levels {
+        most = most.saturating_mul(each);
+    }
+    most
 }

@@ -1,5 +1,5 @@
 // The recursive index, and its parts.
-ghost use Rattle.std.specs.Prelude.{◌≡◌, ◌+◌, ◌-◌, ◌<◌, ◌≤◌, ℕ, List, length};
+ghost use Rattle.std.specs.Prelude.{◌≡◌, ◌+◌, ◌-◌, ◌<◌, ◌≤◌, ℕ, List, IfOk, IfSome, length};
 ghost use Rattle.std.specs.Prelude.{slice_index, slice_index_or};
 ghost use Rattle.exact_cross.specs.declared.segment.Segment.{Segment};
 ghost use Rattle.exact_cross.specs.Checked.{IsLeastCover, AreChecked};
@@ -10,12 +10,17 @@ ghost use Rattle.levels.specs.Heights.{IsLow, HasLongRuns, least_places};
 ghost use Rattle.levels.specs.Models.{IsEndOf, IsModelOf};
 ghost use Rattle.levels.specs.Entries.{IsEntry};
 ghost use Rattle.levels.specs.Stored.{AreLevels, AreStored, segments_of};
+ghost use Rattle.levels.specs.Entries.{share_of};
+ghost use Rattle.radix_table.specs.Tables.{IsLedTo, IsTableOf};
 
-use crate::entry::entry_of;
+use crate::entry::{entry_of, share};
 use crate::level::Level;
 use crate::model::RunModel;
+use budget::NoMemory;
 use exact_cross::{MAX_EPSILON, Segment};
 use key_points::Keys;
+use radix_table::RadixTable;
+use std::alloc::Global;
 use std::marker::Model;
 
 /// The recursive PGM-index of the keys of a file. Seen as a record of the keys, the two error
@@ -26,6 +31,8 @@ use std::marker::Model;
 ///    within its bound can do with. The last level is the first with one run. No key, no level.
 /// 2. The keys are kept once: level 0 uses the lists of [`Keys`].
 /// 3. Each run has a model, 48 bytes, by which a lookup predicts places without a division.
+/// 4. A table leads to the few runs of level 0 that a question can be in, where that takes no more
+///    steps than the levels above may. It has at most 8 bytes a run and 8 more.
 ///
 /// Source: Ferragina and Vinciguerra, PVLDB 13(8), 2020, section 2.
 #[derive(Drop)]
@@ -34,8 +41,10 @@ pub struct Index {
     eps: u32,
     eps_rec: u32,
     stored: Vec<Level>,
-    /// Where lookups start.
+    /// Where lookups start that the table doesn't lead.
     entry: u32,
+    /// Over the first x of the runs of level 0.
+    table: RadixTable,
 }
 
 impl Model for Index {
@@ -54,29 +63,52 @@ impl Model for Index {
     } };
 
     ghost invariant = { λ index.
-        IsWhole index.keys index.eps index.eps_rec index.stored.items index.entry };
+        IsWhole index.keys index.eps index.eps_rec index.stored.items index.entry index.table };
 }
 
 impl Index {
     /// An index of its parts.
-    pub(crate) fn from_levels(keys: Keys, eps: u32, eps_rec: u32, stored: Vec<Level>) -> Index
+    ///
+    /// # Errors
+    ///
+    /// `NoMemory` alone.
+    pub(crate) fn from_levels(
+        alloc: Global,
+        keys: Keys,
+        eps: u32,
+        eps_rec: u32,
+        stored: Vec<Level>,
+    ) -> Result<Index, NoMemory>
         requires { AreStored keys eps eps_rec stored.items }
-        ensures keys { result.keys ≡ keys }
-        ensures eps { result.eps ≡ eps }
-        ensures eps_rec { result.eps_rec ≡ eps_rec }
-        ensures levels { result.levels ≡ segments_of stored.items }
+        ensures keys { IfOk result (λ index. index.keys ≡ keys) }
+        ensures eps { IfOk result (λ index. index.eps ≡ eps) }
+        ensures eps_rec { IfOk result (λ index. index.eps_rec ≡ eps_rec) }
+        ensures levels { IfOk result (λ index. index.levels ≡ segments_of stored.items) }
     {
         let entry = entry_of(&keys, eps_rec, &stored);
-        Index {
+        let table = table_of(alloc, &keys, eps_rec, &stored)?;
+        Ok(Index {
             keys,
             eps,
             eps_rec,
             stored,
             entry,
-        }
+            table,
+        })
     }
 
-    /// The level at which lookups start.
+    /// The first and the last of the runs of level 0 among which is the last one that begins at or
+    /// before `q`, where the table leads there. Their number keeps to what the levels above may
+    /// take.
+    #[inline(always)]
+    pub(crate) fn runs_near(&self, q: u64) -> Option<(u32, u32)>
+        ensures { IfSome result (λ runs. IsLedTo (xs_at self.now.keys self.now.levels 1) q
+            (share_of self.now.eps_rec (length self.now.levels)) runs.0 runs.1) }
+    {
+        self.table.places(q)
+    }
+
+    /// The level at which lookups start that the table doesn't lead.
     pub(crate) fn entry(&self) -> u32
         ensures entry { IsEntry self.now.keys self.now.eps_rec self.now.levels result }
         ensures index { IsIndex self.now.keys self.now.eps self.now.eps_rec self.now.levels }
@@ -167,6 +199,28 @@ impl Index {
     {
         &self.keys
     }
+}
+
+/// The table over the first x of the runs of level 0, which has no entry where there is but one
+/// level.
+fn table_of(
+    alloc: Global,
+    keys: &Keys,
+    eps_rec: u32,
+    levels: &[Level],
+) -> Result<RadixTable, NoMemory>
+    requires stored { (eps : ℕ) × AreStored keys.now eps eps_rec levels.now }
+    ensures { IfOk result (IsTableOf (xs_at keys.now (segments_of levels.now) 1)
+        (share_of eps_rec (length levels.now))) }
+{
+    if levels.len() < 2 {
+        return Ok(RadixTable::empty(alloc));
+    }
+    RadixTable::over(
+        alloc,
+        list_at(keys, levels, 1),
+        share(eps_rec, levels.len()),
+    )
 }
 
 /// The x of level `i` of the levels so far.

@@ -5,7 +5,7 @@ ghost use Rattle.std.specs.List.Sorted.{IsNonDecreasing};
 ghost use Rattle.exact_cross.specs.declared.segment.Segment.{Segment};
 ghost use Rattle.window_search.specs.Searches.{lb, IsPredecessor};
 ghost use Rattle.levels.specs.Costs.{TakesAtMost, lookup_bound};
-ghost use Rattle.levels.specs.Entries.{IsEntry};
+ghost use Rattle.levels.specs.Entries.{IsEntry, share_of};
 ghost use Rattle.levels.specs.Indexes.{IsIndex, level_at, xs_at, ys_at, points_at, eps_at};
 ghost use Rattle.levels.specs.Models.{IsEndOf};
 ghost use Rattle.levels.specs.Lookups.{IsWindowAt, IsNarrow, HoldsAnswers, extent_at};
@@ -56,14 +56,51 @@ impl Index {
         if q < first {
             return 0;
         }
+        let run = self.run_of(q, steps);
+        let (low, high) = self.window_by_model(0, run, q);
+        lower_in(keys, low, high, q, steps)
+    }
+
+    /// The run of level 0 that begins last at or before `q`, where the first key does: among those
+    /// that the table leads to, or by the levels above.
+    #[inline(always)]
+    fn run_of<L: Ledger>(&self, q: u64, steps: &mut Steps<L>) -> u32
+        requires never_falls { IsNonDecreasing self.now.keys }
+        requires few { length self.now.keys < 2 ^ 32 }
+        requires index { IsIndex self.now.keys self.now.eps self.now.eps_rec self.now.levels }
+        requires some { 0 < length self.now.levels }
+        requires from_first { slice_index self.now.keys 0 ≤ q }
+        ensures found { IsPredecessor (xs_at self.now.keys self.now.levels 1) q result }
+        ensures cost { TakesAtMost (share_of self.now.eps_rec (length self.now.levels)) steps.old
+            steps.new }
+    {
+        if self.levels() > 1 {
+            if let Some((low, high)) = self.runs_near(q) {
+                return predecessor_in(self.list(1), low, high, q, steps);
+            }
+        }
+        self.run_by_levels(q, steps)
+    }
+
+    /// The same by the levels above.
+    #[inline(never)]
+    fn run_by_levels<L: Ledger>(&self, q: u64, steps: &mut Steps<L>) -> u32
+        requires never_falls { IsNonDecreasing self.now.keys }
+        requires few { length self.now.keys < 2 ^ 32 }
+        requires index { IsIndex self.now.keys self.now.eps self.now.eps_rec self.now.levels }
+        requires some { 0 < length self.now.levels }
+        requires from_first { slice_index self.now.keys 0 ≤ q }
+        ensures found { IsPredecessor (xs_at self.now.keys self.now.levels 1) q result }
+        ensures cost { TakesAtMost (share_of self.now.eps_rec (length self.now.levels)) steps.old
+            steps.new }
+    {
         let mut level = self.entry();
         let mut run = self.entry_run(level, q, steps);
         while level > 0 {
             run = self.predecessor_below(level, run, q, steps);
             level -= 1;
         }
-        let (low, high) = self.window_by_model(0, run, q);
-        lower_in(keys, low, high, q, steps)
+        run
     }
 
     /// The run of the entry level, found among the first x of all its runs.

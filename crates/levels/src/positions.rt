@@ -1,10 +1,10 @@
 // The positions of many questions.
 ghost use Rattle.std.specs.Prelude.{◌≡◌, ◌+◌, ◌*◌, ◌++◌, ◌<◌, ◌≤◌, ◌^◌, ℕ, length};
-ghost use Rattle.std.specs.Prelude.{map, min, slice_index, vec_len, vec_capacity};
+ghost use Rattle.std.specs.Prelude.{map, min, slice_index, vec_len, vec_capacity, IfSome};
 ghost use Rattle.std.specs.List.Sorted.{IsNonDecreasing};
 ghost use Rattle.window_search.specs.Searches.{lb, IsPredecessor};
 ghost use Rattle.levels.specs.Indexes.{IsIndex, xs_at, eps_at};
-ghost use Rattle.levels.specs.InStep.{IsAmong, HasBound, AreRuns};
+ghost use Rattle.levels.specs.InStep.{IsAmong, HasBound, AreNear, AreRuns};
 
 use crate::in_step::{LANES, bounds_in_step, predecessors_in_step};
 use crate::index::Index;
@@ -76,12 +76,81 @@ impl Index {
         ensures found { (k : ℕ) → k < 16 → slice_index places.new k ≡ lb self.now.keys
             (slice_index qs.now k) }
     {
+        let _levels = self.levels();
+        let mut lows = [0; LANES];
+        match self.spans_near(qs, &mut lows) {
+            Some(count) => self.runs_among(qs, &lows, count, places),
+            None => self.runs_by_levels_in_step(qs, places),
+        }
+        self.bounds_below(qs, places);
+    }
+
+    /// Where the places begin among which the table says that the runs of level 0 are, and how many
+    /// they are at most. None where it doesn't say.
+    #[inline(always)]
+    fn spans_near(&self, qs: &[u64; 16], lows: &mut [u32; 16]) -> Option<u32>
+        requires never_falls { IsNonDecreasing self.now.keys }
+        requires few { length self.now.keys < 2 ^ 32 }
+        requires index { IsIndex self.now.keys self.now.eps self.now.eps_rec self.now.levels }
+        requires some { 0 < length self.now.keys }
+        requires from_first { (k : ℕ) → k < 16 →
+            slice_index self.now.keys 0 ≤ slice_index qs.now k }
+        ensures above { IfSome result (λ _. 1 < length self.now.levels) }
+        ensures near { IfSome result (λ count. AreNear (xs_at self.now.keys self.now.levels 1)
+            qs.now lows.new count) }
+    {
+        if self.levels() < 2 {
+            return None;
+        }
+        let mut count = 1;
+        for lane in 0..LANES {
+            let Some((low, high)) = self.runs_near(qs[lane]) else {
+                return None;
+            };
+            lows[lane] = low;
+            count = count.max(high - low + 1);
+        }
+        Some(count)
+    }
+
+    /// The runs of level 0, each of which is among `count` places from its low end on.
+    #[inline(always)]
+    fn runs_among(&self, qs: &[u64; 16], lows: &[u32; 16], count: u32, runs: &mut [u32; 16])
+        requires never_falls { IsNonDecreasing self.now.keys }
+        requires few { length self.now.keys < 2 ^ 32 }
+        requires index { IsIndex self.now.keys self.now.eps self.now.eps_rec self.now.levels }
+        requires some { 0 < length self.now.keys }
+        requires above { 1 < length self.now.levels }
+        requires from_first { (k : ℕ) → k < 16 →
+            slice_index self.now.keys 0 ≤ slice_index qs.now k }
+        requires near { AreNear (xs_at self.now.keys self.now.levels 1) qs.now lows.now count }
+        ensures { AreRuns (xs_at self.now.keys self.now.levels 1) qs.now runs.new }
+    {
+        let list = self.list(1);
+        let last = list.len() as u32 - count;
+        for lane in 0..LANES {
+            runs[lane] = lows[lane].min(last);
+        }
+        predecessors_in_step(list, qs, runs, count);
+    }
+
+    /// The runs of level 0 by the levels above.
+    #[inline(never)]
+    fn runs_by_levels_in_step(&self, qs: &[u64; 16], places: &mut [u32; 16])
+        requires never_falls { IsNonDecreasing self.now.keys }
+        requires few { length self.now.keys < 2 ^ 32 }
+        requires index { IsIndex self.now.keys self.now.eps self.now.eps_rec self.now.levels }
+        requires some { 0 < length self.now.keys }
+        requires zeros { (k : ℕ) → k < 16 → slice_index places.old k ≡ 0 }
+        requires from_first { (k : ℕ) → k < 16 →
+            slice_index self.now.keys 0 ≤ slice_index qs.now k }
+        ensures { AreRuns (xs_at self.now.keys self.now.levels 1) qs.now places.new }
+    {
         let mut level = self.levels() - 1;
         while level > 0 {
             self.runs_below(level, qs, places);
             level -= 1;
         }
-        self.bounds_below(qs, places);
     }
 
     /// From runs of a level above level 0 to those of the level below it, which are the

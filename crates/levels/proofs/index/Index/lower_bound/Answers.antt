@@ -6,7 +6,7 @@ use Rattle.window_search.specs.Searches.{lb}
 use Rattle.window_search.proofs.CallerLemmas.{lb-is}
 use Rattle.levels.specs.Costs.{TakesAtMost}
 use Rattle.levels.proofs.EntryLemmas.{lookup-entry}
-use Rattle.levels.proofs.CostLemmas.{lookup-one, lookup-more, lookup-last}
+use Rattle.levels.proofs.CostLemmas.{lookup-one, lookup-last}
 use Rattle.levels.proofs.index.Index.lower_bound.Goals as goal
 
 none_below : (keys : List ℕ) (q : ℕ) → IsNonDecreasing keys → (0 < length keys → q ≤ slice_index keys 0) → 0 ≡ lb keys q
@@ -26,44 +26,19 @@ returns-then-q-first-clause-cost g c = λ some.
     let value = c.args.self.now in
     lookup-one value.eps value.eps_rec (length value.levels) c.args.steps.now c.read-first.new.steps c.read-first.ensures.cost
 
-pub entry_run-run-requires-clause-from_first : goal.entry_run-run-requires-clause-from_first
-entry_run-run-requires-clause-from_first g c =
+pub run_of-run-requires-clause-from_first : goal.run_of-run-requires-clause-from_first
+run_of-run-requires-clause-from_first g c =
     let value = c.args.self.now in
     let file : c.file-keys.result.now ≡ value.keys = c.file-keys.ensures.keys ∙ c.keys.ensures in
     let read : c.read-first.result ≡ slice_index value.keys 0 = c.read-first.ensures.key ∙ ap (λ (l : List ℕ). slice_index l 0) (c.new.ensures ∙ file) in
     omega (arith, c.if-q-first.false, read)
 
-pub loop-level-init : goal.loop-level-init
-loop-level-init g c =
-    let value = c.args.self.now in
-    let level : 0 < length value.levels = omega (arith, c.levels-levels.ensures.count, c.if-levels-eq0.false) in
-    record {
-      inside = c.entry-level.ensures.entry.inside level;
-      run = c.entry_run-run.ensures.found;
-      cost = lookup-entry (4 * (2 * value.eps_rec + 3)) (length value.levels - 1 - c.entry-level.result) c.args.steps.now c.read-first.new.steps c.entry_run-run.new.steps
-          c.read-first.ensures.cost c.entry_run-run.ensures.cost;
-    }
-
-pub loop-level-preserved : goal.loop-level-preserved
-loop-level-preserved g c =
-    let value = c.args.self.now in
-    let inv = c.loop-level.invariant in
-    let level = c.loop-level.level in
-    let down : level - 1 + 1 ≡ level = omega (arith, c.loop-level-test.true) in
-    record {
-      inside = omega (arith, inv.inside);
-      run = rw down c.predecessor_below-run.ensures.found;
-      cost = lookup-more value.eps_rec (length value.levels - 1 - level) (length value.levels - 1 - (level - 1)) c.args.steps.now c.loop-level.steps c.predecessor_below-run.new.steps
-          (omega (arith, inv.inside, c.loop-level-test.true)) inv.cost c.predecessor_below-run.ensures.cost;
-    }
-
 pub returns-clause-cost : goal.returns-clause-cost
 returns-clause-cost g c = λ some.
     let value = c.args.self.now in
-    let inv = c.loop-level.invariant in
     let steps = c.lower_in.ensures.cost in
     let narrow = c.window_by_model-low.ensures.narrow in
-    let last : TakesAtMost (2 * (2 * value.eps + 3)) c.loop-level.steps c.lower_in.new.steps =
+    let last : TakesAtMost (2 * (2 * value.eps + 3)) c.run_of-run.new.steps c.lower_in.new.steps =
     record { t = steps.0; taken = steps.1; within = omega (arith, steps.2, narrow) } in
-    lookup-last value.eps value.eps_rec (length value.levels) (length value.levels - 1 - c.loop-level.level) c.args.steps.now c.loop-level.steps c.lower_in.new.steps
-    (omega (arith, c.loop-level-test.false)) inv.cost last
+    let above = lookup-entry (4 * (2 * value.eps_rec + 3)) (length value.levels - 1) c.args.steps.now c.read-first.new.steps c.run_of-run.new.steps c.read-first.ensures.cost c.run_of-run.ensures.cost in
+    lookup-last value.eps value.eps_rec (length value.levels) (length value.levels - 1) c.args.steps.now c.run_of-run.new.steps c.lower_in.new.steps (omega arith) above last

@@ -2,7 +2,7 @@
 use Rattle.std.proofs.Common.{◌+◌, ◌<◌, length}
 use Rattle.levels.specs.Indexes.{xs_at}
 use Rattle.levels.specs.InStep.{AreRuns}
-use Rattle.levels.proofs.index.Index.find_block.Given as goal
+use Rattle.levels.proofs.index.Index.runs_by_levels_in_step.Given as goal
 
 abbrev pub invariant-loop-level : goal.invariant-loop-level
 invariant-loop-level l = record {

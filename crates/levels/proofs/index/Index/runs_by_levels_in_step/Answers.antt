@@ -1,7 +1,7 @@
 -- The last level's one run has each predecessor.
 use Rattle.std.proofs.Common.{◌≡◌, ◌+◌, ◌-◌, length, slice_index, arith}
 use Rattle.levels.proofs.LookupLemmas.{no_segment, top_run}
-use Rattle.levels.proofs.index.Index.find_block.Goals as goal
+use Rattle.levels.proofs.index.Index.runs_by_levels_in_step.Goals as goal
 
 pub loop-level-init : goal.loop-level-init
 loop-level-init c =

@@ -1,0 +1,20 @@
+-- The first x of the runs of level 0 rise, and are no more than keys.
+use Rattle.std.proofs.Common.{◌≡◌, ◌<◌, ◌≤◌, length, sym, ap, subst, arith}
+use Rattle.std.specs.List.Sorted.{IsNonDecreasing}
+use Rattle.levels.specs.Stored.{segments_of}
+use Rattle.levels.proofs.StoredLemmas.{segments_of-count}
+use Rattle.levels.proofs.LookupLemmas.{ascends}
+use Rattle.levels.proofs.RunLemmas.{first_x-order}
+use Rattle.levels.proofs.index.table_of.Goals as goal
+
+pub over-requires-clause-order : goal.over-requires-clause-order
+over-requires-clause-order c =
+    let stored = c.requires.stored.1 in
+    subst IsNonDecreasing (sym c.list_at.ensures) (first_x-order c.args.keys.now c.requires.stored.0 c.args.eps_rec (segments_of c.args.levels.now) stored.first.never_falls stored.index)
+
+pub over-requires-clause-few : goal.over-requires-clause-few
+over-requires-clause-few c =
+    let stored = c.requires.stored.1 in
+    let here = ascends c.args.keys.now c.requires.stored.0 c.args.eps_rec (segments_of c.args.levels.now) stored.first.never_falls stored.index 1
+    (omega (arith, segments_of-count c.args.levels.now, c.if-levels-lt2.false)) in
+    omega (arith, ap length c.list_at.ensures, here.few, stored.first.few)

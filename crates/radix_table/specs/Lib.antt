@@ -1,0 +1,2 @@
+pub mod Tables
+pub use Rattle.window_search.specs.Searches
