@@ -13,7 +13,6 @@ use Rattle.zorder.specs.Regions.{IsRegion, IsInside, IsEmpty}
 use Rattle.zorder.proofs.CallerLemmas.{bit_at-shl, bit_at-shl_low, bit_at-shr, code-lt, code_fits, coordinate-code, rises, IsCode-code}
 use Rattle.bigmin.specs.NextInBox.{IsNextInBox, HasNoNext}
 use Rattle.bigmin.specs.NextBetween.{AreOrdered, IsNextBetween, HasNoneBetween}
-use Rattle.zorder.specs.Dilated.{dilated}
 use Rattle.bigmin.specs.Openings.{Opens, IsLeastFrom}
 use Rattle.zorder.proofs.CallerLemmas.{dilated-le, between-from_inside, inside-from_between}
 use Rattle.bigmin.proofs.PlaceLemmas.{top_below}

@@ -53,7 +53,8 @@ pub fn next_by_corners(z: u64, region: &Region, corners: &Corners) -> Option<u64
 #[inline(always)]
 fn next_between(d: u32, z: u64, low: u64, high: u64) -> Option<u64>
     requires { IsDimension d }
-    ensures next { IfSome result (λ next. AreOrdered d low high → IsNextBetween d low high z next) }
+    ensures next { IfSome result
+        (λ next. AreOrdered d low high → IsNextBetween d low high z next) }
     ensures none { IfNone result (HasNoneBetween d low high z) }
 {
     match lowest_opening(d, z, low, high) {

@@ -67,7 +67,7 @@ impl Boxes {
         &codes[at..end]
     }
 
-    /// A walk that has come to a code outside, or to its end, when it has gone over what is outside.
+    /// A walk that is at a code outside, or at its end, when it has gone over what is outside.
     fn over_outside(&self, region: &Region, corners: &Corners, walk: Walk) -> Walk
         requires region { IsRegion region.now }
         requires dims { region.now.d ≡ self.now.dims }
@@ -151,7 +151,8 @@ fn stretch_end(region: &Region, corners: &Corners, codes: &[u64], at: usize) -> 
     requires here { at ≤ length codes.now }
     ensures onwards { at ≤ result }
     ensures within { result ≤ length codes.now }
-    ensures inside { (j : ℕ) → at ≤ j → j < result → IsInside region.now (slice_index codes.now j) }
+    ensures inside { (j : ℕ) → at ≤ j → j < result
+        → IsInside region.now (slice_index codes.now j) }
     ensures outside { result < length codes.now
         → ¬ IsInside region.now (slice_index codes.now result) }
 {
@@ -170,8 +171,10 @@ fn between_until(d: u32, low: u64, high: u64, codes: &[u64], at: usize) -> usize
     requires here { at ≤ length codes.now }
     ensures onwards { at ≤ result }
     ensures within { result ≤ length codes.now }
-    ensures between { (j : ℕ) → at ≤ j → j < result → IsBetween d low high (slice_index codes.now j) }
-    ensures not { result < length codes.now → ¬ IsBetween d low high (slice_index codes.now result) }
+    ensures between { (j : ℕ) → at ≤ j → j < result
+        → IsBetween d low high (slice_index codes.now j) }
+    ensures not { result < length codes.now
+        → ¬ IsBetween d low high (slice_index codes.now result) }
 {
     for place in at..codes.len() {
         if !is_between(d, low, high, codes[place]) {

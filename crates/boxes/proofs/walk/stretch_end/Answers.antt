@@ -1,5 +1,5 @@
 -- Between the corners' codes is inside, in each dimension.
-use Rattle.std.proofs.Common.{◌≡◌, ◌^◌, ◌<◌, slice_index, sym, arith}
+use Rattle.std.proofs.Common.{◌≡◌, slice_index, sym, arith}
 use Rattle.zorder.proofs.CallerLemmas.{corners-from_inside, inside-from_corners}
 use Rattle.boxes.proofs.walk.stretch_end.Goals as goal
 

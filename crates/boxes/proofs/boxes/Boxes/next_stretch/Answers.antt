@@ -1,5 +1,5 @@
 -- The stretch is codes inside, and behind it the walk goes on over those outside.
-use Rattle.std.proofs.Common.{◌≡◌, ℕ, ◌+◌, ◌-◌, ◌<◌, ◌≤◌, ◌++◌, List, length, take, drop, slice_index, sym, ap, ◌∙◌, subst, arith}
+use Rattle.std.proofs.Common.{◌≡◌, ℕ, ◌+◌, ◌-◌, ◌++◌, List, length, take, drop, slice_index, sym, ap, ◌∙◌, subst, arith}
 use Rattle.zorder.specs.Regions.{IsInside}
 use Rattle.boxes.specs.BoxAnswers.{codes_inside}
 use Rattle.boxes.specs.Walks.{HasWalked}
