@@ -1,19 +1,22 @@
 -- The least code from the lowest opening is the next code in the region: between the codes of the corners, coordinate by coordinate, is inside.
-use Rattle.std.proofs.Common.{◌≡◌, ℕ, ◌+◌, ◌-◌, ◌*◌, ◌/◌, ◌%◌, ◌^◌, ◌<◌, ◌≤◌, sym, ap, ◌∙◌, inl, inr, refl, slice_index, lit<, arith}
+use Rattle.std.proofs.Common.{◌≡◌, Option, None, Some, IfSome, IfNone, subst, ℕ, ◌+◌, ◌-◌, ◌*◌, ◌/◌, ◌%◌, ◌^◌, ◌<◌, ◌≤◌, sym, ap, ◌∙◌, inl, inr, refl, slice_index, lit<, arith}
 use Rattle.std.specs.Prelude.{bit_or}
 use Rattle.std.specs.Int.{bit_at}
 use Rattle.std.proofs.lemmas.Bool.{cases_lt}
 use Rattle.std.proofs.lemmas.Nat.{mod_below, pow_pos}
 use Rattle.std.proofs.lemmas.Nat.Bits.{bit_at-lt, bit_at_above, bit_at_or}
 use Rattle.zorder.specs.declared.regions.Region.{Region}
+use Rattle.zorder.specs.declared.corner_codes.Corners.{Corners}
+use Rattle.zorder.specs.Corners.{AreCorners}
 use Rattle.zorder.specs.Codes.{IsCode, code}
 use Rattle.zorder.specs.Regions.{IsRegion, IsInside, IsEmpty}
 use Rattle.zorder.proofs.CallerLemmas.{bit_at-shl, bit_at-shl_low, bit_at-shr, code-lt, code_fits, coordinate-code, rises, IsCode-code}
 use Rattle.bigmin.specs.NextInBox.{IsNextInBox, HasNoNext}
-use Rattle.bigmin.specs.Dilated.{dilated, Opens, IsLeastFrom}
-use Rattle.bigmin.proofs.DilatedLemmas.{dilated-le, coordinate-le}
+use Rattle.bigmin.specs.NextBetween.{AreOrdered, IsNextBetween, HasNoneBetween}
+use Rattle.bigmin.specs.Openings.{Opens, IsLeastFrom}
+use Rattle.zorder.proofs.CallerLemmas.{dilated-le, between-from_inside, inside-from_between}
 use Rattle.bigmin.proofs.PlaceLemmas.{top_below}
-use Rattle.bigmin.proofs.OpeningLemmas.{IsBetween, IsFirst, Opens-from_code, code_above, code_between, code_least}
+use Rattle.bigmin.proofs.OpeningLemmas.{IsFirst, Opens-from_code, code_above, code_between, code_least}
 use Rattle.zorder.proofs.CallerLemmas.{top_difference}
 
 pub opening_below : (d z low high b : ℕ) → Opens d z low high b → b < 64
@@ -48,6 +51,26 @@ IsFirst-from_shifts z b fits near = record {
           ∙ bit_at_or (z / 2 ^ b) 1 (j - b) ∙ omega (arith, bit_at-shr z b (j - b), ap (bit_at z) back, bit_at-lt (z / 2 ^ b) (j - b))
     ]
 
+-- ---- numbers between two others
+
+module _ (d z low high : ℕ) (some : 0 < d) (z_fits : z < 2 ^ 64) (low_fits : low < 2 ^ 64) where
+  pub next-from_least : (b first next : ℕ) → Opens d z low high b → ((i : ℕ) → Opens d z low high i → b ≤ i) → IsFirst z b first →
+      IsLeastFrom d first low next → next < 2 ^ 64 → AreOrdered d low high → IsNextBetween d low high z next
+  next-from_least b first next opens lowest is_first least fits ordered = record {
+    fits = fits;
+    above = code_above d z low high b first next some z_fits low_fits opens is_first least fits ordered;
+    between = code_between d z low high b first next some z_fits low_fits opens is_first least fits ordered;
+    least = λ w w_fits more between. code_least d z low high b first next some z_fits low_fits opens is_first least fits ordered w w_fits more between lowest;
+  }
+
+  -- with no opening there is no next one
+  pub none-from_openings : ((i : ℕ) → Opens d z low high i → ⊥) → HasNoneBetween d low high z
+  none-from_openings none w w_fits more between =
+      let (i, found) = top_difference 64 z w w_fits more in
+      none i (Opens-from_code d z low high some z_fits w i w_fits found between)
+
+-- ---- codes inside a region
+
 module _ (region : Region) (is : IsRegion region) where
   some : 0 < region.d
   some = omega (arith, is.dimension)
@@ -58,65 +81,64 @@ module _ (region : Region) (is : IsRegion region) where
   high_fits : code region.d region.high < 2 ^ 64
   high_fits = code-lt region.d is.dimension region.high
 
-  -- inside the region is between the codes of its corners
-  pub between-from_inside : (w : ℕ) → w < 2 ^ 64 → IsInside region w → IsBetween region.d (code region.d region.low) (code region.d region.high) w
-  between-from_inside w fits inside = record {
-    not_below = λ c below. dilated-le region.d c (code region.d region.low) w some below low_fits fits
-        (omega (arith, (inside c below).0, coordinate-code region.d is.dimension region.low is.low c below));
-    not_above = λ c below. dilated-le region.d c w (code region.d region.high) some below fits high_fits
-        (omega (arith, (inside c below).1, coordinate-code region.d is.dimension region.high is.high c below));
-  }
-
-  pub inside-from_between : (w : ℕ) → w < 2 ^ 64 → IsBetween region.d (code region.d region.low) (code region.d region.high) w → IsInside region w
-  inside-from_between w fits between c below = (
-    omega (
-      arith,
-      coordinate-le region.d c (code region.d region.low) w some below low_fits fits (between.not_below c below),
-      coordinate-code region.d is.dimension region.low is.low c below,
-    ),
-    omega (
-      arith,
-      coordinate-le region.d c w (code region.d region.high) some below fits high_fits (between.not_above c below),
-      coordinate-code region.d is.dimension region.high is.high c below,
-    ),
-  )
-
-  -- and a number inside is a code
+  -- a number inside is a code
   IsCode-inside : (w : ℕ) → w < 2 ^ 64 → IsInside region w → IsCode region.d w
   IsCode-inside w fits inside =
       let at_most = rises region.d is.dimension w (code region.d region.high) fits high_fits
       (λ c below. omega (arith, (inside c below).1, coordinate-code region.d is.dimension region.high is.high c below)) in
       omega (arith, IsCode-code region.d is.dimension region.high is.high)
 
-  pub next-from_least : (z b first next : ℕ) → z < 2 ^ 64 → (IsEmpty region → ⊥) → Opens region.d z (code region.d region.low) (code region.d region.high) b →
-      ((i : ℕ) → Opens region.d z (code region.d region.low) (code region.d region.high) i → b ≤ i) → IsFirst z b first →
-      IsLeastFrom region.d first (code region.d region.low) next → next < 2 ^ 64 → IsNextInBox region z next
-  next-from_least z b first next z_fits some_inside opens lowest is_first least fits =
-      let low = code region.d region.low in
-      let high = code region.d region.high in
-      let inside = inside-from_between next fits (code_between region.d z low high b first next some z_fits low_fits opens is_first least fits ordered) in
+  -- the corners of a region that isn't empty are ordered
+  ordered : (IsEmpty region → ⊥) → AreOrdered region.d (code region.d region.low) (code region.d region.high)
+  ordered some_inside c below = dilated-le region.d c (code region.d region.low) (code region.d region.high) some below low_fits high_fits
+      (omega (arith, coordinate-code region.d is.dimension region.low is.low c below, coordinate-code region.d is.dimension region.high is.high c below, in_order))
+    where
+      in_order : slice_index region.low c ≤ slice_index region.high c
+      in_order = elim (cases_lt (slice_index region.high c) (slice_index region.low c)) [
+        | inl less ↦ absurd (some_inside (c, below, less))
+        | inr rest ↦ rest
+      ]
+
+  next-from_between : (z next : ℕ) → (IsEmpty region → ⊥) →
+      (AreOrdered region.d (code region.d region.low) (code region.d region.high) → IsNextBetween region.d (code region.d region.low) (code region.d region.high) z next) →
+      IsNextInBox region z next
+  next-from_between z next some_inside is_next =
+      let found = is_next (ordered some_inside) in
+      let inside = inside-from_between region is next found.fits found.between in
       record {
-        code = IsCode-inside next fits inside;
-        above = code_above region.d z low high b first next some z_fits low_fits opens is_first least fits ordered;
+        code = IsCode-inside next found.fits inside;
+        above = found.above;
         inside = inside;
         least = λ w small more among.
-            let w_fits = code_fits region.d w is.dimension small in
-            code_least region.d z low high b first next some z_fits low_fits opens is_first least fits ordered w w_fits more (between-from_inside w w_fits among) lowest;
+            let fits = code_fits region.d w is.dimension small in found.least w fits more (between-from_inside region is w fits among);
       }
-    where
-      ordered : (c : ℕ) → c < region.d → dilated region.d c (code region.d region.low) ≤ dilated region.d c (code region.d region.high)
-      ordered c below = dilated-le region.d c (code region.d region.low) (code region.d region.high) some below low_fits high_fits
-          (omega (arith, coordinate-code region.d is.dimension region.low is.low c below, coordinate-code region.d is.dimension region.high is.high c below, in_order))
-        where
-          in_order : slice_index region.low c ≤ slice_index region.high c
-          in_order = elim (cases_lt (slice_index region.high c) (slice_index region.low c)) [
-            | inl less ↦ absurd (some_inside (c, below, less))
-            | inr rest ↦ rest
-          ]
 
-  -- with no opening there is no next code
-  pub no_next-from_openings : (z : ℕ) → z < 2 ^ 64 → ((i : ℕ) → Opens region.d z (code region.d region.low) (code region.d region.high) i → ⊥) → HasNoNext region z
-  no_next-from_openings z z_fits none w small more inside =
-      let w_fits = code_fits region.d w is.dimension small in
-      let (i, found) = top_difference 64 z w w_fits more in
-      none i (Opens-from_code region.d z (code region.d region.low) (code region.d region.high) some z_fits w i w_fits found (between-from_inside w w_fits inside))
+  none-from_between : (z : ℕ) → HasNoneBetween region.d (code region.d region.low) (code region.d region.high) z → HasNoNext region z
+  none-from_between z none w small more inside =
+      let fits = code_fits region.d w is.dimension small in none w fits more (between-from_inside region is w fits inside)
+
+-- ---- the answer, by the corners
+
+module _ (region : Region) (is : IsRegion region) (corners : Corners) (are : AreCorners region corners) (d z : ℕ) (same : d ≡ region.d) where
+  next_by_codes : (next : ℕ) → (IsEmpty region → ⊥) → (AreOrdered d corners.low corners.high → IsNextBetween d corners.low corners.high z next) → IsNextInBox region z next
+  next_by_codes next some_inside found =
+      next-from_between region is z next some_inside
+      (subst (λ (m : ℕ). AreOrdered m (code region.d region.low) (code region.d region.high) → IsNextBetween m (code region.d region.low) (code region.d region.high) z next) same
+      (subst (λ (m : ℕ). AreOrdered d m (code region.d region.high) → IsNextBetween d m (code region.d region.high) z next) are.low
+      (subst (λ (m : ℕ). AreOrdered d corners.low m → IsNextBetween d corners.low m z next) are.high found)))
+
+  none_by_codes : HasNoneBetween d corners.low corners.high z → HasNoNext region z
+  none_by_codes none =
+      none-from_between region is z
+      (subst (λ (m : ℕ). HasNoneBetween m (code region.d region.low) (code region.d region.high) z) same
+      (subst (λ (m : ℕ). HasNoneBetween d m (code region.d region.high) z) are.low
+      (subst (λ (m : ℕ). HasNoneBetween d corners.low m z) are.high none)))
+
+  pub next_answer : (answer : Option ℕ) → (IsEmpty region → ⊥)
+      → IfSome answer (λ next. AreOrdered d corners.low corners.high → IsNextBetween d corners.low corners.high z next) → IfSome answer (IsNextInBox region z)
+  next_answer None some_inside found = found
+  next_answer (Some next) some_inside found = next_by_codes next some_inside found
+
+  pub none_answer : (answer : Option ℕ) → IfNone answer (HasNoneBetween d corners.low corners.high z) → IfNone answer (HasNoNext region z)
+  none_answer None none = none_by_codes none
+  none_answer (Some next) none = none

@@ -1,6 +1,5 @@
-pub mod DilatedLemmas
 pub mod Differences
-pub mod PlaceMasks
+pub mod GreaterLemmas
 pub mod OpeningLemmas
 pub mod PlaceLemmas
 pub mod JumpLemmas

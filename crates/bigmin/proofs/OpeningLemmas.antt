@@ -6,8 +6,10 @@ use Rattle.std.proofs.lemmas.Bool.{cases_lt, cases_eq}
 use Rattle.std.proofs.lemmas.Nat.{mod_below}
 use Rattle.std.proofs.lemmas.Nat.Bits.{same_from_bits}
 use Rattle.zorder.proofs.CallerLemmas.{DiffersAt, less_by_bit, top_difference}
-use Rattle.bigmin.specs.Dilated.{dilated, IsDecidedAt, HasRoom, Opens, IsLeastFrom}
-use Rattle.bigmin.proofs.DilatedLemmas.{dilated-lt, bit_at-own, bit_at-other, own_from_one, agree_dilated, max_cases, bit_at-greater_other}
+use Rattle.zorder.specs.Dilated.{dilated, IsBetween}
+use Rattle.bigmin.specs.Openings.{IsDecidedAt, HasRoom, Opens, IsLeastFrom}
+use Rattle.zorder.proofs.CallerLemmas.{dilated-lt, bit_at-own, bit_at-other, own_from_one, agree_dilated}
+use Rattle.bigmin.proofs.GreaterLemmas.{max_cases, bit_at-greater_other}
 
 -- two numbers differ at t as others do that have the same bits from t on
 swap_lesser : (t a a' b : ℕ) → ((j : ℕ) → t ≤ j → bit_at a' j ≡ bit_at a j) → DiffersAt t a b → DiffersAt t a' b
@@ -23,11 +25,6 @@ swap_greater t a b b' same found = record {
   set = same t (omega arith) ∙ found.set;
   above = λ j higher. found.above j higher ∙ sym (same j (omega arith));
 }
-
--- the code lies between low and high, coordinate by coordinate
-pub record IsBetween (d low high w : ℕ) : Type 0 where
-  pub not_below : (c : ℕ) → c < d → dilated d c low ≤ dilated d c w
-  pub not_above : (c : ℕ) → c < d → dilated d c w ≤ dilated d c high
 
 module _ (d z low high : ℕ) (some : 0 < d) (z_fits : z < 2 ^ 64) where
   -- ---- a code of the box above z shows an opening

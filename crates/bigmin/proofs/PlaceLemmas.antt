@@ -6,8 +6,9 @@ use Rattle.std.proofs.lemmas.Bool.{cases_lt, cases_eq}
 use Rattle.std.proofs.lemmas.Nat.Bits.{bit_at-lt, bit_at-zero, bit_at_above, bit_at_and, bit_at_or, bit_at_not, bit_at_ones, bit_at_ones_above, ones_shr, ones_shl, bit_at_mask_inside, bit_at_mask_below, bit_at-trailing_zeros}
 use Rattle.zorder.proofs.CallerLemmas.{DiffersAt, less_by_bit}
 use Rattle.zorder.proofs.CodeLemmas.{below_from_bits}
-use Rattle.bigmin.specs.Dilated.{dilated, IsDecidedAt, IsRaised, IsHighestDecision, HasRoom, Opens}
-use Rattle.bigmin.proofs.DilatedLemmas.{dilated-lt, bit_at-own, own_from_one}
+use Rattle.zorder.specs.Dilated.{dilated}
+use Rattle.bigmin.specs.Openings.{IsDecidedAt, IsRaised, IsHighestDecision, HasRoom, Opens}
+use Rattle.zorder.proofs.CallerLemmas.{dilated-lt, bit_at-own, own_from_one}
 use Rattle.bigmin.proofs.Differences.{DiffersAt-unique}
 
 -- a place at which a number of 64 bits has a one

@@ -1,2 +1,3 @@
 pub mod NextInBox
-pub mod Dilated
+pub mod NextBetween
+pub mod Openings

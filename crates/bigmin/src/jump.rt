@@ -1,13 +1,14 @@
 // The next code in a region.
 ghost use Rattle.std.specs.Prelude.{◌≡◌, ℕ, ◌+◌, ◌*◌, ◌/◌, ◌%◌, ◌^◌, ◌<◌, ◌≤◌, max, IfSome, IfNone};
 ghost use Rattle.zorder.specs.Codes.{IsCode, IsDimension};
-ghost use Rattle.zorder.specs.Regions.{IsRegion};
-ghost use Rattle.bigmin.specs.Dilated.{IsLeastFrom};
+ghost use Rattle.zorder.specs.Corners.{AreCorners};
+ghost use Rattle.zorder.specs.Regions.{IsEmpty, IsRegion};
+ghost use Rattle.bigmin.specs.Openings.{IsLeastFrom};
+ghost use Rattle.bigmin.specs.NextBetween.{AreOrdered, IsNextBetween, HasNoneBetween};
 ghost use Rattle.bigmin.specs.NextInBox.{IsNextInBox, HasNoNext};
 
-use crate::dilated::dilated_coordinate;
 use crate::openings::lowest_opening;
-use zorder::{Region, encode, is_empty};
+use zorder::{Corners, Region, dilated_coordinate, is_empty};
 
 /// The least code above `z` that is inside the region (BIGMIN), or `None` where there is none.
 ///
@@ -24,16 +25,47 @@ pub fn next_in_box(z: u64, region: &Region) -> Option<u64>
     if is_empty(region) {
         return None;
     }
-    let low = encode(region.d, &region.low);
-    let high = encode(region.d, &region.high);
-    match lowest_opening(region.d, z, low, high) {
+    next_by_corners(z, region, &Corners::of(region))
+}
+
+/// The least code above `z` that is inside the region, or `None` where there is none, for a caller
+/// that jumps often in one region and made its corners once.
+///
+/// The answer and the conditions are those of [`next_in_box`], and the region isn't empty. Takes
+/// some steps for each coordinate; takes no memory.
+/// Source: Tropf and Herzog, Angewandte Informatik 2/1981.
+pub fn next_by_corners(z: u64, region: &Region, corners: &Corners) -> Option<u64>
+    requires region { IsRegion region.now }
+    requires corners { AreCorners region.now corners.now }
+    requires some_inside { ¬ IsEmpty region.now }
+    ensures next { IfSome result (IsNextInBox region.now z) }
+    ensures none { IfNone result (HasNoNext region.now z) }
+{
+    match region.d {
+        2 => next_between(2, z, corners.low, corners.high),
+        3 => next_between(3, z, corners.low, corners.high),
+        _ => next_between(4, z, corners.low, corners.high),
+    }
+}
+
+/// The least number above `z` that lies between two others, coordinate by coordinate. Where `d` is
+/// a literal, no loop is left.
+#[inline(always)]
+fn next_between(d: u32, z: u64, low: u64, high: u64) -> Option<u64>
+    requires { IsDimension d }
+    ensures next { IfSome result
+        (λ next. AreOrdered d low high → IsNextBetween d low high z next) }
+    ensures none { IfNone result (HasNoneBetween d low high z) }
+{
+    match lowest_opening(d, z, low, high) {
         None => None,
         // The bits of `z` above the place, a one there, and the least bits below.
-        Some(place) => Some(least_from(region.d, ((z >> place) | 1) << place, low)),
+        Some(place) => Some(least_from(d, ((z >> place) | 1) << place, low)),
     }
 }
 
 /// The code whose coordinates are each the greater of those of two codes.
+#[inline(always)]
 fn least_from(d: u32, first: u64, low: u64) -> u64
     requires { IsDimension d }
     ensures { IsLeastFrom d first low result }

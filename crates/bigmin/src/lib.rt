@@ -12,11 +12,11 @@
 //! memory.
 #![tactic(auto)]
 
-mod dilated;
+mod highest;
 mod jump;
 mod openings;
 
-pub use jump::next_in_box;
+pub use jump::{next_by_corners, next_in_box};
 
 #[cfg(test)]
 mod tests;

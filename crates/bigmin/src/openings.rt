@@ -2,12 +2,14 @@
 ghost use Rattle.std.specs.Prelude.{◌≡◌, ◌↔◌, ℕ, ◌%◌, ◌<◌, ◌≤◌, MatchOption};
 ghost use Rattle.std.specs.Int.{bit_at};
 ghost use Rattle.zorder.specs.Codes.{IsDimension};
-ghost use Rattle.bigmin.specs.Dilated.{IsRaised, IsHighestDecision, HasRoom, Opens};
+ghost use Rattle.bigmin.specs.Openings.{IsRaised, IsHighestDecision, HasRoom, Opens};
 
-use crate::dilated::{dilated_coordinate, highest_difference};
+use crate::highest::highest_difference;
+use zorder::dilated_coordinate;
 
 /// The greater of a place and of the highest place at which two numbers differ, where the first is
 /// the lesser one.
+#[inline(always)]
 fn raised(place: u32, lesser: u64, greater: u64) -> u32
     ensures { IsRaised place lesser greater result }
 {
@@ -21,6 +23,7 @@ fn raised(place: u32, lesser: u64, greater: u64) -> u32
 /// The highest place that decides a coordinate of `z` to be out of its interval, or 0.
 ///
 /// A code that agrees with `z` from there on is out of it too.
+#[inline(always)]
 fn highest_decision(d: u32, z: u64, low: u64, high: u64) -> u32
     requires { IsDimension d }
     ensures { IsHighestDecision d z low high d result }
@@ -35,6 +38,7 @@ fn highest_decision(d: u32, z: u64, low: u64, high: u64) -> u32
 }
 
 /// The zeros of coordinate `c` of `z` that may be a one, as far as the high end is concerned.
+#[inline(always)]
 fn zeros_with_room(d: u32, c: u32, z: u64, high: u64) -> u64
     requires dimension { IsDimension d }
     requires within { c < d }
@@ -49,6 +53,7 @@ fn zeros_with_room(d: u32, c: u32, z: u64, high: u64) -> u64
 }
 
 /// Those of all coordinates.
+#[inline(always)]
 fn all_zeros_with_room(d: u32, z: u64, high: u64) -> u64
     requires { IsDimension d }
     ensures { (i : ℕ) → (bit_at result i ≡ 1) ↔ HasRoom d z high i }
@@ -62,6 +67,7 @@ fn all_zeros_with_room(d: u32, z: u64, high: u64) -> u64
 
 /// The lowest place from which on a code between `low` and `high`, coordinate by coordinate, can be
 /// above `z`.
+#[inline(always)]
 pub fn lowest_opening(d: u32, z: u64, low: u64, high: u64) -> Option<u32>
     requires { IsDimension d }
     ensures { MatchOption result ((i : ℕ) → Opens d z low high i → ⊥)

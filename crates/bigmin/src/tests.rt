@@ -3,9 +3,9 @@
 
 ghost use Rattle.zorder.specs.Codes.{IsDimension, IsInRange};
 
-use crate::next_in_box;
+use crate::{next_by_corners, next_in_box};
 use std::process::Abort;
-use zorder::{Region, fits_range};
+use zorder::{Corners, Region, fits_range, is_empty};
 
 /// A dimension, a box by its low and its high corner, a code, and the next code in the box.
 type Row = (u32, [u32; 4], [u32; 4], u64, Option<u64>);
@@ -150,6 +150,11 @@ fn check_row(rt: &impl Abort, row: Row) {
     in_range(d, high, rt);
     let region = Region { d, low, high };
     assert_eq!(rt; next_in_box(z, &region), next);
+    if !is_empty(&region) {
+        let corners = Corners::of(&region);
+        assert_eq!(rt; next_by_corners(z, &region, &corners), next);
+        assert!(rt; corners.inside(&region, next.unwrap_or(corners.low)));
+    }
 }
 
 #[test]

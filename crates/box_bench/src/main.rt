@@ -233,6 +233,19 @@ fn sum_of(dims: u32, codes: &[u64]) -> u64
     requires dimension { IsDimension dims }
     requires codes { All (λ z. IsCode dims z) codes.now }
 {
+    match dims {
+        2 => sum_in(2, codes),
+        3 => sum_in(3, codes),
+        _ => sum_in(4, codes),
+    }
+}
+
+/// The same; where the dimension is a literal, the loops over coordinates are unrolled.
+#[inline(always)]
+fn sum_in(dims: u32, codes: &[u64]) -> u64
+    requires dimension { IsDimension dims }
+    requires codes { All (λ z. IsCode dims z) codes.now }
+{
     let mut sum = 0u64;
     for i in 0..codes.len() {
         sum = sum.wrapping_add(weighed(dims, codes[i]));

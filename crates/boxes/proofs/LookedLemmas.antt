@@ -3,14 +3,14 @@
 -- Main results: a place is looked at after a code inside (`looked_behind`) and at the lower bound of a code inside (`looked_at_bound`);
 -- none is behind a code above the high corner's (`none_past`), behind the last code inside (`none_left`) or before the next one
 -- (`none_between`). A code inside stands at a place that is looked at (`looked_here`), so what lies between are codes outside.
-use Rattle.std.proofs.Common.{◌≡◌, ℕ, zero, suc, ◌+◌, ◌-◌, ◌<◌, ◌≤◌, ⊎_elim, List, ◌∷◌, length, drop, slice_index, sym, ap, ◌∙◌, subst, arith}
+use Rattle.std.proofs.Common.{◌≡◌, ℕ, zero, suc, ◌+◌, ◌-◌, ◌<◌, ◌≤◌, ⊎_elim, List, ◌∷◌, ◌++◌, length, take, drop, slice_index, sym, ap, ◌∙◌, subst, arith}
 use Rattle.std.specs.Prelude.{All}
 use Rattle.std.specs.List.Sorted.{IsNonDecreasing}
 use Rattle.std.proofs.lemmas.Bool.{cases_lt, cases_eq, cond-true, cond-false}
 use Rattle.std.proofs.lemmas.List.{drop_more}
 use Rattle.zorder.specs.declared.regions.Region.{Region}
 use Rattle.zorder.specs.Codes.{IsCode, code}
-use Rattle.zorder.specs.Regions.{IsRegion, IsInside}
+use Rattle.zorder.specs.Regions.{IsEmpty, IsRegion, IsInside}
 use Rattle.zorder.proofs.CallerLemmas.{inside_between}
 use Rattle.bigmin.specs.NextInBox.{IsNextInBox, HasNoNext}
 use Rattle.window_search.specs.Searches.{lb}
@@ -197,6 +197,38 @@ module _ (region : Region) (codes : List ℕ) (of : AreOfRegion region codes) wh
       outside_skipped at next (omega arith) within
       (λ k from to inside. ⊎_elim (λ after. skipped k after to (looked_here k (omega arith) inside))
       (λ here. let same : k ≡ at = omega arith in outside (subst (λ (i : ℕ). IsInside region (slice_index codes i)) same inside)) (cases_lt at k))
+
+  -- several codes inside at the front of what is left
+  pub inside_fronts : (i count : ℕ) → i + count ≤ length codes → ((k : ℕ) → i ≤ k → k < i + count → IsInside region (slice_index codes k))
+      → codes_inside region (drop i codes) ≡ take count (drop i codes) ++ codes_inside region (drop (i + count) codes)
+  inside_fronts i zero within each = let same : i ≡ i + zero = omega arith in ap (λ (k : ℕ). codes_inside region (drop k codes)) same
+  inside_fronts i (suc count) within each =
+      let z = slice_index codes i in
+      let same : i + 1 + count ≡ i + suc count = omega arith in
+      inside_front i (omega arith) (each i (omega arith) (omega arith))
+      ∙ ap (λ (xs : List ℕ). z ∷ xs) (inside_fronts (i + 1) count (omega arith) (λ k from to. each k (omega arith) (omega arith)))
+      ∙ ap (λ (k : ℕ). z ∷ take count (drop (i + 1) codes) ++ codes_inside region (drop k codes)) same
+      ∙ ap (λ (xs : List ℕ). take (suc count) xs ++ codes_inside region (drop (i + suc count) codes)) (sym (drop_more codes i 0 (omega arith)))
+
+  -- a walk goes on behind them
+  pub walk_along : (at looked count : ℕ) → at + count ≤ length codes → HasWalked region codes at looked
+      → ((k : ℕ) → at ≤ k → k < at + count → IsInside region (slice_index codes k)) → HasWalked region codes (at + count) (looked + count)
+  walk_along at looked zero within walked each =
+      let place : at ≡ at + zero = omega arith in
+      let number : looked ≡ looked + zero = omega arith in
+      subst (λ (n : ℕ). HasWalked region codes (at + zero) n) number (subst (λ (n : ℕ). HasWalked region codes n looked) place walked)
+  walk_along at looked (suc count) within walked each =
+      let place : at + 1 + count ≡ at + suc count = omega arith in
+      let number : looked + 1 + count ≡ looked + suc count = omega arith in
+      subst (λ (n : ℕ). HasWalked region codes (at + suc count) n) number
+      (subst (λ (n : ℕ). HasWalked region codes n (looked + 1 + count)) place
+      (walk_along (at + 1) (looked + 1) count (omega arith) (walk_on at looked (omega arith) walked (each at (omega arith) (omega arith)))
+      (λ k from to. each k (omega arith) (omega arith))))
+
+  -- a place that is due shows that the region isn't empty
+  pub not_empty : (at looked : ℕ) → at < length codes → HasWalked region codes at looked → IsEmpty region → ⊥
+  not_empty at looked within walked (c, below, falls) =
+      let is_due = walked.due within in omega (arith, is_due.inside c below)
 
 -- the place of a code that isn't below another, behind one that is, is the lower bound
 pub bound_between : (shown codes : List ℕ) (z place : ℕ) → shown ≡ codes → IsNonDecreasing shown → place < length shown → slice_index shown (place - 1) < z →

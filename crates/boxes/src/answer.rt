@@ -8,7 +8,7 @@ ghost use Rattle.boxes.specs.BoxAnswers.{codes_inside, IsLooked};
 use crate::{Boxes, Found};
 use budget::NoMemory;
 use std::alloc::Global;
-use zorder::{Region, encode};
+use zorder::{Corners, Region};
 
 impl Boxes {
     /// The codes that are inside a region, and at how many places was looked.
@@ -43,11 +43,11 @@ impl Boxes {
         ensures found { result.0 ≡ length (codes_inside region.now self.now.codes) }
         ensures looked { IsLooked region.now self.now.codes result.1 }
     {
-        let high = encode(region.d, &region.high);
-        let mut walk = self.walk(region);
+        let corners = Corners::of(region);
+        let mut walk = self.walk(region, &corners);
         let mut found = 0;
-        while let Some(_) = self.next_found(region, high, &mut walk) {
-            found += 1;
+        while walk.at < self.codes().len() {
+            found += self.next_stretch(region, &corners, &mut walk).len() as u64;
         }
         (found, walk.looked)
     }
@@ -66,10 +66,11 @@ impl Boxes {
         ensures looked { IsLooked region.now self.now.codes result }
         ensures capacity { vec_capacity into.old ≤ vec_capacity into.new }
     {
-        let high = encode(region.d, &region.high);
-        let mut walk = self.walk(region);
-        while let Some(z) = self.next_found(region, high, &mut walk) {
-            into.push(z).unwrap();
+        let corners = Corners::of(region);
+        let mut walk = self.walk(region, &corners);
+        while walk.at < self.codes().len() {
+            let stretch = self.next_stretch(region, &corners, &mut walk);
+            into.extend_from_slice(stretch).unwrap();
         }
         walk.looked
     }

@@ -1,15 +1,16 @@
-// The walk over the sorted codes from one code inside a region to the next.
-ghost use Rattle.std.specs.Prelude.{◌≡◌, ◌+◌, ◌<◌, ◌≤◌, ◌^◌, ℕ, [], ◌∷◌, length, drop};
-ghost use Rattle.std.specs.Prelude.{slice_index, IfSome, IfNone, OnSome};
-ghost use Rattle.zorder.specs.Codes.{code};
-ghost use Rattle.zorder.specs.Regions.{IsRegion, IsInside};
+// The walk over the sorted codes from one stretch of codes inside a region to the next.
+ghost use Rattle.std.specs.Prelude.{◌≡◌, ◌+◌, ◌<◌, ◌≤◌, ◌^◌, ℕ, ◌++◌, length, drop, slice_index};
+ghost use Rattle.zorder.specs.Codes.{IsDimension};
+ghost use Rattle.zorder.specs.Corners.{AreCorners};
+ghost use Rattle.zorder.specs.Dilated.{IsBetween};
+ghost use Rattle.zorder.specs.Regions.{IsEmpty, IsRegion, IsInside};
 ghost use Rattle.window_search.specs.Searches.{lb};
 ghost use Rattle.boxes.specs.BoxAnswers.{codes_inside, IsLookedAt};
 ghost use Rattle.boxes.specs.Walks.{HasWalked};
 
 use crate::Boxes;
-use bigmin::next_in_box;
-use zorder::{Region, encode, inside, is_empty};
+use bigmin::next_by_corners;
+use zorder::{Corners, Region, is_between, is_empty};
 
 /// How many places behind a code are looked through for the end of a jump, before the index is
 /// asked. They are two lines of the cache; a lookup reads more.
@@ -26,9 +27,10 @@ pub struct Walk {
 impl Boxes {
     /// A walk over the codes inside a region, which begins at the lower bound of the low corner's
     /// code. Over an empty region it is at its end.
-    pub(crate) fn walk(&self, region: &Region) -> Walk
+    pub(crate) fn walk(&self, region: &Region, corners: &Corners) -> Walk
         requires region { IsRegion region.now }
         requires dims { region.now.d ≡ self.now.dims }
+        requires corners { AreCorners region.now corners.now }
         ensures walked { HasWalked region.now self.now.codes result.at result.looked }
         ensures all { codes_inside region.now (drop result.at self.now.codes)
             ≡ codes_inside region.now self.now.codes }
@@ -39,44 +41,61 @@ impl Boxes {
             let at = codes.len();
             return Walk { at, looked: 0 };
         }
-        let at = self.lower_bound(encode(region.d, &region.low));
+        let at = self.lower_bound(corners.low);
         Walk { at, looked: 0 }
     }
 
-    /// The next code inside the region, or `None` where the walk is at its end. `high` is the code
-    /// of the region's high corner.
-    pub(crate) fn next_found(&self, region: &Region, high: u64, walk: &mut Walk) -> Option<u64>
+    /// The codes inside the region that stand side by side from the walk's place on; there may be
+    /// none. The walk goes behind them, and over those outside that follow.
+    pub(crate) fn next_stretch(&self, region: &Region, corners: &Corners, walk: &mut Walk) -> &[u64]
         requires region { IsRegion region.now }
         requires dims { region.now.d ≡ self.now.dims }
-        requires high { high ≡ code region.now.d region.now.high }
+        requires corners { AreCorners region.now corners.now }
+        requires here { walk.old.at < length self.now.codes }
         requires walked { HasWalked region.now self.now.codes walk.old.at walk.old.looked }
         ensures walked { HasWalked region.now self.now.codes walk.new.at walk.new.looked }
-        ensures found { IfSome result (λ z.
-            codes_inside region.now (drop walk.old.at self.now.codes)
-            ≡ z ∷ codes_inside region.now (drop walk.new.at self.now.codes)) }
-        ensures onwards { OnSome result (walk.old.at < walk.new.at) }
-        ensures none { IfNone result
-            (codes_inside region.now (drop walk.old.at self.now.codes) ≡ []) }
-        ensures end { IfNone result (walk.new.at ≡ length self.now.codes) }
+        ensures found { codes_inside region.now (drop walk.old.at self.now.codes)
+            ≡ result.now ++ codes_inside region.now (drop walk.new.at self.now.codes) }
+        ensures onwards { walk.old.at < walk.new.at }
+        ensures few { walk.old.at + length result.now ≤ walk.new.at }
     {
         let codes = self.codes();
-        while walk.at < codes.len() {
-            let z = codes[walk.at];
-            walk.looked += 1;
-            if inside(region, z) {
-                walk.at += 1;
-                return Some(z);
-            }
-            walk.at = self.jump(region, high, walk.at);
+        let at = walk.at;
+        let end = stretch_end(region, corners, codes, at);
+        let looked = walk.looked + (end - at) as u64;
+        *walk = self.over_outside(region, corners, Walk { at: end, looked });
+        &codes[at..end]
+    }
+
+    /// A walk that is at a code outside, or at its end, when it has gone over what is outside.
+    fn over_outside(&self, region: &Region, corners: &Corners, walk: Walk) -> Walk
+        requires region { IsRegion region.now }
+        requires dims { region.now.d ≡ self.now.dims }
+        requires corners { AreCorners region.now corners.now }
+        requires walked { HasWalked region.now self.now.codes walk.at walk.looked }
+        requires outside { walk.at < length self.now.codes
+            → ¬ IsInside region.now (slice_index self.now.codes walk.at) }
+        ensures walked { HasWalked region.now self.now.codes result.at result.looked }
+        ensures same { codes_inside region.now (drop walk.at self.now.codes)
+            ≡ codes_inside region.now (drop result.at self.now.codes) }
+        ensures onwards { walk.at < length self.now.codes → walk.at < result.at }
+        ensures not_back { walk.at ≤ result.at }
+    {
+        let codes = self.codes();
+        if walk.at >= codes.len() {
+            return walk;
         }
-        None
+        let at = self.jump(region, corners, walk.at);
+        let looked = walk.looked + 1;
+        Walk { at, looked }
     }
 
     /// The place that is to be looked at after a code outside, or the end of the codes.
-    fn jump(&self, region: &Region, high: u64, at: usize) -> usize
+    fn jump(&self, region: &Region, corners: &Corners, at: usize) -> usize
         requires region { IsRegion region.now }
         requires dims { region.now.d ≡ self.now.dims }
-        requires high { high ≡ code region.now.d region.now.high }
+        requires corners { AreCorners region.now corners.now }
+        requires some_inside { ¬ IsEmpty region.now }
         requires here { at < length self.now.codes }
         requires outside { ¬ IsInside region.now (slice_index self.now.codes at) }
         ensures onwards { at < result }
@@ -88,10 +107,18 @@ impl Boxes {
     {
         let codes = self.codes();
         let z = codes[at];
-        if z > high {
+        if z > corners.high {
             return codes.len();
         }
-        match next_in_box(z, region) {
+        let after = at + 1;
+        if after == codes.len() {
+            return after;
+        }
+        // Often the next code is inside again, and then the region's next code isn't asked for.
+        if corners.inside(region, codes[after]) {
+            return after;
+        }
+        match next_by_corners(z, region, corners) {
             None => codes.len(),
             Some(next) => self.lower_bound_past(at, next),
         }
@@ -115,4 +142,44 @@ impl Boxes {
         }
         self.lower_bound(code)
     }
+}
+
+/// The end of the codes inside a region that stand side by side from a place on.
+fn stretch_end(region: &Region, corners: &Corners, codes: &[u64], at: usize) -> usize
+    requires region { IsRegion region.now }
+    requires corners { AreCorners region.now corners.now }
+    requires here { at ≤ length codes.now }
+    ensures onwards { at ≤ result }
+    ensures within { result ≤ length codes.now }
+    ensures inside { (j : ℕ) → at ≤ j → j < result
+        → IsInside region.now (slice_index codes.now j) }
+    ensures outside { result < length codes.now
+        → ¬ IsInside region.now (slice_index codes.now result) }
+{
+    match region.d {
+        2 => between_until(2, corners.low, corners.high, codes, at),
+        3 => between_until(3, corners.low, corners.high, codes, at),
+        _ => between_until(4, corners.low, corners.high, codes, at),
+    }
+}
+
+/// The first place from one on whose code doesn't lie between two others, coordinate by coordinate,
+/// or the end.
+#[inline(always)]
+fn between_until(d: u32, low: u64, high: u64, codes: &[u64], at: usize) -> usize
+    requires dimension { IsDimension d }
+    requires here { at ≤ length codes.now }
+    ensures onwards { at ≤ result }
+    ensures within { result ≤ length codes.now }
+    ensures between { (j : ℕ) → at ≤ j → j < result
+        → IsBetween d low high (slice_index codes.now j) }
+    ensures not { result < length codes.now
+        → ¬ IsBetween d low high (slice_index codes.now result) }
+{
+    for place in at..codes.len() {
+        if !is_between(d, low, high, codes[place]) {
+            return place;
+        }
+    }
+    codes.len()
 }

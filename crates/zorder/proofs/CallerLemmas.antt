@@ -16,4 +16,13 @@ pub use Rattle.zorder.proofs.CodeLemmas.{
   rises,
   same_from_coordinates,
 }
-pub use Rattle.zorder.proofs.RegionLemmas.{inside_between, low_inside}
+pub use Rattle.zorder.proofs.DilatedLemmas.{
+  agree_dilated,
+  bit_at-other,
+  bit_at-own,
+  coordinate-le,
+  dilated-le,
+  dilated-lt,
+  own_from_one,
+}
+pub use Rattle.zorder.proofs.RegionLemmas.{between-from_inside, corners-from_inside, inside-from_between, inside-from_corners, inside_between, low_inside}

@@ -2,7 +2,9 @@ pub mod BitLemmas
 pub mod BitOrder
 pub mod CallerLemmas
 pub mod CodeLemmas
+pub mod DilatedLemmas
 pub mod GatherLemmas
 pub mod Masks
+pub mod PlaceMasks
 pub mod RegionLemmas
 pub mod SpreadLemmas

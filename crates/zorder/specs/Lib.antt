@@ -1,4 +1,6 @@
 pub mod Codes
+pub mod Corners
+pub mod Dilated
 pub mod Points
 pub mod Regions
 pub mod Spread

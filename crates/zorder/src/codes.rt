@@ -35,6 +35,7 @@ pub fn encode(d: u32, coords: &[u32]) -> u64
 /// `d` is how many coordinates the code has, from 2 to 4. A code of three coordinates is below
 /// 2^63; of two or four, any number is a code. Cannot fail and takes no memory.
 /// Source: Morton, IBM Ottawa, 1966.
+#[inline(always)]
 pub fn decode(d: u32, z: u64) -> [u32; 4]
     requires dimension { IsDimension d }
     requires code { IsCode d z }

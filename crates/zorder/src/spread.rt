@@ -81,6 +81,7 @@ pub fn spread(d: u32, value: u32) -> u64
 }
 
 /// The number that every second bit makes, from the lowest on.
+#[inline]
 fn gather_by_2(code: u64) -> u32
     ensures { result ≡ coordinate 2 0 code }
 {
@@ -93,6 +94,7 @@ fn gather_by_2(code: u64) -> u32
 }
 
 /// The number that every third bit makes, from the lowest on.
+#[inline]
 fn gather_by_3(code: u64) -> u32
     ensures { result ≡ coordinate 3 0 code }
 {
@@ -105,6 +107,7 @@ fn gather_by_3(code: u64) -> u32
 }
 
 /// The number that every fourth bit makes, from the lowest on.
+#[inline]
 fn gather_by_4(code: u64) -> u32
     ensures { result ≡ coordinate 4 0 code }
 {
@@ -116,6 +119,7 @@ fn gather_by_4(code: u64) -> u32
 }
 
 /// The first coordinate of a code: the number that every d-th bit makes, from the lowest on.
+#[inline(always)]
 pub fn gather(d: u32, code: u64) -> u32
     requires { IsDimension d }
     ensures { result ≡ coordinate d 0 code }

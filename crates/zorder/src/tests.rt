@@ -1,6 +1,6 @@
 //! Codes that a plain program worked out bit by bit, and each call once.
 
-use crate::{Region, decode, encode, fits_range, inside, is_empty};
+use crate::{Corners, Region, decode, encode, fits_range, inside, is_empty};
 use std::process::Abort;
 
 /// Points and their codes: the least and greatest of each coordinate, and mixed ones.
@@ -83,4 +83,28 @@ fn a_square(rt: HostRuntime) {
             high: [1, 1, 0, 0]
         })
     );
+}
+
+/// From 1 to 2 in each coordinate: three codes inside, and three with one coordinate too low or too
+/// high, in each dimension.
+#[test]
+fn between_corners(rt: HostRuntime) {
+    let rows: [(u32, [u64; 3], [u64; 3]); 3] = [
+        (2, [3, 6, 12], [1, 7, 11]),
+        (3, [7, 35, 56], [6, 15, 27]),
+        (4, [15, 135, 240], [14, 31, 47]),
+    ];
+    for (d, within, beyond) in rows {
+        assert!(rt; d == 2 || d == 3 || d == 4);
+        let region = Region {
+            d,
+            low: [1, 1, 1, 1],
+            high: [2, 2, 2, 2],
+        };
+        let corners = Corners::of(&region);
+        for i in 0..3 {
+            assert!(rt; corners.inside(&region, within[i]));
+            assert!(rt; !corners.inside(&region, beyond[i]));
+        }
+    }
 }

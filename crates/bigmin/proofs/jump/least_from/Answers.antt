@@ -1,7 +1,7 @@
 -- One more coordinate.
 use Rattle.std.proofs.Common.{◌≡◌, max, sym}
-use Rattle.bigmin.specs.Dilated.{dilated}
-use Rattle.bigmin.proofs.DilatedLemmas.{made_more, others_more}
+use Rattle.zorder.specs.Dilated.{dilated}
+use Rattle.bigmin.proofs.GreaterLemmas.{made_more, others_more}
 use Rattle.bigmin.proofs.jump.least_from.Goals as goal
 
 pub loop-c-preserved : goal.loop-c-preserved

@@ -1,6 +1,6 @@
 use Rattle.std.proofs.Common.{◌≡◌, ◌%◌, ℕ, ◌<◌, ◌≤◌, max}
 use Rattle.std.specs.Int.{bit_at}
-use Rattle.bigmin.specs.Dilated.{dilated}
+use Rattle.zorder.specs.Dilated.{dilated}
 use Rattle.bigmin.proofs.jump.least_from.Given as goal
 
 -- the bits of the coordinates below c

@@ -1,6 +1,6 @@
 use Rattle.std.proofs.Common.{◌≡◌, ◌↔◌, ℕ, ◌%◌, ◌<◌}
 use Rattle.std.specs.Int.{bit_at}
-use Rattle.bigmin.specs.Dilated.{HasRoom}
+use Rattle.bigmin.specs.Openings.{HasRoom}
 use Rattle.bigmin.proofs.openings.all_zeros_with_room.Given as goal
 
 -- those of the coordinates below c

@@ -1,4 +1,4 @@
-use Rattle.bigmin.specs.Dilated.{IsHighestDecision}
+use Rattle.bigmin.specs.Openings.{IsHighestDecision}
 use Rattle.bigmin.proofs.openings.highest_decision.Given as goal
 
 -- the highest decision of the coordinates below c

@@ -1,7 +1,7 @@
 -- The mask has ones up to the highest place where z's coordinate differs from the high end's.
 use Rattle.std.proofs.Common.{arith}
 use Rattle.zorder.proofs.CallerLemmas.{DiffersAt}
-use Rattle.bigmin.specs.Dilated.{dilated}
+use Rattle.zorder.specs.Dilated.{dilated}
 use Rattle.bigmin.proofs.PlaceLemmas.{top_below, room_bits, room_none}
 use Rattle.bigmin.proofs.openings.zeros_with_room.Goals as goal
 

@@ -4,12 +4,12 @@ use Rattle.boxes.specs.BoxAnswers.{codes_inside}
 use Rattle.boxes.specs.Walks.{HasWalked}
 use Rattle.boxes.proofs.boxes.Boxes.fill.Given as goal
 
-abbrev pub invariant-loop-z : goal.invariant-loop-z
-invariant-loop-z l = record {
+abbrev pub invariant-loop-walk : goal.invariant-loop-walk
+invariant-loop-walk l = record {
   walked : HasWalked l.region l.self.codes l.walk.at l.walk.looked;
   all : l.into.items ++ codes_inside l.region (drop l.walk.at l.self.codes) ≡ codes_inside l.region l.self.codes;
   room : vec_capacity l.fn.into ≤ vec_capacity l.into;
 }
 
-abbrev pub decreases-loop-z : goal.decreases-loop-z
-decreases-loop-z l = length l.self.codes - l.walk.at
+abbrev pub decreases-loop-walk : goal.decreases-loop-walk
+decreases-loop-walk l = length l.self.codes - l.walk.at

@@ -1,6 +1,6 @@
 -- An empty region has no code inside; of another the low corner's code is.
 use Rattle.std.proofs.Common.{ℕ, length, drop, sym, ap, ◌∙◌, subst}
-use Rattle.zorder.specs.Codes.{IsCode}
+use Rattle.zorder.proofs.CallerLemmas.{IsCode-code}
 use Rattle.window_search.specs.Searches.{lb}
 use Rattle.boxes.specs.BoxAnswers.{codes_inside}
 use Rattle.boxes.specs.Walks.{HasWalked}
@@ -24,8 +24,8 @@ pub returns-clause-walked : goal.returns-clause-walked
 returns-clause-walked c =
     let region = c.args.region.now in
     let of = of_region region c.args.self.now.codes _ _ c.codes-codes.ensures.codes c.requires.dims c.codes-codes.ensures.never_falls c.codes-codes.ensures.each in
-    let place = c.lower_bound-at.ensures ∙ ap (lb c.args.self.now.codes) c.encode.ensures.code in
-    let small = subst (λ (z : ℕ). IsCode region.d z) c.encode.ensures.code c.encode.ensures.range in
+    let place = c.lower_bound-at.ensures ∙ ap (lb c.args.self.now.codes) c.requires.corners.low in
+    let small = IsCode-code region.d c.requires.region.dimension region.low c.requires.region.low in
     subst (λ (at : ℕ). HasWalked region c.args.self.now.codes at 0) (sym place)
     (walk_begins region c.args.self.now.codes of c.requires.region c.if-is_empty.ensures.low_inside small)
 
@@ -33,6 +33,6 @@ pub returns-clause-all : goal.returns-clause-all
 returns-clause-all c =
     let region = c.args.region.now in
     let of = of_region region c.args.self.now.codes _ _ c.codes-codes.ensures.codes c.requires.dims c.codes-codes.ensures.never_falls c.codes-codes.ensures.each in
-    let place = c.lower_bound-at.ensures ∙ ap (lb c.args.self.now.codes) c.encode.ensures.code in
+    let place = c.lower_bound-at.ensures ∙ ap (lb c.args.self.now.codes) c.requires.corners.low in
     ap (λ (at : ℕ). codes_inside region (drop at c.args.self.now.codes)) place
     ∙ begins_with_all region c.args.self.now.codes of c.requires.region

@@ -1,6 +1,6 @@
 -- The highest one of the `^` of two numbers is where they differ first.
 use Rattle.bigmin.proofs.Differences.{highest_from_log, xor-positive}
-use Rattle.bigmin.proofs.dilated.highest_difference.Goals as goal
+use Rattle.bigmin.proofs.highest.highest_difference.Goals as goal
 
 pub ilog2-requires : goal.ilog2-requires
 ilog2-requires c = xor-positive c.args.lesser c.args.greater c.ranges.greater.fits c.requires

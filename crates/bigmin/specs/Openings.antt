@@ -1,12 +1,8 @@
--- Coordinates at their places in a code, and the zeros of a code that may turn into a one. No public clause cites it.
-use Rattle.std.specs.Prelude.{◌≡◌, ◌⊎◌, ◌==◌, if◌then◌else◌, ℕ, ◌%◌, ◌<◌, ◌≤◌, max}
+-- The places that decide a coordinate, and the zeros of a code that may turn into a one. No public clause cites it.
+use Rattle.std.specs.Prelude.{◌≡◌, ◌⊎◌, ℕ, ◌%◌, ◌<◌, ◌≤◌, max}
 use Rattle.std.specs.Int.{bit_at}
-use Rattle.zorder.specs.Codes.{number_of}
+use Rattle.zorder.specs.Dilated.{dilated}
 use Rattle.zorder.proofs.CallerLemmas.{DiffersAt}
-
--- the dilated coordinate c of the code z of d coordinates: z without the bits of the other coordinates
-unfoldable pub dilated : ℕ → ℕ → ℕ → ℕ
-dilated d c z = number_of 64 (λ i. if (i % d) == c then bit_at z i else 0)
 
 -- coordinate c of z is below that of low, or above that of high, and place t decides it
 abbrev pub IsDecidedAt : ℕ → ℕ → ℕ → ℕ → ℕ → ℕ → Type 0

@@ -1,7 +1,7 @@
 -- The mask has a one at each place of the coordinate, and no other.
 use Rattle.std.proofs.Common.{arith}
-use Rattle.bigmin.proofs.DilatedLemmas.{masked, moved_one, moved_zero}
-use Rattle.bigmin.proofs.dilated.dilated_coordinate.Goals as goal
+use Rattle.zorder.proofs.DilatedLemmas.{masked, moved_one, moved_zero}
+use Rattle.zorder.proofs.dilated.dilated_coordinate.Goals as goal
 
 pub returns : goal.returns
 returns c =

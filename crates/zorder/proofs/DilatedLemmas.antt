@@ -1,15 +1,16 @@
 -- The bits of dilated coordinates: those of the code at the coordinate's places, and 0 elsewhere. They compare as the coordinates do.
-use Rattle.std.proofs.Common.{◌≡◌, ◌≢◌, ◌⊎◌, ◌==◌, if◌then◌else◌, ℕ, ◌+◌, ◌-◌, ◌*◌, ◌/◌, ◌%◌, ◌^◌, ◌<◌, ◌≤◌, max, sym, ap, ◌∙◌, inl, inr, arith}
-use Rattle.std.specs.Prelude.{bit_and, bit_or}
+use Rattle.std.proofs.Common.{◌≡◌, ◌≢◌, ◌==◌, if◌then◌else◌, ℕ, ◌+◌, ◌-◌, ◌*◌, ◌/◌, ◌%◌, ◌^◌, ◌<◌, ◌≤◌, sym, ap, ◌∙◌, inl, inr, arith}
+use Rattle.std.specs.Prelude.{bit_and}
 use Rattle.std.specs.Int.{bit_at}
 use Rattle.std.proofs.lemmas.Bool.{cases_lt, cases_eq, cond-true, cond-false, eq-eqb, ne_eqb}
 use Rattle.std.proofs.lemmas.Nat.{mod-mul-add, div-add-mod'}
-use Rattle.std.proofs.lemmas.Nat.Bits.{bit_at-lt, bit_at_above, bit_at_and, bit_at_or, same_from_bits_below}
+use Rattle.std.proofs.lemmas.Nat.Bits.{bit_at-lt, bit_at_above, bit_at_and, same_from_bits_below}
 use Rattle.std.proofs.Math.Nat.{mul-le-mul_left, mul-le-mul_right}
 use Rattle.zorder.specs.Codes.{coordinate}
-use Rattle.zorder.proofs.CallerLemmas.{DiffersAt, less_by_bit, top_difference, bit_at-coordinate, bit_at-shl, bit_at-shl_low}
-use Rattle.zorder.proofs.CodeLemmas.{number_of-lt, bit_at-number_of, below_from_bits}
-use Rattle.bigmin.specs.Dilated.{dilated}
+use Rattle.zorder.proofs.BitOrder.{DiffersAt, less_by_bit, top_difference}
+use Rattle.zorder.proofs.BitLemmas.{bit_at-shl, bit_at-shl_low}
+use Rattle.zorder.proofs.CodeLemmas.{bit_at-coordinate, number_of-lt, bit_at-number_of, below_from_bits}
+use Rattle.zorder.specs.Dilated.{dilated}
 
 bit-lt : (d c z i : ℕ) → (if (i % d) == c then bit_at z i else 0) < 2
 bit-lt d c z i = elim (cases_eq (i % d) c) [
@@ -45,32 +46,6 @@ own_from_one d c z i one = elim (cases_eq (i % d) c) [
   | inl same ↦ same
   | inr apart ↦ absurd (omega (arith, bit_at-other d c z i apart))
 ]
-
--- the greater of two dilated coordinates is one of them
-pub max_cases : (m n : ℕ) → ((n ≤ m) × (max m n ≡ m)) ⊎ ((m < n) × (max m n ≡ n))
-max_cases m n = elim (cases_lt m n) [ inl less ↦ inr (less, omega arith) | inr rest ↦ inl (rest, omega arith) ]
-
-pub bit_at-greater_other : (d c a b i : ℕ) → i % d ≢ c → bit_at (max (dilated d c a) (dilated d c b)) i ≡ 0
-bit_at-greater_other d c a b i other = elim (max_cases (dilated d c a) (dilated d c b)) [
-  | inl (rest, same) ↦ ap (λ m. bit_at m i) same ∙ bit_at-other d c a i other
-  | inr (less, same) ↦ ap (λ m. bit_at m i) same ∙ bit_at-other d c b i other
-]
-
--- the code that is put together from them, coordinate by coordinate
-pub made_more : (d c first low code more i : ℕ) → more ≡ max (dilated d c first) (dilated d c low) →
-    (i % d < c → bit_at code i ≡ bit_at (max (dilated d (i % d) first) (dilated d (i % d) low)) i) → (c ≤ i % d → bit_at code i ≡ 0) → i % d < c + 1 →
-    bit_at (bit_or code more) i ≡ bit_at (max (dilated d (i % d) first) (dilated d (i % d) low)) i
-made_more d c first low code more i is made others below = elim (cases_eq (i % d) c) [
-  | inl own ↦
-      let here = ap (λ k. bit_at (max (dilated d k first) (dilated d k low)) i) own in
-      omega (arith, bit_at_or code more i, others (omega arith), ap (λ m. bit_at m i) is)
-  | inr apart ↦ omega (arith, bit_at_or code more i, made (omega arith), ap (λ m. bit_at m i) is, bit_at-greater_other d c first low i apart)
-]
-
-pub others_more : (d c first low code more i : ℕ) → more ≡ max (dilated d c first) (dilated d c low) → (c ≤ i % d → bit_at code i ≡ 0) → c + 1 ≤ i % d →
-    bit_at (bit_or code more) i ≡ 0
-others_more d c first low code more i is others above =
-    omega (arith, bit_at_or code more i, others (omega arith), ap (λ m. bit_at m i) is, bit_at-greater_other d c first low i (λ own. omega arith))
 
 -- where two codes agree above a place, so do their dilated coordinates
 pub agree_dilated : (d c a b i : ℕ) → a < 2 ^ 64 → b < 2 ^ 64 → bit_at a i ≡ bit_at b i → bit_at (dilated d c a) i ≡ bit_at (dilated d c b) i

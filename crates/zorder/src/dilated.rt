@@ -2,10 +2,10 @@
 ghost use Rattle.std.specs.Prelude.{◌≡◌, ℕ, ◌%◌, ◌<◌};
 ghost use Rattle.std.specs.Int.{bit_at};
 ghost use Rattle.zorder.specs.Codes.{IsDimension};
-ghost use Rattle.zorder.proofs.CallerLemmas.{DiffersAt};
-ghost use Rattle.bigmin.specs.Dilated.{dilated};
+ghost use Rattle.zorder.specs.Dilated.{dilated};
 
 /// Every `d`-th place, from the lowest on.
+#[inline(always)]
 fn places(d: u32) -> u64
     requires { IsDimension d }
     ensures ones { (i : ℕ) → i < 64 → i % d ≡ 0 → bit_at result i ≡ 1 }
@@ -20,18 +20,11 @@ fn places(d: u32) -> u64
 
 /// The dilated coordinate `c` of a code: the code without the bits of the other coordinates (Raman
 /// and Wise, 2008).
+#[inline(always)]
 pub fn dilated_coordinate(d: u32, c: u32, z: u64) -> u64
     requires dimension { IsDimension d }
     requires within { c < d }
     ensures { result ≡ dilated d c z }
 {
     z & (places(d) << c)
-}
-
-/// The highest place at which two numbers differ.
-pub fn highest_difference(lesser: u64, greater: u64) -> u32
-    requires { lesser < greater }
-    ensures { DiffersAt result lesser greater }
-{
-    (lesser ^ greater).ilog2()
 }

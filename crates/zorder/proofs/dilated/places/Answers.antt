@@ -1,7 +1,7 @@
 -- Each mask has its ones at every d-th place, as a test of its 64 places shows.
 use Rattle.std.proofs.Common.{◌≡◌, ℕ, ◌%◌, sym, ap, ◌∙◌, refl, arith}
-use Rattle.bigmin.proofs.PlaceMasks.{mask_one, mask_zero}
-use Rattle.bigmin.proofs.dilated.places.Goals as goal
+use Rattle.zorder.proofs.PlaceMasks.{mask_one, mask_zero}
+use Rattle.zorder.proofs.dilated.places.Goals as goal
 
 as_of : (d e i : ℕ) → d ≡ e → i % e ≡ i % d
 as_of d e i same = ap (λ n. i % n) (sym same)

@@ -1,0 +1,39 @@
+-- Between the corners' codes is inside, in each dimension.
+use Rattle.std.proofs.Common.{◌≡◌, slice_index, sym, arith}
+use Rattle.zorder.proofs.CallerLemmas.{corners-from_inside, inside-from_corners}
+use Rattle.boxes.proofs.walk.stretch_end.Goals as goal
+
+pub returns-in-2-clause-inside : goal.returns-in-2-clause-inside
+returns-in-2-clause-inside c =
+    λ j from to. inside-from_corners c.args.region.now c.requires.region c.args.corners.now c.requires.corners 2 (slice_index c.args.codes.now j) (sym c.in-2.is)
+    (c.type_inv.codes j).fits (c.between_until.ensures.between j from to)
+
+pub returns-in-2-clause-outside : goal.returns-in-2-clause-outside
+returns-in-2-clause-outside c =
+    λ within among. c.between_until.ensures.not within
+    (corners-from_inside c.args.region.now c.requires.region c.args.corners.now c.requires.corners 2 (slice_index c.args.codes.now c.between_until.result) (sym c.in-2.is)
+    (c.type_inv.codes c.between_until.result).fits among)
+
+pub returns-in-3-clause-inside : goal.returns-in-3-clause-inside
+returns-in-3-clause-inside c =
+    λ j from to. inside-from_corners c.args.region.now c.requires.region c.args.corners.now c.requires.corners 3 (slice_index c.args.codes.now j) (sym c.in-3.is)
+    (c.type_inv.codes j).fits (c.between_until-in-3.ensures.between j from to)
+
+pub returns-in-3-clause-outside : goal.returns-in-3-clause-outside
+returns-in-3-clause-outside c =
+    λ within among. c.between_until-in-3.ensures.not within
+    (corners-from_inside c.args.region.now c.requires.region c.args.corners.now c.requires.corners 3 (slice_index c.args.codes.now c.between_until-in-3.result) (sym c.in-3.is)
+    (c.type_inv.codes c.between_until-in-3.result).fits among)
+
+pub returns-in_default-clause-inside : goal.returns-in_default-clause-inside
+returns-in_default-clause-inside c =
+    let four : 4 ≡ c.args.region.now.d = omega (arith, c.requires.region.dimension) in
+    λ j from to. inside-from_corners c.args.region.now c.requires.region c.args.corners.now c.requires.corners 4 (slice_index c.args.codes.now j) four
+    (c.type_inv.codes j).fits (c.between_until-in_default.ensures.between j from to)
+
+pub returns-in_default-clause-outside : goal.returns-in_default-clause-outside
+returns-in_default-clause-outside c =
+    let four : 4 ≡ c.args.region.now.d = omega (arith, c.requires.region.dimension) in
+    λ within among. c.between_until-in_default.ensures.not within
+    (corners-from_inside c.args.region.now c.requires.region c.args.corners.now c.requires.corners 4 (slice_index c.args.codes.now c.between_until-in_default.result) four
+    (c.type_inv.codes c.between_until-in_default.result).fits among)
