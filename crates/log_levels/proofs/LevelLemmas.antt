@@ -1,10 +1,10 @@
 -- The keys of a level, and what it has at a key.
-use Rattle.std.proofs.Common.{◌≡◌, ℕ, ◌+◌, ◌<◌, ◌≤◌, List, length, slice_index_or, Option, Some, None, refl, sym, ap, ◌∙◌, subst, inl, inr, arith}
+use Rattle.std.proofs.Common.{◌≡◌, ℕ, ◌+◌, ◌<◌, ◌≤◌, List, length, slice_index_or, Option, Some, None, IsSome, is_some, All, true, if◌then◌else◌, refl, sym, ap, ◌∙◌, subst, inl, inr, arith}
 use Rattle.std.proofs.lemmas.List.{length-map, get_or-map, get_or_default}
 use Rattle.std.proofs.lemmas.Bool.{cases_lt, cases_eq, cases_order}
 use Rattle.std.specs.List.Sorted.{IsNonDecreasing}
 use Rattle.tombstones.specs.declared.entry.Entry.{Entry}
-use Rattle.tombstones.specs.Entries.{IsAscending, entry_at}
+use Rattle.tombstones.specs.Entries.{IsAscending, entry_at, kept}
 use Rattle.tombstones.proofs.CallerLemmas.{key-entry_at, Contains-entry_at, entry_at-Contains}
 use Rattle.window_search.specs.Searches.{lb}
 use Rattle.window_search.proofs.CallerLemmas.{IsLowerBound-lb, lb-is}
@@ -61,21 +61,22 @@ missing-past entries key ascending end = missing-at entries key ascending (λ in
 pub missing-here : (entries : List Entry) (key : ℕ) (e : Entry) → IsAscending entries → slice_index_or entries (lb (level_keys entries) key) e ≡ e → (e.key ≡ key → ⊥) → entry_at entries key ≡ None
 missing-here entries key e ascending is other = missing-at entries key ascending (λ inside same. other (sym (key-at entries (lb (level_keys entries) key) 0 e inside ∙ ap (λ (x : Entry). x.key) is) ∙ same))
 
--- the same for the list that is read
-pub read-found : (list entries : List Entry) (key place : ℕ) → list ≡ entries → IsAscending entries → place < length list → (slice_index_or list place no_entry).key ≡ key
+-- the same for the keys that are read
+pub read-found : (keys : List ℕ) (list entries : List Entry) (key place : ℕ) → keys ≡ level_keys entries → list ≡ entries → IsAscending entries → place < length keys → slice_index_or keys place 0 ≡ key
     → Some (slice_index_or list place no_entry) ≡ entry_at entries key
-read-found list entries key place same ascending inside here =
-    let e = slice_index_or list place no_entry in
-    let is : slice_index_or list place e ≡ e = get_or_default list place e no_entry inside in
-    sym (ap (λ l. entry_at l key) (sym same) ∙ found-at list key place e (subst IsAscending (sym same) ascending) inside is here)
+read-found keys list entries key place same_keys same ascending inside here =
+    let e = slice_index_or entries place no_entry in
+    let count = length-level_keys entries in
+    let size = ap (λ (l : List ℕ). length l) same_keys in
+    let fits : place < length entries = omega (arith, inside) in
+    let is : slice_index_or entries place e ≡ e = get_or_default entries place e no_entry fits in
+    let key_is : e.key ≡ key = sym (key-at entries place 0 no_entry fits) ∙ ap (λ (l : List ℕ). slice_index_or l place 0) (sym same_keys) ∙ here in
+    ap (λ (l : List Entry). Some (slice_index_or l place no_entry)) same ∙ sym (found-at entries key place e ascending fits is key_is)
 
-pub read-missing : (list entries : List Entry) (key place : ℕ) → list ≡ entries → IsAscending entries → place ≡ lb (level_keys entries) key → place < length list → ((slice_index_or list place no_entry).key ≡ key → ⊥)
+pub read-missing : (keys : List ℕ) (entries : List Entry) (key place : ℕ) → keys ≡ level_keys entries → IsAscending entries → place ≡ lb (level_keys entries) key → (slice_index_or keys place 0 ≡ key → ⊥)
     → None ≡ entry_at entries key
-read-missing list entries key place same ascending at inside other =
-    let e = slice_index_or list place no_entry in
-    let is : slice_index_or list place e ≡ e = get_or_default list place e no_entry inside in
-    let is' : slice_index_or entries (lb (level_keys entries) key) e ≡ e = sym (ap (λ l. slice_index_or l (lb (level_keys entries) key) e) same) ∙ sym (ap (λ k. slice_index_or list k e) at) ∙ is in
-    sym (missing-here entries key e ascending is' other)
+read-missing keys entries key place same ascending at other =
+    sym (missing-at entries key ascending (λ inside here. other (ap (λ (l : List ℕ). slice_index_or l place 0) same ∙ ap (λ k. slice_index_or (level_keys entries) k 0) at ∙ here)))
 
 -- from one place on the keys are at or above a bound, and before it below: a key between the bound and the first of them is missing
 pub missing-between : (entries : List Entry) (from j : ℕ) → IsAscending entries → from ≤ j
@@ -133,23 +134,21 @@ place-passed entries key ascending apart =
     let absent = missing-at entries key ascending apart in
     sym (place-stays entries key (key + 1) ascending (omega arith) (λ j from to. let same : key ≡ j = omega arith in ap (entry_at entries) (sym same) ∙ absent))
 
--- the entry at a bound's place isn't below the bound
-pub read-above : (list entries : List Entry) (from place : ℕ) → list ≡ entries → IsAscending entries → place ≡ lb (level_keys entries) from → place < length list → from ≤ (slice_index_or list place no_entry).key
-read-above list entries from place same ascending at inside =
+-- the key at a bound's place isn't below the bound
+pub read-above : (keys : List ℕ) (entries : List Entry) (from place : ℕ) → keys ≡ level_keys entries → IsAscending entries → place ≡ lb (level_keys entries) from → place < length keys → from ≤ slice_index_or keys place 0
+read-above keys entries from place same ascending at inside =
     let bound = IsLowerBound-lb (level_keys entries) from (keys-never_fall entries ascending) in
-    let size = ap (λ (l : List Entry). length l) same in
-    let key = key-at entries place 0 no_entry (omega arith) in
-    omega (arith, bound.from place (omega arith) (omega (arith, length-level_keys entries)), ap (λ (l : List Entry). (slice_index_or l place no_entry).key) same)
+    let size = ap (λ (l : List ℕ). length l) same in
+    omega (arith, bound.from place (omega arith) (omega arith), ap (λ (l : List ℕ). slice_index_or l place 0) same)
 
--- no key is between the bound and that entry's
-pub read-between : (list entries : List Entry) (from place j : ℕ) → list ≡ entries → IsAscending entries → place ≡ lb (level_keys entries) from → from ≤ j
-    → (place < length list → j < (slice_index_or list place no_entry).key) → entry_at entries j ≡ None
-read-between list entries from place j same ascending at le below =
-    let size = ap (λ (l : List Entry). length l) same in
+-- no key is between the bound and that key
+pub read-between : (keys : List ℕ) (entries : List Entry) (from place j : ℕ) → keys ≡ level_keys entries → IsAscending entries → place ≡ lb (level_keys entries) from → from ≤ j
+    → (place < length keys → j < slice_index_or keys place 0) → entry_at entries j ≡ None
+read-between keys entries from place j same ascending at le below =
+    let size = ap (λ (l : List ℕ). length l) same in
+    let count = length-level_keys entries in
     missing-between entries from j ascending le (λ inside.
-    let read = ap (λ (l : List Entry). (slice_index_or l place no_entry).key) same in
-    let key = key-at entries place 0 no_entry (omega arith) in
-    omega (arith, below (omega arith), ap (λ k. slice_index_or (level_keys entries) k 0) at))
+    omega (arith, below (omega arith), ap (λ (l : List ℕ). slice_index_or l place 0) same, ap (λ k. slice_index_or (level_keys entries) k 0) at))
 
 -- the place of the next key, by whether there is an entry with the key
 pub next-some : (entries : List Entry) (key : ℕ) (e : Entry) → IsAscending entries → entry_at entries key ≡ Some e → (lb (level_keys entries) key < length entries) × (lb (level_keys entries) (key + 1) ≡ lb (level_keys entries) key + 1)
@@ -163,3 +162,20 @@ next-some entries key e ascending found = elim (cases_lt (lb (level_keys entries
 
 pub next-none : (entries : List Entry) (key : ℕ) → IsAscending entries → entry_at entries key ≡ None → lb (level_keys entries) (key + 1) ≡ lb (level_keys entries) key
 next-none entries key ascending absent = sym (place-stays entries key (key + 1) ascending (omega arith) (λ j from to. let same : key ≡ j = omega arith in ap (entry_at entries) (sym same) ∙ absent))
+
+-- where no entry is a deletion, none is left out
+pub kept-value : (entry : Entry) → IsSome entry.value → Some entry ≡ kept true (Some entry)
+kept-value entry has = go entry.value has
+  where
+    go : (value : Option ℕ) → IsSome value → Some entry ≡ (if is_some value then Some entry else None)
+    go None has = cc
+    go (Some x) has = refl
+
+pub kept-values : (entries : List Entry) (key : ℕ) → All (λ entry. IsSome entry.value) entries → entry_at entries key ≡ kept true (entry_at entries key)
+kept-values entries key all = go (entry_at entries key) refl
+  where
+    go : (found : Option Entry) → entry_at entries key ≡ found → found ≡ kept true found
+    go None absent = refl
+    go (Some entry) found =
+        let (i, inside, at) = Contains-entry_at entries key entry found in
+        kept-value entry (subst (λ (e : Entry). IsSome e.value) at (all i entry inside))

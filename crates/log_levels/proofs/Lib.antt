@@ -5,6 +5,7 @@ pub mod LastLemmas
 pub mod PutLemmas
 pub mod ResultLemmas
 pub mod LevelLemmas
+pub mod FilterLemmas
 pub mod GrowthLemmas
 pub mod LengthLemmas
 pub mod UpdateLemmas

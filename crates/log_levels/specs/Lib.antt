@@ -5,3 +5,4 @@ pub use Rattle.tombstones.specs.Entries
 pub use Rattle.levels.specs.Indexes
 pub mod Kept
 pub mod Builders
+pub mod Filters

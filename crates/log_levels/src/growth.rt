@@ -3,7 +3,7 @@ ghost use Rattle.std.specs.Prelude.{◌≡◌, ◌≢◌, ◌+◌, ◌-◌, ◌*
 ghost use Rattle.std.specs.Prelude.{◌^◌};
 ghost use Rattle.std.specs.Prelude.{◌<◌, ◌≤◌, ◌==◌, ◌++◌, ℕ, List};
 ghost use Rattle.std.specs.Prelude.{false, length, take, drop, vec_len, slice_index_or};
-ghost use Rattle.std.specs.Prelude.{None, Some, IfOk, OnOk, OnErr};
+ghost use Rattle.std.specs.Prelude.{None, Some, IfOk, OnOk, OnErr, IsTrue, IsSome, All};
 ghost use Rattle.std.specs.Option.{option_map};
 ghost use Rattle.std.specs.Int.{bit_at};
 ghost use Rattle.std.specs.Arc.{arc_value};
@@ -241,11 +241,20 @@ fn kept_of<B: Builder>(
     ensures keeps { IfOk result (λ level. (key : ℕ) →
         entry_at level.items key ≡ kept deepest (entry_at entries.items key)) }
 {
-    if deepest {
-        builder.merge(&entries, &[], true)
-    } else {
-        Ok(entries)
+    if !deepest {
+        return Ok(entries);
     }
+    if have_values(&entries) {
+        return Ok(entries);
+    }
+    builder.merge(&entries, &[], true)
+}
+
+/// Whether no entry is a deletion.
+fn have_values(entries: &[Entry]) -> bool
+    ensures { IsTrue result → All (λ entry. IsSome entry.value) entries.now }
+{
+    entries.iter().all(|entry| entry.value.is_some())
 }
 
 /// A level of entries, to be shared.

@@ -5,10 +5,12 @@ ghost use Rattle.std.specs.Option.{option_copied};
 ghost use Rattle.levels.specs.Indexes.{IsIndex};
 ghost use Rattle.tombstones.specs.Entries.{IsAscending, entry_at};
 ghost use Rattle.log_levels.specs.Kept.{IsBelow};
+ghost use Rattle.log_levels.specs.Filters.{hash_of};
 ghost use Rattle.window_search.specs.Searches.{lb};
 ghost use Rattle.log_levels.specs.Shapes.{level_keys};
 
 use crate::builder::Builder;
+use crate::filter::Filter;
 use budget::NoMemory;
 use levels::{Index, Keys};
 use std::alloc::Global;
@@ -20,12 +22,13 @@ pub const EPS: u32 = 64;
 
 pub const EPS_REC: u32 = 4;
 
-/// The entries of a level, by rising key, with the index of their keys. Seen as the entries. It is
-/// never changed.
+/// The entries of a level, by rising key, with the index of their keys and a filter of them. Seen
+/// as the entries. It is never changed.
 #[derive(Drop)]
 pub struct Level {
     entries: Vec<Entry>,
     index: Index,
+    filter: Filter,
 }
 
 impl Model for Level {
@@ -38,7 +41,10 @@ impl Model for Level {
 
     ghost view = { λ level. level.entries.items };
 
-    ghost invariant = { λ level. IsIndexed level.entries.items level.index };
+    ghost use Rattle.log_levels.specs.Filters.{ArePassed};
+
+    ghost invariant = { λ level. IsIndexed level.entries.items level.index ×
+        ArePassed level.filter level.entries.items };
 }
 
 impl Level {
@@ -55,7 +61,12 @@ impl Level {
     {
         let keys = keys_of(alloc, &entries)?;
         let index = builder.index(keys)?;
-        Ok(Level { entries, index })
+        let filter = Filter::of(alloc, &entries)?;
+        Ok(Level {
+            entries,
+            index,
+            filter,
+        })
     }
 
     /// The entries.
@@ -65,6 +76,16 @@ impl Level {
         ensures few { length self.now < 2 ^ 32 }
     {
         &self.entries
+    }
+
+    /// Their keys, as the index has them: a search has just read there, and not in the entries.
+    #[inline]
+    fn keys(&self) -> &[u64]
+        ensures keys { result.now ≡ level_keys self.now }
+        ensures ascending { IsAscending self.now }
+    {
+        let _ = &self.entries;
+        self.index.keys().file()
     }
 
     /// How many keys are below `q`: the place of the first entry whose key is not.
@@ -77,11 +98,15 @@ impl Level {
         self.index.position(q) as usize
     }
 
-    /// The entry with a key, if there is one.
+    /// The entry with a key, of which this is the hash, if there is one.
     #[inline]
-    pub fn entry(&self, key: u64) -> Option<&Entry>
+    pub fn entry(&self, key: u64, hash: u64) -> Option<&Entry>
+        requires { hash ≡ hash_of key }
         ensures { option_copied result ≡ entry_at self.now key }
     {
+        if !self.filter.passes(hash) {
+            return None;
+        }
         self.entry_from(self.place(key), key)
     }
 
@@ -91,15 +116,15 @@ impl Level {
         requires { place ≡ lb (level_keys self.now) key }
         ensures { option_copied result ≡ entry_at self.now key }
     {
+        let keys = self.keys();
+        if place >= keys.len() {
+            return None;
+        }
+        if keys[place] != key {
+            return None;
+        }
         let entries = self.entries();
-        if place >= entries.len() {
-            return None;
-        }
-        let entry = &entries[place];
-        if entry.key != key {
-            return None;
-        }
-        Some(entry)
+        Some(&entries[place])
     }
 
     /// The least key from `from` on, which is at this place, if there is one.
@@ -110,11 +135,11 @@ impl Level {
         ensures least { (key : ℕ) → from ≤ key → IsBelow key result →
             entry_at self.now key ≡ None }
     {
-        let entries = self.entries();
-        if place >= entries.len() {
+        let keys = self.keys();
+        if place >= keys.len() {
             return None;
         }
-        Some(entries[place].key)
+        Some(keys[place])
     }
 
     /// The place of the next key, by that of a key.

@@ -15,6 +15,7 @@
 mod apply;
 mod builder;
 mod fault;
+mod filter;
 mod growth;
 mod latest;
 mod level;

@@ -9,6 +9,7 @@ ghost use Rattle.log_levels.specs.Maps.{map_after, value_at, next_from, count_be
 ghost use Rattle.log_levels.specs.Shapes.{IsCutOf, StandsFor, last_at};
 ghost use Rattle.log_levels.specs.Kept.{value_of};
 
+use crate::filter::hash;
 use crate::log_map::LogMap;
 use tombstones::Entry;
 
@@ -71,9 +72,10 @@ impl LogMap {
         ensures { (entries : List Entry) → IsCutOf self.now entries →
             result ≡ value_of (last_at entries key) }
     {
+        let hash = hash(key);
         for i in 0..self.level_count() {
             if let Some(level) = self.level(i) {
-                if let Some(entry) = level.entry(key) {
+                if let Some(entry) = level.entry(key, hash) {
                     return entry.value;
                 }
             }

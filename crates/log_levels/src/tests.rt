@@ -1,5 +1,6 @@
 ghost use Rattle.std.specs.Prelude.{◌≡◌, ◌<◌, ◌≤◌, ◌^◌, length};
 
+use super::filter::{Filter, hash};
 use super::*;
 use edge::{Gate, OpenGate, Place};
 use std::alloc::{AllocError, Global};
@@ -37,6 +38,54 @@ fn full_at_the_capacity(rt: HostRuntime) -> Result<(), Fail> {
     assert_eq!(rt; map.buffered(), 63);
     assert_eq!(rt; map.get(1), Some(1));
     assert_eq!(rt; map.count(0, u64::MAX), 1);
+    Ok(())
+}
+
+// A program in another language counts as many odd numbers that pass.
+#[test]
+fn few_pass_a_filter_falsely(rt: HostRuntime) -> Result<(), Fail> {
+    let mut entries = Vec::new(rt.alloc());
+    for key in 0..4096 {
+        let value = Some(key);
+        entries.push(Entry {
+            key: 2 * key,
+            value,
+        })?;
+    }
+    assert!(rt; entries.len() < 5000);
+    let filter = Filter::of(rt.alloc(), &entries)?;
+    let mut passed = 0u64;
+    for key in 0..4096 {
+        assert!(rt; filter.passes(hash(2 * key)));
+        if filter.passes(hash(2 * key + 1)) {
+            passed = passed.wrapping_add(1);
+        }
+    }
+    assert_eq!(rt; passed, 23);
+    Ok(())
+}
+
+// The even numbers stand in one level, where 23 odd ones pass its filter, and deletions of every
+// 64th of them in another above.
+#[test]
+fn keys_that_are_denied_or_deleted(rt: HostRuntime) -> Result<(), Fail> {
+    let mut map = LogMap::new(rt.alloc(), 10)?;
+    for key in 0..4096 {
+        let put = map.put(rt.alloc(), 2 * key, key);
+        assert_eq!(rt; put, Ok(()));
+    }
+    for i in 0..64 {
+        let del = map.del(rt.alloc(), 128 * i);
+        assert_eq!(rt; del, Ok(()));
+    }
+    assert_eq!(rt; map.accepted(), 4160);
+    assert_eq!(rt; map.buffered(), 0);
+    for key in 0..4096 {
+        let value = if key % 64 == 0 { None } else { Some(key) };
+        assert_eq!(rt; map.get(2 * key), value);
+        assert_eq!(rt; map.get(2 * key + 1), None);
+    }
+    assert_eq!(rt; map.count(0, 8191), 4032);
     Ok(())
 }
 

@@ -1,21 +1,17 @@
-use Rattle.std.proofs.Common.{◌<◌, List, length, sym, ap, arith}
-use Rattle.tombstones.specs.declared.entry.Entry.{Entry}
-use Rattle.log_levels.proofs.LevelLemmas.{missing-past, read-found, read-missing}
+use Rattle.std.proofs.Common.{ℕ, ◌<◌, List, length, sym, ap, arith}
+use Rattle.log_levels.proofs.LevelLemmas.{length-level_keys, missing-past, read-found, read-missing}
 use Rattle.log_levels.proofs.level.Level.entry_from.Goals as goal
 
-pub returns-then-place-entries : goal.returns-then-place-entries
-returns-then-place-entries c =
-    let end = ap (λ (list : List Entry). length list) c.entries-entries.ensures.entries in
-    sym (missing-past c.args.self.now c.args.key c.entries-entries.ensures.ascending (omega (arith, c.if-place-entries.true, c.requires)))
+pub returns-then-place-keys : goal.returns-then-place-keys
+returns-then-place-keys c =
+    let end = ap (λ (list : List ℕ). length list) c.keys-keys.ensures.keys in
+    sym (missing-past c.args.self.now c.args.key c.keys-keys.ensures.ascending (omega (arith, c.if-place-keys.true, c.requires, length-level_keys c.args.self.now)))
 
-pub returns-then-entry-key : goal.returns-then-entry-key
-returns-then-entry-key c =
-    let end = ap (λ (list : List Entry). length list) c.entries-entries.ensures.entries in
-    let inside : c.args.place < length c.entries-entries.result.now = omega (arith, c.if-place-entries.false) in
-    read-missing c.entries-entries.result.now c.args.self.now c.args.key c.args.place c.entries-entries.ensures.entries c.entries-entries.ensures.ascending c.requires inside c.if-entry-key.true
+pub returns-then-keys-place : goal.returns-then-keys-place
+returns-then-keys-place c =
+    read-missing c.keys-keys.result.now c.args.self.now c.args.key c.args.place c.keys-keys.ensures.keys c.keys-keys.ensures.ascending c.requires c.if-keys-place.true
 
 pub returns : goal.returns
 returns c =
-    let end = ap (λ (list : List Entry). length list) c.entries-entries.ensures.entries in
-    let inside : c.args.place < length c.entries-entries.result.now = omega (arith, c.if-place-entries.false) in
-    read-found c.entries-entries.result.now c.args.self.now c.args.key c.args.place c.entries-entries.ensures.entries c.entries-entries.ensures.ascending inside c.if-entry-key.false
+    let inside : c.args.place < length c.keys-keys.result.now = omega (arith, c.if-place-keys.false) in
+    read-found c.keys-keys.result.now c.entries-entries.result.now c.args.self.now c.args.key c.args.place c.keys-keys.ensures.keys c.entries-entries.ensures.entries c.keys-keys.ensures.ascending inside c.if-keys-place.false

@@ -1,0 +1,107 @@
+// What a level can deny without a search.
+ghost use Rattle.std.specs.Prelude.{◌≡◌, ℕ, ◌+◌, ◌*◌, ◌<◌, ◌≤◌, ◌^◌, ◌↔◌};
+ghost use Rattle.std.specs.Prelude.{length, IfOk, IsTrue};
+ghost use Rattle.log_levels.specs.Filters.{hash_of, slot_of, bits_of, Passes, ArePassed};
+
+use budget::NoMemory;
+use std::alloc::Global;
+use std::marker::Model;
+use tombstones::Entry;
+
+/// `2^64` by the golden ratio.
+const FACTOR: u64 = 0x9E37_79B9_7F4A_7C15;
+
+/// One more than the greatest word.
+const WORDS: u128 = 1 << 64;
+
+/// A filter of keys: a few bits of one word for each key, set. Seen as the words.
+///
+/// It denies no key that it was made of. Of others some five in a thousand pass, where the keys are
+/// scattered: there is a word of 64 bits for each four keys, and each key sets four. A question
+/// looks at one word.
+///
+/// Sources: Bloom, CACM 13(7), 1970; Putze, Sanders and Singler, Cache-, hash- and space-efficient
+/// Bloom filters, WEA 2007.
+#[derive(Drop)]
+pub struct Filter {
+    words: Vec<u64>,
+}
+
+impl Model for Filter {
+    ghost use Rattle.std.specs.Prelude.{List, ℕ, ◌<◌, ◌≤◌, ◌^◌, length};
+
+    ghost Value = { List ℕ };
+
+    ghost view = { λ filter. filter.words.items };
+
+    ghost invariant = { λ filter.
+        (0 < length filter.words.items) × (length filter.words.items ≤ 2 ^ 32) };
+}
+
+impl Filter {
+    /// The filter of the entries' keys.
+    pub fn of(alloc: Global, entries: &[Entry]) -> Result<Filter, NoMemory>
+        requires { length entries.now < 2 ^ 32 }
+        ensures { IfOk result (λ filter. ArePassed filter entries.now) }
+    {
+        let mut words = vec![in alloc; 0; entries.len() / 4 + 1]?;
+        for entry in entries {
+            set(&mut words, hash(entry.key));
+        }
+        Ok(Filter { words })
+    }
+
+    /// Whether a key with this hash may be among those that the filter was made of.
+    #[inline(always)]
+    pub fn passes(&self, hash: u64) -> bool
+        ensures { IsTrue result ↔ Passes self.now hash }
+    {
+        let words = self.words.as_slice();
+        let bits = bits(hash);
+        words[slot(hash, words.len())] & bits == bits
+    }
+}
+
+/// The hash of a key.
+#[inline(always)]
+pub fn hash(key: u64) -> u64
+    ensures { result ≡ hash_of key }
+{
+    let product = u128::from(key) * u128::from(FACTOR);
+    (product % WORDS) as u64 ^ (product / WORDS) as u64
+}
+
+/// Sets the bits of a hash.
+#[inline(always)]
+fn set(words: &mut Vec<u64>, hash: u64)
+    requires some { 0 < length words.old.items }
+    requires few { length words.old.items ≤ 2 ^ 32 }
+    ensures len { length words.new.items ≡ length words.old.items }
+    ensures passes { Passes words.new.items hash }
+    ensures others { (other : ℕ) → Passes words.old.items other → Passes words.new.items other }
+{
+    let slot = slot(hash, words.len());
+    words[slot] |= bits(hash);
+}
+
+/// Which of the words has the bits of a hash.
+#[tactic(auto, unfolding(crate::specs::Filters::slot_of))]
+#[inline(always)]
+fn slot(hash: u64, count: usize) -> usize
+    requires some { 0 < count }
+    requires few { count ≤ 2 ^ 32 }
+    ensures slot { result ≡ slot_of hash count }
+    ensures inside { result < count }
+{
+    ((hash >> 32) * count as u64 >> 32) as usize
+}
+
+/// The bits of a hash.
+#[tactic(auto, unfolding(crate::specs::Filters::bits_of))]
+#[inline(always)]
+fn bits(hash: u64) -> u64
+    ensures { result ≡ bits_of hash }
+{
+    let low = 1 << (hash % 64) | 1 << (hash / 64 % 64);
+    low | (1 << (hash / 4096 % 64) | 1 << (hash / 262_144 % 64))
+}
