@@ -54,6 +54,14 @@ impl MemShelf {
             taken: None,
         }
     }
+
+    /// How many calls of `take_file` and `read` were made, those that failed among them. It stays
+    /// at its last value. Takes no memory.
+    pub fn calls(&self) -> u64
+        ensures { result ≡ (device_of self.now).calls }
+    {
+        self.calls
+    }
 }
 
 impl Shelf for MemShelf {

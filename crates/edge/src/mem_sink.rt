@@ -55,6 +55,14 @@ impl MemSink {
     {
         &self.bytes
     }
+
+    /// How many calls of `put` were made, those that failed and those of an empty piece among them.
+    /// It stays at its last value. Takes no memory.
+    pub fn calls(&self) -> u64
+        ensures { result ≡ (memory_of self.now).device.calls }
+    {
+        self.calls
+    }
 }
 
 impl Sink for MemSink {

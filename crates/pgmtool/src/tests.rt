@@ -8,6 +8,7 @@ use std::test::Fail;
 use std::thread::Threads;
 
 mod build;
+mod damage;
 mod drill;
 mod explain;
 mod query;
