@@ -261,7 +261,8 @@ fn write_ends<S: Sink, A: Asked>(
 
 // How many keys there are, from the least key to the greatest.
 fn live_in<A: Asked>(asked: &A) -> u64
-    ensures { (pairs : List (ℕ × ℕ)) → A.answers_by asked.now pairs → result ≡ live_in pairs }
+    ensures { (pairs : List (ℕ × ℕ)) → A.answers_by asked.now pairs →
+        result ≡ live_in pairs }
 {
     match asked.answer(Question::Count(0, u64::MAX)) {
         Answer::Number(count) => count,

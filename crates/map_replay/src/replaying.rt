@@ -62,11 +62,11 @@ impl Model for Replayed {
 
 /// Publishes all updates in batches, beside readers that go once through the questions.
 ///
-/// The writer is the calling thread. For each batch it stages it, publishes it, leaves each reader a
-/// note, and passes the gate at `Published`. A reader passes the gate at `Look` before each question,
-/// learns its newest note if there is one, and looks once; where its door refuses, it looks again. A
-/// reader for which no thread can be had goes through its questions before the first batch. At the
-/// end each reader learns a last note and looks once more, until it sees all.
+/// The writer is the calling thread. It stages each batch, publishes it, leaves each reader a note,
+/// and passes the gate at `Published`. A reader passes the gate at `Look` before each question,
+/// learns its newest note if there is one, and looks once; where its door refuses, it looks again.
+/// A reader for which no thread can be had goes through its questions before the first batch. At
+/// the end each reader learns a last note and looks once more, until it sees all.
 ///
 /// All room for the readers is taken before the first of them starts, and no reader takes memory.
 ///

@@ -182,7 +182,8 @@ fn join_all<'a, M: MapName, R: Threads>(
 
 /// Waits until a reader is done.
 fn joined<'a, M: MapName, R: Threads>(rt: &R, started: Started<'a, M>) -> Watched<M>
-    ensures { (questions : List Question) → IsOf questions started.entry → HasAsked questions result }
+    ensures { (questions : List Question) → IsOf questions started.entry →
+        HasAsked questions result }
 {
     match started {
         Started::Running(handle) => handle.join(rt),

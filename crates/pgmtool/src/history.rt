@@ -30,8 +30,8 @@ pub fn history_in(
     replaying: Replaying<'_>,
     lines: &[ScriptLine],
 ) -> Result<History, Stopped>
-    ensures { (faults : ℕ) → Answers (reads_history (replayed_of replaying.entry) lines.now) replay_of
-        faults faults result }
+    ensures { (faults : ℕ) → Answers (reads_history (replayed_of replaying.entry) lines.now)
+        replay_of faults faults result }
 {
     let updates = updates_in(alloc, lines)?;
     let questions = map_questions_in(alloc, lines)?;

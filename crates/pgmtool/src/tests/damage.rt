@@ -213,7 +213,7 @@ struct Seen {
     puts: u64,
 }
 
-fn observed<R: AllocGlobal + Threads + Sync>(
+fn observed<R: AllocGlobal + Threads + Wait + Sync>(
     rt: &R,
     row: &Row<'_>,
     reading: Device,
@@ -256,7 +256,7 @@ fn expect<R: AllocGlobal + Abort>(
 }
 
 // The shelf's calls fail in turn: each leaves one fault line, until a run makes fewer calls.
-fn check_reads<R: AllocGlobal + Abort + Threads + Sync>(
+fn check_reads<R: AllocGlobal + Abort + Threads + Wait + Sync>(
     rt: &R,
     row: &Row<'_>,
     device: Device,
@@ -307,7 +307,7 @@ fn front_of<R: AllocGlobal>(rt: &R, text: &str, calls: u64, most: usize) -> Resu
 
 // The sink's calls fail in turn: each leaves what the calls before it took, until they took all. A
 // text then ends as a fault of writing, and the fault line of a refusal leaves its status.
-fn check_puts<R: AllocGlobal + Abort + Threads + Sync>(
+fn check_puts<R: AllocGlobal + Abort + Threads + Wait + Sync>(
     rt: &R,
     row: &Row<'_>,
     device: Device,
@@ -332,7 +332,10 @@ fn check_puts<R: AllocGlobal + Abort + Threads + Sync>(
 }
 
 // Each call refused in turn, of devices that move much at a time and of such that move a byte.
-fn check_calls<R: AllocGlobal + Abort + Threads + Sync>(rt: &R, row: &Row<'_>) -> Result<(), Fail> {
+fn check_calls<R: AllocGlobal + Abort + Threads + Wait + Sync>(
+    rt: &R,
+    row: &Row<'_>,
+) -> Result<(), Fail> {
     for device in [WHOLE, ONE_BYTE] {
         check_reads(rt, row, device)?;
         check_puts(rt, row, device)?;
