@@ -52,11 +52,13 @@ query_rules = build_rules ++ positional (codes "SCRIPT") ∷ flag (codes "window
 abbrev pub box_rules : List Rule
 box_rules = positional (codes "FILE") ∷ positional (codes "SCRIPT") ∷ number (codes "dims") 2 4 (codes "2") ∷ []
 
--- a script of updates and questions, how the map is kept that they are made to and asked of, and how many readers ask beside the writer
+-- a script of updates and questions, how many levels the map has that they are made to and asked of, and how many updates a batch has
+abbrev pub batch_rules : List Rule
+batch_rules = positional (codes "SCRIPT") ∷ number (codes "levels") 1 26 (codes "20") ∷ number (codes "batch") 1 65536 (codes "16") ∷ []
+
+-- and how many readers ask beside the writer
 abbrev pub replay_rules : List Rule
-replay_rules = positional (codes "SCRIPT") ∷ number (codes "levels") 1 26 (codes "20")
-    ∷ number (codes "batch") 1 65536 (codes "16") ∷ number (codes "readers") 0 16 (codes "0")
-    ∷ number (codes "workers") 1 64 (codes "4") ∷ []
+replay_rules = batch_rules ++ number (codes "readers") 0 16 (codes "0") ∷ number (codes "workers") 1 64 (codes "4") ∷ []
 
 -- how many inputs are drawn of each kind, and a seed
 abbrev pub drawn_rules : List Rule

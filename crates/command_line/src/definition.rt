@@ -5,7 +5,8 @@ ghost use Rattle.clap.specs.declared.builder.command.Command.TheViews.{out-Comma
 ghost use Rattle.command_line.specs.Application.{application, build_rules, index_rules};
 ghost use Rattle.command_line.specs.Application.{query_rules, box_rules, replay_rules, command};
 ghost use Rattle.command_line.specs.Application.{flag, number, positional};
-ghost use Rattle.command_line.specs.Application.{bare_program, drawn_rules, drill_rules};
+ghost use Rattle.command_line.specs.Application.{bare_program, batch_rules};
+ghost use Rattle.command_line.specs.Application.{drawn_rules, drill_rules};
 ghost use Rattle.command_line.specs.Application.{positional_number, ranged};
 ghost use Rattle.exact_cross.specs.declared.TheConstants.{MAX_EPSILON};
 
@@ -101,12 +102,21 @@ fn replay_command<'a>(alloc: Global) -> Result<Command<'a>, AllocError>
         (λ made. app_of made ≡ record { top = command (codes "replay") replay_rules; subs = [] }) }
     ensures local { IfOk result (λ made. (out-Command made).has_globals ≡ false) }
 {
+    batch_command(alloc)?
+        .arg(number(alloc, "readers", 0, MOST_READERS, "0"))?
+        .arg(workers(alloc))
+}
+
+// The same without readers and workers.
+fn batch_command<'a>(alloc: Global) -> Result<Command<'a>, AllocError>
+    ensures shape { IfOk result
+        (λ made. app_of made ≡ record { top = command (codes "replay") batch_rules; subs = [] }) }
+    ensures local { IfOk result (λ made. (out-Command made).has_globals ≡ false) }
+{
     Command::new(alloc, "replay")
         .arg(positional(alloc, "SCRIPT"))?
         .arg(number(alloc, "levels", 1, 26, "20"))?
-        .arg(number(alloc, "batch", 1, 65_536, "16"))?
-        .arg(number(alloc, "readers", 0, MOST_READERS, "0"))?
-        .arg(workers(alloc))
+        .arg(number(alloc, "batch", 1, 65_536, "16"))
 }
 
 fn drill_command<'a>(alloc: Global) -> Result<Command<'a>, AllocError>

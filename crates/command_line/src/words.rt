@@ -143,8 +143,8 @@ fn replaying_in<'a>(found: &ArgMatches<'a>) -> Replaying<'a>
         script: name_in(found, "SCRIPT"),
         levels: number_in(found, "levels", 20),
         batch: number_in(found, "batch", 16),
-        readers: number_in(found, "readers", 0),
-        workers: number_in(found, "workers", 4),
+        readers: readers_in(found),
+        workers: workers_in(found),
     }
 }
 
@@ -177,6 +177,15 @@ fn eps_rec_in(found: &ArgMatches<'_>) -> u32
     ensures bounded { result ≤ MAX_EPSILON }
 {
     number_in(found, "rec", 4)
+}
+
+// How many readers ask beside the writer.
+fn readers_in(found: &ArgMatches<'_>) -> u32
+    requires { IsNumberIn 0 16 (codes "readers") (rows_of (found_of found.now)) }
+    ensures value { result ≡ number_in (codes "readers") 0 (rows_of (found_of found.now)) }
+    ensures few { result ≤ 16 }
+{
+    number_in(found, "readers", 0)
 }
 
 // How many workers build an index.
