@@ -264,6 +264,7 @@ fn readers_and_batches_of_every_size(rt: HostRuntime) -> Result<(), Fail> {
         ("65536", "16", 300, 5),
         ("3", "1", 0, 4),
         ("16", "16", 100, 0),
+        ("16", "0", 100, 3),
     ];
     for (batch, readers, count, asked) in rows {
         let script = counting(&rt, count, asked)?;
