@@ -58,7 +58,7 @@ last_begins count n i piece there is =
     let within : i < length (range_with_len 0 n) = omega (arith, length-range_with_len 0 n, there) in
     let here : get_or (range_with_len 0 n) i 0 ≡ i = omega (arith, get_or-range_with_len 0 n i 0 there) in
     ap (map (last_line count)) (drop-cons (range_with_len 0 n) i 0 within
-        ∙ ap (λ (k : ℕ). get_or (range_with_len 0 n) i 0 ∷ drop k (range_with_len 0 n)) (sym (add-one i)))
+    ∙ ap (λ (k : ℕ). get_or (range_with_len 0 n) i 0 ∷ drop k (range_with_len 0 n)) (sym (add-one i)))
     ∙ (ap (λ (k : ℕ). last_line count k ∷ map (last_line count) (drop (i + 1) (range_with_len 0 n))) here
     ∙ ap (λ (line : List ℕ). line ∷ map (last_line count) (drop (i + 1) (range_with_len 0 n))) (sym is))
 

@@ -29,10 +29,10 @@ mod task;
 
 pub use drill::one_drill;
 use edge::{Gate, Sink};
+pub use map_replay::Question;
 use std::alloc::Global;
 use std::sync::Wait;
 use std::thread::Threads;
-pub use map_replay::Question;
 pub use task::{Bounds, Drill, History, Search, SortedKeys, Table, Task, Workers};
 use written::Unfinished;
 

@@ -59,7 +59,7 @@ prefix_published size (h ∷ g ∷ history) (s ∷ shown) (b ∷ prefix) batches
     let long : length h ≡ length s = ap (λ (l : List Update). length l) heads in
     let long_b : length b ≡ length s = ap (λ (l : List Update). length l) first in
     let later = prefix_published size (g ∷ history) shown prefix batches.1 (begins.0, cc (begins.1))
-        (omega (arith, same, long, count_of-cons h (g ∷ history), count_of-cons s shown)) (starts.0, cc (starts.1)) in
+    (omega (arith, same, long, count_of-cons h (g ∷ history), count_of-cons s shown)) (starts.0, cc (starts.1)) in
     subst (λ (n : ℕ). IsPublished size n (count_of (b ∷ prefix))) (sym (count_of-cons h (g ∷ history)))
     (subst (λ (n : ℕ). IsPublished size (length h + count_of (g ∷ history)) n) (omega (arith, long, long_b, count_of-cons b prefix))
     (published_more size (length h) (count_of (g ∷ history)) (count_of prefix) later batches.0))
@@ -109,8 +109,8 @@ module _ (updates : List Update) (size : ℕ) (history shown : List (List Update
       sighting.answer ≡ answer_of (map_after (take sighting.length updates)) question
   one_answer question sighting (prefix, starts, length_is, answer_is) =
       let first : take sighting.length updates ≡ updates_of prefix =
-          ap (λ (n : ℕ). take n updates) length_is
-          ∙ ap (λ (l : List Update). take (count_of prefix) l) (sym (same_updates history shown begins same ∙ all)) ∙ prefix_first prefix shown starts in
+      ap (λ (n : ℕ). take n updates) length_is
+      ∙ ap (λ (l : List Update). take (count_of prefix) l) (sym (same_updates history shown begins same ∙ all)) ∙ prefix_first prefix shown starts in
       answer_is ∙ ap (λ (l : List Update). answer_of (map_after l) question) (sym first)
 
   all_published : (questions : List Question) (sightings : List Sighting) → AreSeen shown questions sightings → All Published sightings

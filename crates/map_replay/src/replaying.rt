@@ -55,8 +55,8 @@ impl Model for Replayed {
     ghost Value = { Left };
 
     ghost view = { λ r. record {
-        updates = updates_of r.look.batches;
-        readings = r.readings.items;
+      updates = updates_of r.look.batches;
+      readings = r.readings.items;
     } };
 }
 
@@ -93,7 +93,9 @@ pub fn replay<R: Threads + Wait + Sync, G: Gate>(
         size: plan.batch,
         workers: plan.workers,
     };
-    replay_in::<Brand, R, G>(rt, alloc, writer, readers, updates, questions, batching, gate)
+    replay_in::<Brand, R, G>(
+        rt, alloc, writer, readers, updates, questions, batching, gate,
+    )
 }
 
 impl Replayed {
@@ -151,7 +153,14 @@ fn replay_in<M: MapName + Send + Sync, R: Threads + Wait + Sync, G: Gate>(
 {
     let mut writer = writer;
     match ended::<M, R, G>(
-        rt, alloc, &mut writer, readers, updates, questions, batching, gate,
+        rt,
+        alloc,
+        &mut writer,
+        readers,
+        updates,
+        questions,
+        batching,
+        gate,
     ) {
         Ok(Ended { look, readings }) => Ok(Replayed {
             writer,

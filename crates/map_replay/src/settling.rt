@@ -36,13 +36,17 @@ pub fn settled<M: MapName, R: Wait>(
         unreachable!()
     };
     let Watched {
-        reader, sightings, ..
+        reader,
+        sightings,
+        ..
     } = first;
     let look = last_look(rt, reader, writer.tell());
     push_reading(&mut readings, sightings, look.seen());
     while let Some(one) = watched.pop() {
         let Watched {
-            reader, sightings, ..
+            reader,
+            sightings,
+            ..
         } = one;
         let other = last_look(rt, reader, writer.tell());
         push_reading(&mut readings, sightings, other.seen());

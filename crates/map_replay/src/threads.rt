@@ -91,13 +91,7 @@ fn push_within_capacity(sightings: &mut Vec<Sighting>, sighting: Sighting)
 }
 
 /// Starts a reader in a thread of the scope, or lets it go through its questions here.
-fn start<
-    's,
-    E,
-    M: MapName + Send + Sync + 's,
-    R: Threads + Wait + Sync + 's,
-    G: Gate + 's,
->(
+fn start<'s, E, M: MapName + Send + Sync + 's, R: Threads + Wait + Sync + 's, G: Gate + 's>(
     scope: &Scope<'s, E>,
     rt: &'s R,
     seat: Seat<M>,
@@ -120,13 +114,7 @@ fn start<
 }
 
 /// Starts all readers, the last seat first.
-fn start_all<
-    's,
-    E,
-    M: MapName + Send + Sync + 's,
-    R: Threads + Wait + Sync + 's,
-    G: Gate + 's,
->(
+fn start_all<'s, E, M: MapName + Send + Sync + 's, R: Threads + Wait + Sync + 's, G: Gate + 's>(
     scope: &Scope<'s, E>,
     rt: &'s R,
     seats: Vec<Seat<M>>,
@@ -244,13 +232,7 @@ pub fn read_beside<M: MapName + Send + Sync, R: Threads + Wait + Sync, G: Gate>(
 }
 
 /// The same in a scope for the readers' threads.
-fn beside_in<
-    's,
-    E,
-    M: MapName + Send + Sync + 's,
-    R: Threads + Wait + Sync + 's,
-    G: Gate + 's,
->(
+fn beside_in<'s, E, M: MapName + Send + Sync + 's, R: Threads + Wait + Sync + 's, G: Gate + 's>(
     scope: &Scope<'s, E>,
     rt: &'s R,
     alloc: Global,

@@ -48,7 +48,14 @@ pub fn publish_all<M: MapName + Send + Sync, R: Threads + Wait + Sync, G: Gate>(
     for number in 0..updates.len().div_ceil(size) {
         let from = number * size;
         let to = updates.len().min(from + size);
-        publish_batch(rt, alloc, writer, &updates[from..to], batching.workers, gate)?;
+        publish_batch(
+            rt,
+            alloc,
+            writer,
+            &updates[from..to],
+            batching.workers,
+            gate,
+        )?;
         tell_all(rt, writer, slots);
         gate.at(Place::Published(number as u64 + 1));
     }

@@ -126,7 +126,11 @@ fn told(line: &str) -> Option<(u64, u64, u64)> {
         return None;
     }
     let value = words.next()?;
-    let value = if value == "none" { 0 } else { number(Some(value))? };
+    let value = if value == "none" {
+        0
+    } else {
+        number(Some(value))?
+    };
     if words.next().is_some() {
         return None;
     }
@@ -171,7 +175,10 @@ fn judge<R: AllocGlobal + Abort>(
     }
     for reader in 0..readers {
         let last = format!(in rt.alloc(); "reader {reader} last {count}")?;
-        assert_eq!(rt; lines.get(at).map(|line| line.as_str()), Some(last.as_str()));
+        assert_eq!(rt;
+            lines.get(at).map(|line| line.as_str()),
+            Some(last.as_str())
+        );
         at = at.saturating_add(1);
     }
     Ok(())

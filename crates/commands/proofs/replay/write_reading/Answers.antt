@@ -49,5 +49,5 @@ returns-in_err-hand_over-clause-err g c =
 pub returns-clause-ok : goal.returns-clause-ok
 returns-clause-ok g c =
     let none = ap (λ (q : List Question). reader_lines c.args.updates.now c.args.reader q (drop c.loop-i.i c.args.sightings.now))
-        (drop_all c.loop-i.i c.args.questions.now (omega arith)) in
+    (drop_all c.loop-i.i c.args.questions.now (omega arith)) in
     written_all g.S.Sink c.args.out.now c.loop-i.out _ _ none c.loop-i.invariant

@@ -42,7 +42,7 @@ loop-one-init g c =
       each = λ updates size questions all batches asked.
           let one = (All-pop (HasAsked questions) c.args.watched.items c.pop.new.self.items (Some c.in-Some.first) c.in-Some.ensures.items asked).1 in
           let whole = whole_reading history c.tell.result.batches c.in-Some.first.reader.batches c.last_look-look.result.batches c.tell.ensures.told
-              c.last_look-look.ensures.seen c.last_look-look.ensures.told c.last_look-look.ensures.length reading c.seen.ensures updates size questions all batches one in
+          c.last_look-look.ensures.seen c.last_look-look.ensures.told c.last_look-look.ensures.length reading c.seen.ensures updates size questions all batches one in
           All-same (IsWholeReading updates size questions) c.push_reading.new.readings.items (c.args.readings.items ++ reading ∷ []) c.push_reading.ensures.items
           (All-push (IsWholeReading updates size questions) c.args.readings.items reading
           (All-same (IsWholeReading updates size questions) c.args.readings.items [] c.requires.none (All-nil _)) whole);
@@ -62,10 +62,10 @@ loop-one-preserved g c =
           (All-pop (HasAsked questions) c.loop-one.watched.items c.pop-in-loop-one.new.self.items (Some one) c.in-Some-pop.ensures.items (inv.left questions all)).0;
       each = λ updates size questions all batches asked.
           let mine = (All-pop (HasAsked questions) c.loop-one.watched.items c.pop-in-loop-one.new.self.items (Some one) c.in-Some-pop.ensures.items
-              (inv.left questions asked)).1 in
+          (inv.left questions asked)).1 in
           let whole = whole_reading c.args.writer.now.history c.tell-in-Some-pop.result.batches one.reader.batches c.last_look-other.result.batches told_is
-              c.last_look-other.ensures.seen c.last_look-other.ensures.told c.last_look-other.ensures.length reading c.seen-in-Some-pop.ensures updates size questions all
-              batches mine in
+          c.last_look-other.ensures.seen c.last_look-other.ensures.told c.last_look-other.ensures.length reading c.seen-in-Some-pop.ensures updates size questions all
+          batches mine in
           All-same (IsWholeReading updates size questions) c.push_reading-in-Some-pop.new.readings.items (c.loop-one.readings.items ++ reading ∷ [])
           c.push_reading-in-Some-pop.ensures.items
           (All-push (IsWholeReading updates size questions) c.loop-one.readings.items reading (inv.each updates size questions all batches asked) whole);

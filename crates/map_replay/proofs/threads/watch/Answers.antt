@@ -27,7 +27,7 @@ loop-turn-preserved g c =
     let begins = prefix_trans before.batches c.match-take.reader.batches look.batches known.0 c.look_until-look.ensures.shown in
     let sighting : Sighting = record { length = c.seen.result; answer = c.answer.result } in
     let asked = asked_push before.batches look.batches (take turn questions) c.loop-turn.sightings.items (get_or questions turn (Get 0)) sighting
-        begins c.seen.ensures (c.answer.ensures (map_after (updates_of look.batches)) refl) c.loop-turn.invariant.asked in
+    begins c.seen.ensures (c.answer.ensures (map_after (updates_of look.batches)) refl) c.loop-turn.invariant.asked in
     record {
       own = ap (λ (r : Front). r.origin) c.leave-reader.ensures ∙ (c.look_until-look.ensures.own ∙ known.1);
       count = omega (arith, c.push_within_capacity.ensures.len, c.loop-turn.invariant.count);
