@@ -80,7 +80,7 @@ fn outcome_at<R: AllocGlobal + Threads + Wait + Sync, G: Gate>(
     );
     let mut sink = MemSink::new(
         rt.alloc(),
-        4096,
+        65_536,
         vec![in rt.alloc(); given.writing.failing]?,
         given.writing.most.max(1),
     )?;
