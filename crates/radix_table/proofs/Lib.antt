@@ -1,1 +1,2 @@
-pub mod TableLemmas
+pub mod ScaleLemmas
+pub mod CountLemmas

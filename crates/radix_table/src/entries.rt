@@ -1,44 +1,26 @@
 // The entries, in one pass over the numbers.
-ghost use Rattle.std.specs.Prelude.{◌≡◌, ◌+◌, ◌-◌, ◌*◌, ◌/◌, ◌<◌, ◌≤◌, ◌^◌, ℕ};
-ghost use Rattle.std.specs.Prelude.{IsTrue, IfOk, length, map, slice_index, vec_len};
+ghost use Rattle.std.specs.Prelude.{◌≡◌, ◌+◌, ◌-◌, ◌<◌, ◌≤◌, ◌^◌, ℕ};
+ghost use Rattle.std.specs.Prelude.{IfOk, length, slice_index, vec_len};
 ghost use Rattle.std.specs.List.Sorted.{IsNonDecreasing};
-ghost use Rattle.radix_table.specs.Tables.{step_of};
-ghost use Rattle.window_search.specs.Searches.{lb};
+ghost use Rattle.radix_table.specs.Cuts.{AreFew};
+ghost use Rattle.radix_table.specs.Tables.{AreCounts, HasAtMost, IsScale, step_of};
 
+use crate::scale::Scale;
 use budget::NoMemory;
 use std::alloc::Global;
 
-/// How long steps are: as short as at most twice as many as the numbers reach over the span.
-pub fn shift_of(span: u64, count: usize) -> u32
-    requires { count < 2 ^ 32 }
-    ensures short { result < 64 }
-    ensures few { span / 2 ^ result ≤ 2 ^ 33 }
-{
-    let most = 2 * count as u64;
-    for shift in 0..63 {
-        if span >> shift < most {
-            return shift;
-        }
-    }
-    63
-}
-
 /// The entries of all steps up to that of the last number, and one more, which is how many there
 /// are.
-pub fn entries_of(alloc: Global, xs: &[u64], first: u64, shift: u32) -> Result<Vec<u32>, NoMemory>
+pub fn entries_of(alloc: Global, xs: &[u64], scale: &Scale) -> Result<Vec<u32>, NoMemory>
     requires order { IsNonDecreasing xs.now }
     requires few { length xs.now < 2 ^ 32 }
-    requires short { shift < 64 }
-    requires steps { (k : ℕ) → k < length xs.now →
-        step_of first shift (slice_index xs.now k) ≤ 2 ^ 33 }
-    ensures each { IfOk result (λ entries. (h : ℕ) → h < length entries.items →
-        slice_index entries.items h ≡ lb (map (step_of first shift) xs.now) h) }
-    ensures all { IfOk result (λ entries. (h : ℕ) → h + 1 ≡ length entries.items →
-        slice_index entries.items h ≡ length xs.now) }
+    requires scale { IsScale scale.now }
+    requires steps { AreFew xs.now scale.now }
+    ensures { IfOk result (λ entries. AreCounts (step_of scale.now) xs.now entries.items) }
 {
     let mut entries = Vec::new(alloc);
     for place in 0..xs.len() {
-        let step = xs[place].saturating_sub(first) >> shift;
+        let step = scale.step(xs[place]);
         fill(&mut entries, step as usize + 1, place as u32)?;
     }
     entries.push(xs.len() as u32)?;
@@ -63,16 +45,13 @@ fn fill(entries: &mut Vec<u32>, to: usize, number: u32) -> Result<(), NoMemory>
     Ok(())
 }
 
-/// Whether no step leaves open more places than half of `most`.
-pub fn is_narrow(entries: &[u32], most: u64) -> bool
-    ensures { IsTrue result → (h : ℕ) → h + 1 < length entries.now →
-        2 * (slice_index entries.now (h + 1) - slice_index entries.now h + 1) ≤ most }
+/// How many numbers the fullest step has at most.
+pub fn fullest(entries: &[u32]) -> u32
+    ensures { HasAtMost result entries.now }
 {
+    let mut most = 0;
     for place in 1..entries.len() {
-        let more = u64::from(entries[place].saturating_sub(entries[place - 1]));
-        if 2 * (more + 1) > most {
-            return false;
-        }
+        most = most.max(entries[place].saturating_sub(entries[place - 1]));
     }
-    true
+    most
 }

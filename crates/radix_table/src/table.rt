@@ -1,37 +1,44 @@
 // The table.
-ghost use Rattle.std.specs.Prelude.{◌<◌, ◌^◌, ℕ, List, IfOk, IfSome, length};
+ghost use Rattle.std.specs.Prelude.{◌+◌, ◌-◌, ◌*◌, ◌<◌, ◌≤◌, ◌^◌, ℕ, List, IfOk, IfSome};
+ghost use Rattle.std.specs.Prelude.{length};
 ghost use Rattle.std.specs.List.Sorted.{IsNonDecreasing};
-ghost use Rattle.radix_table.specs.Tables.{IsTableOf, IsLedTo};
+ghost use Rattle.radix_table.specs.Cuts.{IsCutOf};
+ghost use Rattle.radix_table.specs.Tables.{IsBetween, IsLedTo, IsScale, IsTableOf};
 
-use crate::entries::{entries_of, is_narrow, shift_of};
+use crate::cut::Cut;
+use crate::scale::Scale;
 use budget::NoMemory;
 use std::alloc::Global;
 use std::marker::Model;
 
-/// How many of a list of rising numbers stand before each of many steps of equal size. Seen as a
-/// record of where the steps begin, how long they are, and the entries.
+/// Up to so many entries a table has eight for each number, which is 1 MB; a longer one has at most
+/// two.
+const MANY: u64 = 1 << 18;
+
+/// A step with no more numbers than these is searched as fast as a shorter one.
+const FEW: u32 = 8;
+
+/// How many of a list of rising numbers stand before each of many steps. Seen as a record of how
+/// the steps are cut, and the entries.
 ///
 /// Source: Kipf et al., RadixSpline, aiDM 2020.
 #[derive(Drop)]
 pub struct RadixTable {
-    first: u64,
-    shift: u32,
+    scale: Scale,
     entries: Vec<u32>,
 }
 
 impl Model for RadixTable {
-    ghost use Rattle.std.specs.Prelude.{◌<◌};
-    ghost use Rattle.radix_table.specs.Tables.{RadixEntries};
+    ghost use Rattle.radix_table.specs.Tables.{IsScale, RadixEntries};
 
     ghost Value = { RadixEntries };
 
     ghost view = { λ table. record {
-      first = table.first;
-      shift = table.shift;
+      scale = table.scale;
       entries = table.entries.items;
     } };
 
-    ghost invariant = { λ table. table.shift < 64 };
+    ghost invariant = { λ table. IsScale table.scale };
 }
 
 impl RadixTable {
@@ -40,16 +47,15 @@ impl RadixTable {
         ensures { (xs : List ℕ) (most : ℕ) → IsTableOf xs most result }
     {
         let entries = Vec::new(alloc);
-        RadixTable {
-            first: 0,
-            shift: 0,
-            entries,
-        }
+        let scale = Scale::NONE;
+        RadixTable { scale, entries }
     }
 
-    /// The table of numbers that never fall, with at most two entries a number and two more.
+    /// The table of numbers that never fall, with at most eight entries a number and two more.
     ///
-    /// No step leaves open more places than half of `most`; where one would, there is no entry.
+    /// Its steps are equal, or where some of these have many numbers, longer the further they are
+    /// from the first number, if that leaves fewer in the fullest. No step leaves open more places
+    /// than half of `most`; where one would, there is no entry.
     ///
     /// # Errors
     ///
@@ -62,17 +68,34 @@ impl RadixTable {
         if xs.is_empty() {
             return Ok(RadixTable::empty(alloc));
         }
-        let first = xs[0];
-        let shift = shift_of(xs[xs.len() - 1] - first, xs.len());
-        let entries = entries_of(alloc, xs, first, shift)?;
-        if !is_narrow(&entries, most) {
-            return Ok(RadixTable::empty(alloc));
+        let entries = most_entries(xs.len());
+        let even = Cut::of(alloc, xs, Scale::even(xs, entries))?;
+        if even.fullest <= FEW {
+            return Ok(narrow_table(alloc, even, most));
         }
-        Ok(RadixTable {
-            first,
-            shift,
-            entries,
-        })
+        let relative = Cut::of(alloc, xs, Scale::relative(xs, entries))?;
+        Ok(narrow_table(alloc, even.or_narrower(relative), most))
+    }
+
+    /// How many of the numbers are at most `q`, from below and from above: those in lower steps,
+    /// and those in steps up to that of `q`. None where the table has no entry.
+    ///
+    /// Cannot fail and takes no memory.
+    #[inline(always)]
+    pub fn counts(&self, q: u64) -> Option<(u32, u32)>
+        ensures between { (xs : List ℕ) (most : ℕ) → IsNonDecreasing xs →
+            IsTableOf xs most self.now →
+            IfSome result (λ counts. IsBetween xs q counts.0 counts.1) }
+        ensures narrow { (xs : List ℕ) (most : ℕ) → IsTableOf xs most self.now →
+            IfSome result (λ counts. 2 * (counts.1 - counts.0 + 1) ≤ most) }
+    {
+        let entries = &self.entries;
+        let count = entries.len();
+        if count < 2 {
+            return None;
+        }
+        let step = self.scale.step(q).min(count as u64 - 2) as usize;
+        Some((entries[step], entries[step + 1]))
     }
 
     /// The first and the last of the places among which the predecessor of `q` is, the last number
@@ -84,14 +107,32 @@ impl RadixTable {
         ensures { (xs : List ℕ) (most : ℕ) → IsNonDecreasing xs → IsTableOf xs most self.now →
             IfSome result (λ places. IsLedTo xs q most places.0 places.1) }
     {
-        let entries = &self.entries;
-        let count = entries.len();
-        if count < 2 {
-            return None;
-        }
-        let step = (q.saturating_sub(self.first) >> self.shift).min(count as u64 - 2) as usize;
-        let low = entries[step].saturating_sub(1);
-        let high = entries[step + 1].saturating_sub(1);
-        Some((low, high))
+        let (low, high) = self.counts(q)?;
+        Some((low.saturating_sub(1), high.saturating_sub(1)))
     }
+}
+
+/// How many entries the table of so many numbers may have.
+fn most_entries(count: usize) -> u64
+    requires { count < 2 ^ 32 }
+    ensures { result ≤ 2 ^ 36 }
+{
+    let count = count as u64;
+    (8 * count).min(MANY).max(2 * count)
+}
+
+/// The table of a cut, or the empty one where a step leaves open too many places.
+fn narrow_table(alloc: Global, cut: Cut, most: u64) -> RadixTable
+    requires { IsScale cut.scale }
+    ensures { (xs : List ℕ) → IsCutOf xs cut → IsTableOf xs most result }
+{
+    let Cut {
+        scale,
+        entries,
+        fullest,
+    } = cut;
+    if 2 * (u64::from(fullest) + 1) > most {
+        return RadixTable::empty(alloc);
+    }
+    RadixTable { scale, entries }
 }

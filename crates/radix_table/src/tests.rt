@@ -1,4 +1,4 @@
-//! The head's example, and numbers at both ends of 64 bits.
+//! The head's example, numbers at both ends of 64 bits, and numbers that crowd at one end.
 
 ghost use Rattle.std.specs.Prelude.{IsTrue};
 ghost use Rattle.std.specs.List.Sorted.{IsNonDecreasing};
@@ -36,4 +36,19 @@ fn places(rt: HostRuntime) {
     let ends = [0, u64::MAX];
     expect_places(&rt, alloc, &ends, 100, 5, Some((0, 0)));
     expect_places(&rt, alloc, &ends, 100, u64::MAX, Some((0, 1)));
+}
+
+// Equal steps would have all numbers but one in the first. With two binary places kept, 8 to 11 are
+// one step, and eight numbers stand before it.
+#[test]
+fn crowded_numbers(rt: HostRuntime) {
+    let alloc = rt.alloc();
+    let mut numbers = [0; 21];
+    for place in 0..20 {
+        numbers[place] = place as u64;
+    }
+    numbers[20] = u64::MAX;
+    expect_places(&rt, alloc, &numbers, 100, 9, Some((7, 11)));
+    expect_places(&rt, alloc, &numbers, 100, 3, Some((2, 3)));
+    expect_places(&rt, alloc, &numbers, 100, 1 << 40, Some((19, 19)));
 }
