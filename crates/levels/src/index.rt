@@ -11,7 +11,7 @@ ghost use Rattle.levels.specs.Models.{IsEndOf, IsModelOf};
 ghost use Rattle.levels.specs.Entries.{IsEntry};
 ghost use Rattle.levels.specs.Stored.{AreLevels, AreStored, segments_of};
 ghost use Rattle.levels.specs.Entries.{share_of};
-ghost use Rattle.radix_table.specs.Tables.{IsLedTo, IsTableOf};
+ghost use Rattle.radix_table.specs.Tables.{IsBetween, IsLedTo, IsTableOf};
 
 use crate::entry::{entry_of, share};
 use crate::level::Level;
@@ -32,7 +32,7 @@ use std::marker::Model;
 /// 2. The keys are kept once: level 0 uses the lists of [`Keys`].
 /// 3. Each run has a model, 48 bytes, by which a lookup predicts places without a division.
 /// 4. A table leads to the few runs of level 0 that a question can be in, where that takes no more
-///    steps than the levels above may. It has at most 8 bytes a run and 8 more.
+///    steps than the levels above may. It has at most 32 bytes a run and 8 more.
 ///
 /// Source: Ferragina and Vinciguerra, PVLDB 13(8), 2020, section 2.
 #[derive(Drop)]
@@ -106,6 +106,16 @@ impl Index {
             (share_of self.now.eps_rec (length self.now.levels)) runs.0 runs.1) }
     {
         self.table.places(q)
+    }
+
+    /// At least and at most how many runs of level 0 begin at or before `q`, where the table of the
+    /// runs' first x tells. Cannot fail and takes no memory.
+    #[inline(always)]
+    pub fn begun_near(&self, q: u64) -> Option<(u32, u32)>
+        ensures { IfSome result (λ counts.
+            IsBetween (xs_at self.now.keys self.now.levels 1) q counts.0 counts.1) }
+    {
+        self.table.counts(q)
     }
 
     /// The level at which lookups start that the table doesn't lead.

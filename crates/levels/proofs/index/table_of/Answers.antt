@@ -1,6 +1,8 @@
--- The first x of the runs of level 0 rise, and are no more than keys.
+-- The first x of the runs of level 0 rise, and are no more than keys. The empty table is one of any numbers.
 use Rattle.std.proofs.Common.{◌≡◌, ◌<◌, ◌≤◌, length, sym, ap, subst, arith}
 use Rattle.std.specs.List.Sorted.{IsNonDecreasing}
+use Rattle.levels.specs.Entries.{share_of}
+use Rattle.levels.specs.Indexes.{xs_at}
 use Rattle.levels.specs.Stored.{segments_of}
 use Rattle.levels.proofs.StoredLemmas.{segments_of-count}
 use Rattle.levels.proofs.LookupLemmas.{ascends}
@@ -18,3 +20,6 @@ over-requires-clause-few c =
     let here = ascends c.args.keys.now c.requires.stored.0 c.args.eps_rec (segments_of c.args.levels.now) stored.first.never_falls stored.index 1
     (omega (arith, segments_of-count c.args.levels.now, c.if-levels-lt2.false)) in
     omega (arith, ap length c.list_at.ensures, here.few, stored.first.few)
+
+pub returns-then-levels-lt2 : goal.returns-then-levels-lt2
+returns-then-levels-lt2 c = c.empty.ensures (xs_at c.args.keys.now (segments_of c.args.levels.now) 1) (share_of c.args.eps_rec (length c.args.levels.now))
