@@ -1,5 +1,6 @@
 -- Entries of a table, by the order of the runs' first x.
-use Rattle.std.proofs.Common.{◌≡◌, ℕ, zero, suc, ◌+◌, ◌-◌, ◌*◌, ◌/◌, ◌^◌, ◌<◌, ◌≤◌, List, map, length, slice_index, slice_index_or, sym, ap, ◌∙◌, inl, inr, arith}
+use Rattle.std.proofs.Common.{◌≡◌, ℕ, zero, suc, ◌+◌, ◌-◌, ◌*◌, ◌/◌, ◌^◌, ◌<◌, ◌≤◌, List, map, length, slice_index, slice_index_or, sym, ap, ◌∙◌, subst, inl, inr, arith}
+use Rattle.std.specs.Prelude.{max, min}
 use Rattle.std.proofs.lemmas.Bool.{cases_lt}
 use Rattle.std.proofs.lemmas.List.{get_or-map, length-map}
 use Rattle.std.proofs.lemmas.Nat.{pow-add, le-div}
@@ -7,6 +8,8 @@ use Rattle.std.proofs.Math.Nat.{mul-le-mul_left, mul-le-mul_right, div-mul-le_se
 use Rattle.std.specs.List.Sorted.{IsNonDecreasing}
 use Rattle.window_search.specs.Searches.{lb}
 use Rattle.window_search.proofs.CallerLemmas.{lb-is, IsLowerBound-lb}
+use Rattle.levels.specs.Indexes.{PgmIndex, xs_at}
+use Rattle.radix_table.specs.Tables.{IsBetween}
 use Rattle.bucketed.specs.Tables.{bucket_of}
 
 power_some : (n : ℕ) → 0 < 2 ^ n
@@ -161,3 +164,30 @@ IsBeside-at bits xs q first last order low high =
       before = λ k less. let below = bucket-below bits (slice_index xs k) q (lower.before k (omega (arith, low))) in omega arith;
       from = λ k past inside. bucket-below bits q (slice_index xs k) (omega (arith, upper.from k (omega (arith, high)) inside));
     }
+
+-- the first x of an index's runs never fall, by either name of the index
+pub order_of : (index value : PgmIndex) → value ≡ index → IsNonDecreasing (xs_at value.keys value.levels 1) → IsNonDecreasing (xs_at index.keys index.levels 1)
+order_of index value same order = subst (λ (i : PgmIndex). IsNonDecreasing (xs_at i.keys i.levels 1)) same order
+
+pub between_of : (bits : ℕ) (xs : List ℕ) (q first last : ℕ) → IsBeside bits xs q first last → IsBetween xs q first last
+between_of bits xs q first last here = record {
+  begins = omega (arith, here.rises, here.within);
+  within = here.within;
+  before = here.before;
+  from = here.from;
+}
+
+-- what two tables say, together
+pub narrowed : (xs : List ℕ) (q low high from to first last : ℕ) → IsBetween xs q low high → IsBetween xs q from to → first ≡ max low from → last ≡ min high to → IsBetween xs q first last
+narrowed xs q low high from to first last one two lower upper = record {
+  begins = omega (arith, lower, one.begins, two.begins);
+  within = omega (arith, upper, one.within, two.within);
+  before = λ k less. elim (cases_lt k low) [
+    | inl under ↦ one.before k under
+    | inr past ↦ two.before k (omega (arith, lower))
+  ];
+  from = λ k past inside. elim (cases_lt k high) [
+    | inl under ↦ two.from k (omega (arith, upper)) inside
+    | inr above ↦ one.from k above inside
+  ];
+}

@@ -2,6 +2,7 @@
 ghost use Rattle.std.specs.Prelude.{◌≡◌, ◌+◌, ◌-◌, ◌*◌, ◌<◌, ◌≤◌};
 ghost use Rattle.std.specs.Prelude.{◌^◌, ℕ, length, slice_index};
 ghost use Rattle.window_search.specs.Searches.{lb, IsPredecessor};
+ghost use Rattle.radix_table.specs.Tables.{IsBetween};
 ghost use Rattle.levels.specs.Costs.{TakesAtMost};
 ghost use Rattle.levels.specs.Indexes.{xs_at};
 ghost use Rattle.bucketed.specs.Tables.{lookup_bound, runs_beside, AreBegun};
@@ -49,11 +50,11 @@ impl<'a> Buckets<'a> {
         ensures cost { TakesAtMost (2 * (runs_beside self.now.index self.now.bits q + 1)) steps.old
             steps.new }
     {
-        let bucket = (q >> (64 - self.bits())) as u32;
         let index = self.index();
         let _runs = index.runs();
-        let mut begun = self.entry(bucket);
-        let mut left = self.entry(bucket + 1) - begun;
+        let (low, high) = self.begun_between(q);
+        let mut begun = low;
+        let mut left = high.saturating_sub(low);
         while left > 0 {
             let half = left / 2;
             if index.read_first(begun + half, steps) <= q {
@@ -64,6 +65,24 @@ impl<'a> Buckets<'a> {
             }
         }
         begun
+    }
+
+    /// At least and at most how many runs of level 0 begin at or before `q`: by its bucket, and by
+    /// the table of the index, which tells more where many runs begin in one bucket.
+    #[inline(always)]
+    fn begun_between(&self, q: u64) -> (u32, u32)
+        ensures between { IsBetween (xs_at self.now.index.keys self.now.index.levels 1) q result.0
+            result.1 }
+        ensures few { result.1 - result.0 ≤ runs_beside self.now.index self.now.bits q }
+    {
+        let bucket = (q >> (64 - self.bits())) as u32;
+        let (low, high) = (self.entry(bucket), self.entry(bucket + 1));
+        let index = self.index();
+        let _runs = index.runs();
+        match index.begun_near(q) {
+            Some((from, to)) => (low.max(from), high.min(to)),
+            None => (low, high),
+        }
     }
 }
 

@@ -2,12 +2,12 @@
 use Rattle.std.proofs.Common.{◌+◌, ◌<◌, ◌≤◌, ℕ, length, slice_index}
 use Rattle.levels.specs.Indexes.{xs_at}
 use Rattle.window_search.proofs.Halving.{IsHalved}
-use Rattle.bucketed.specs.Tables.{bucket_of, entry_at, runs_beside}
+use Rattle.bucketed.specs.Tables.{runs_beside}
 use Rattle.bucketed.proofs.buckets.Buckets.begun.Given as goal
 
 abbrev pub invariant-loop-left : goal.invariant-loop-left
 invariant-loop-left g l = record {
-  within : l.begun + l.left ≤ entry_at l.self.index l.self.bits (bucket_of l.self.bits l.q + 1);
+  within : l.begun + l.left ≤ length (xs_at l.self.index.keys l.self.index.levels 1);
   before : (k : ℕ) → k < l.begun → slice_index (xs_at l.self.index.keys l.self.index.levels 1) k ≤ l.q;
   from : (k : ℕ) → l.begun + l.left ≤ k → k < length (xs_at l.self.index.keys l.self.index.levels 1) → l.q < slice_index (xs_at l.self.index.keys l.self.index.levels 1) k;
   halved : IsHalved l.fn.steps l.steps (runs_beside l.self.index l.self.bits l.q + 1) (l.left + 1);
