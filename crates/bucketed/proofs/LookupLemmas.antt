@@ -28,7 +28,7 @@ halved_to before now places left now_left some half halved =
     some_of : (left : ℕ) → 0 < left → 1 ≤ left
     some_of left some = omega arith
 
-pub halved_none : (before places left : ℕ) → left ≤ places → IsHalved before before (places + 1) (left + 1)
+pub halved_none : (before places left : ℕ) → left < places → IsHalved before before places (left + 1)
 halved_none before places left same = record {
   t = 0;
   taken = omega arith;

@@ -12,6 +12,9 @@ use budget::Steps;
 use std::marker::Brand;
 use std::sync::ledger::{Blank, Ledger};
 
+/// So few runs take at most two steps, which the bound on steps has room for in every bucket.
+const FEW: u32 = 3;
+
 impl<'a> Buckets<'a> {
     /// The position of `q` in the file: how many of its keys are below `q`.
     ///
@@ -47,7 +50,7 @@ impl<'a> Buckets<'a> {
     #[inline(always)]
     pub(crate) fn begun<L: Ledger>(&self, q: u64, steps: &mut Steps<L>) -> u32
         ensures runs { AreBegun (xs_at self.now.index.keys self.now.index.levels 1) q result }
-        ensures cost { TakesAtMost (2 * (runs_beside self.now.index self.now.bits q + 1)) steps.old
+        ensures cost { TakesAtMost (8 * (runs_beside self.now.index self.now.bits q + 1)) steps.old
             steps.new }
     {
         let index = self.index();
@@ -67,19 +70,25 @@ impl<'a> Buckets<'a> {
         begun
     }
 
-    /// At least and at most how many runs of level 0 begin at or before `q`: by its bucket, and by
-    /// the table of the index, which tells more where many runs begin in one bucket.
+    /// At least and at most how many runs of level 0 begin at or before `q`: by the table of the
+    /// index where that leaves open few, and else by the bucket and that table together.
     #[inline(always)]
     fn begun_between(&self, q: u64) -> (u32, u32)
         ensures between { IsBetween (xs_at self.now.index.keys self.now.index.levels 1) q result.0
             result.1 }
-        ensures few { result.1 - result.0 ≤ runs_beside self.now.index self.now.bits q }
+        ensures few { result.1 - result.0 < 4 * (runs_beside self.now.index self.now.bits q + 1) }
     {
-        let bucket = (q >> (64 - self.bits())) as u32;
-        let (low, high) = (self.entry(bucket), self.entry(bucket + 1));
         let index = self.index();
         let _runs = index.runs();
-        match index.begun_near(q) {
+        let near = index.begun_near(q);
+        if let Some((from, to)) = near {
+            if to.saturating_sub(from) <= FEW {
+                return (from, to);
+            }
+        }
+        let bucket = (q >> (64 - self.bits())) as u32;
+        let (low, high) = (self.entry(bucket), self.entry(bucket + 1));
+        match near {
             Some((from, to)) => (low.max(from), high.min(to)),
             None => (low, high),
         }
