@@ -5,7 +5,7 @@ use Rattle.levels.specs.Indexes.{PgmIndex, xs_at}
 use Rattle.levels.proofs.CallerLemmas.{first_x-order}
 use Rattle.radix_table.specs.Tables.{IsBetween}
 use Rattle.bucketed.specs.Tables.{bucket_of, entry_at}
-use Rattle.bucketed.proofs.TableLemmas.{bucket-few, buckets-few, IsBeside-at, between_of, narrowed, order_of}
+use Rattle.bucketed.proofs.TableLemmas.{bucket-few, buckets-few, IsBetween-bucket, narrowed, order_of}
 use Rattle.bucketed.proofs.buckets.Buckets.begun_between.Goals as goal
 
 few : (bits own q : ℕ) → bits ≡ own → bits ≤ 20 → q < 2 ^ 64 → (q / 2 ^ (64 - bits) < 2 ^ own) × (2 ^ own ≤ 1048576)
@@ -40,7 +40,7 @@ beside index value bits own q first last same order bit low high =
     let bucket : q / 2 ^ (64 - bits) ≡ bucket_of own q = ap (λ (b : ℕ). q / 2 ^ (64 - b)) bit in
     let lower : first ≡ entry_at index own (bucket_of own q) = low ∙ ap (entry_at index own) bucket in
     let upper : last ≡ entry_at index own (bucket_of own q + 1) = high ∙ ap (λ (h : ℕ). entry_at index own (h + 1)) bucket in
-    between_of own (xs_at index.keys index.levels 1) q first last (IsBeside-at own (xs_at index.keys index.levels 1) q first last (order_of index value same order) lower upper)
+    IsBetween-bucket own (xs_at index.keys index.levels 1) q first last (order_of index value same order) lower upper
 
 pub returns-in-Some-near-clause-between : goal.returns-in-Some-near-clause-between
 returns-in-Some-near-clause-between c =
