@@ -22,8 +22,8 @@ pub loop-i-preserved : goal.loop-i-preserved
 loop-i-preserved c =
     let bytes = c.args.bytes.now in
     let is : little_bytes 4 c.first_u32-value.result ≡ take 4 (drop (4 * c.loop-i.i) bytes) = c.first_u32-value.ensures.bytes ∙ ap (take 4) (take_rest bytes (4 * c.loop-i.i)) in
-    let items = pushed (c.first_u32-value.result ∷ []) refl c.unwrap.ensures c.push.ensures.items in
-    let len = rw c.unwrap.ensures at c.push.ensures.len in
+    let items = c.push_reserved.ensures.items in
+    let len = c.push_reserved.ensures.len in
     record {
       under_way = rw items (under_way_push (of_points c.args.d) _ bytes _ _ _ c.loop-i.invariant.under_way c.first_u32-value.ensures.small is (c.if-not-fits_range.ensures.0 refl));
       len = omega (arith, len, c.loop-i.invariant.len);
