@@ -16,18 +16,20 @@ pub struct Parts {
     pub ys: Vec<u32>,
 }
 
-/// The parts of sorted keys, one group of equal keys after the other.
-pub fn parts_of(alloc: Global, file: &[u64]) -> Result<Parts, NoMemory>
+/// The parts of sorted keys, one group of equal keys after the other. Room is taken once: for so
+/// many distinct keys as are told, and for two points of each, but no more than there are keys.
+pub fn parts_of(alloc: Global, file: &[u64], count: usize) -> Result<Parts, NoMemory>
     requires never_falls { IsNonDecreasing file.now }
     requires few { length file.now < 2 ^ 32 }
     ensures distinct { IfOk result (λ parts. parts.distinct.items ≡ distinct_of file.now) }
     ensures xs { IfOk result (λ parts. parts.xs.items ≡ xs_of file.now) }
     ensures ys { IfOk result (λ parts. parts.ys.items ≡ ys_of file.now) }
 {
+    let most = count.saturating_mul(2).min(file.len());
     let mut parts = Parts {
-        distinct: Vec::new(alloc),
-        xs: Vec::new(alloc),
-        ys: Vec::new(alloc),
+        distinct: Vec::with_capacity(alloc, count)?,
+        xs: Vec::with_capacity(alloc, most)?,
+        ys: Vec::with_capacity(alloc, most)?,
     };
     let mut at = 0;
     while at < file.len() {
