@@ -141,7 +141,7 @@ fn is_divided(line: &[u8]) -> bool
 
 // The number that the first digits write and how many they are, where it is below 2^64.
 #[inline]
-fn digits(line: &[u8]) -> Option<(u64, usize)>
+pub(crate) fn digits(line: &[u8]) -> Option<(u64, usize)>
     ensures some { IfSome result (λ read. ReadsDigits line.now read.1 read.0) }
     ensures none { IfNone result (HasTooGreat line.now) }
 {
