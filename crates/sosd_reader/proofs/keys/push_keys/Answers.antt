@@ -1,6 +1,5 @@
-use Rattle.std.proofs.Common.{rules, ◌≡◌, ℕ, ◌*◌, ◌-◌, ◌/◌, List, length, take, drop, slice_index, refl, sym, ap, ◌∙◌, subst, arith, [], ◌∷◌}
+use Rattle.std.proofs.Common.{rules, ◌≡◌, ℕ, ◌*◌, ◌-◌, ◌/◌, List, length, take, drop, slice_index, sym, ap, ◌∙◌, subst, arith}
 use Rattle.std.proofs.lemmas.List.{take_rest, get_or_push, length_push}
-use Rattle.std.proofs.lemmas.Slice.{pushed}
 use Rattle.byteorder.specs.Endian.{little_bytes}
 use Rattle.sosd_reader.specs.NumberFiles.Kind.{of_keys}
 use Rattle.sosd_reader.proofs.Widths.{over-last}

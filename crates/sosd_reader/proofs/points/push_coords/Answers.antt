@@ -1,7 +1,6 @@
-use Rattle.std.proofs.Common.{◌≡◌, ◌*◌, ◌/◌, length, take, drop, refl, ap, ◌∙◌, arith, [], ◌∷◌}
+use Rattle.std.proofs.Common.{◌≡◌, ◌*◌, ◌/◌, length, take, drop, refl, ap, ◌∙◌, arith}
 use Rattle.std.proofs.lemmas.Bool.{false≢true}
 use Rattle.std.proofs.lemmas.List.{take_rest}
-use Rattle.std.proofs.lemmas.Slice.{pushed}
 use Rattle.byteorder.specs.Endian.{little_bytes}
 use Rattle.sosd_reader.specs.NumberFiles.Kind.{of_points}
 use Rattle.sosd_reader.proofs.Widths.{over-last}
