@@ -1,5 +1,5 @@
 -- A line of a command's letters, and behind one space each its numbers: its words, and what it is.
-use Rattle.std.proofs.Common.{◌≡◌, ◌≢◌, ℕ, zero, suc, ◌+◌, ◌-◌, ◌<◌, ◌≤◌, Bool, true, false, not, if◌then◌else◌, ◌&&◌, leb, eqb, List, [], ◌∷◌, ◌++◌, length, take, drop, drop-cons, get_or, slice_index, refl, sym, ap, ◌∙◌, subst, append_assoc, length-append, All, arith, Option, Some, None, Result, Ok, Err, ⊎_elim, bytes_eq, find}
+use Rattle.std.proofs.Common.{◌≡◌, ℕ, zero, suc, ◌+◌, ◌-◌, ◌<◌, ◌≤◌, Bool, true, false, not, if◌then◌else◌, ◌&&◌, leb, eqb, List, [], ◌∷◌, ◌++◌, length, take, drop, drop-cons, get_or, slice_index, refl, sym, ap, ◌∙◌, append_assoc, length-append, All, arith, Option, Some, None, Ok, Err, ⊎_elim, bytes_eq, find}
 use Rattle.std.specs.Char.{is_ascii_digit}
 use Rattle.std.specs.List.{list_all}
 use Rattle.std.specs.Str.{IsAscii, is_utf8}
@@ -12,9 +12,7 @@ use Rattle.std.proofs.lemmas.List.Elements.{All-append, All-cons}
 use Rattle.std.proofs.lemmas.List.Folds.{list_all_at}
 use Rattle.std.proofs.lemmas.Str.{IsUtf8-from_ascii, is_utf8-from_IsUtf8}
 use Rattle.pgm_script.specs.declared.script.ScriptKind.{ScriptKind}
-use Rattle.pgm_script.specs.declared.script.ScriptLine.{ScriptLine}
-use Rattle.pgm_script.specs.declared.fault.Why.{Why}
-use Rattle.pgm_script.specs.declared.fault.Why.TheVariants.{NotUtf8, Word}
+use Rattle.pgm_script.specs.declared.fault.Why.TheVariants.{NotUtf8}
 use Rattle.pgm_script.specs.Words.{put_first, lines_of, is_blank, goes_on, words_of, number_of}
 use Rattle.pgm_script.specs.Commands.{Command, commands_of, any}
 use Rattle.pgm_script.specs.Scripts.{and_then, numbers_of, made, command_reading, words_reading, line_reading}

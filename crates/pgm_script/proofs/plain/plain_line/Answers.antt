@@ -1,4 +1,4 @@
-use Rattle.std.proofs.Common.{◌≡◌, ◌∷◌, [], ℕ, List, take, sym, ap, ◌∙◌, subst, arith}
+use Rattle.std.proofs.Common.{◌≡◌, ◌∷◌, [], ℕ, take, sym, ap, ◌∙◌, subst, arith}
 use Rattle.pgm_script.specs.declared.script.ScriptLine.{ScriptLine}
 use Rattle.pgm_script.specs.Verbs.{command_of}
 use Rattle.pgm_script.specs.Plain.{BeginsWithLine}

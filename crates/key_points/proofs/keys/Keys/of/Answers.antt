@@ -1,4 +1,4 @@
-use Rattle.std.proofs.Common.{◌≡◌, ◌≤◌, ◌∙◌, length, sym, ap, subst, List, ℕ, arith}
+use Rattle.std.proofs.Common.{◌≡◌, ◌∙◌, length, sym, ap, subst, List, ℕ, arith}
 use Rattle.std.specs.List.Sorted.{IsNonDecreasing}
 use Rattle.key_points.specs.KeyPoints.{distinct_of, ys_of}
 use Rattle.key_points.proofs.AloneLemmas.{distinct_of-alone, xs_of-alone}
