@@ -1,4 +1,4 @@
-use Rattle.std.proofs.Common.{◌≡◌, ◌<◌, ◌≤◌, ◌*◌, ◌-◌, length, min, vec_len, vec_capacity}
+use Rattle.std.proofs.Common.{◌<◌, ◌≤◌, ◌*◌, ◌-◌, length, min, vec_len, vec_capacity}
 use Rattle.key_points.specs.Groups.{HoldsUpTo, IsGroupStart}
 use Rattle.key_points.proofs.parts.parts_of.Given as goal
 
