@@ -8,8 +8,8 @@ use crate::verb::{Verb, count, script_line};
 use crate::words::digits;
 use crate::{ScriptKind, ScriptLine};
 
-// The first line of the text, and the text after it, where it is such a line. Each of its bytes is
-// looked at once. Of another line this says nothing.
+// The first line of the text, and the text after it, where it is such a line, by one pass that cuts
+// off no line and no word first. Of another line this says nothing.
 pub(crate) fn plain_line(kind: ScriptKind, text: &[u8]) -> Option<(ScriptLine, &[u8])>
     requires { IsKind kind }
     ensures { IfSome result (λ cut. BeginsWithLine kind text.now cut.0 cut.1.now) }
