@@ -3,4 +3,5 @@ pub mod GroupLemmas
 pub mod AloneLemmas
 pub mod Rows
 pub mod PointOrder
+pub mod Heights
 pub mod CallerLemmas

@@ -5,6 +5,7 @@ ghost use Rattle.std.specs.List.Sorted.{IsNonDecreasing};
 ghost use Rattle.window_search.specs.Searches.{lb};
 ghost use Rattle.key_points.specs.KeyPoints.{distinct_of, first_of, xs_of, ys_of};
 
+use crate::alone::{count_distinct, places_of};
 use crate::parts::{Parts, parts_of};
 use budget::{NoMemory, Steps};
 use std::alloc::Global;
@@ -45,7 +46,8 @@ impl Model for Keys {
 impl Keys {
     /// The keys of a file, with their points.
     ///
-    /// Where no key repeats, the keys are kept once, and beside them a height of 4 bytes a key.
+    /// Where no key repeats, the keys are kept once, and beside them a height of 4 bytes a key, which
+    /// is all memory that is taken.
     ///
     /// # Errors
     ///
@@ -55,23 +57,24 @@ impl Keys {
         requires few { vec_len sorted < 2 ^ 32 }
         ensures { IfOk result (λ keys. keys ≡ sorted.items) }
     {
-        let parts = parts_of(alloc, &sorted)?;
-        let Parts { distinct, xs, ys } = parts;
-        if distinct.len() < sorted.len() {
+        let count = count_distinct(&sorted);
+        if count == sorted.len() {
+            let ys = places_of(alloc, &sorted)?;
             return Ok(Keys {
                 file: sorted,
-                distinct,
-                xs,
+                distinct: Vec::new(alloc),
+                xs: Vec::new(alloc),
                 ys,
-                repeats: true,
+                repeats: false,
             });
         }
+        let Parts { distinct, xs, ys } = parts_of(alloc, &sorted, count)?;
         Ok(Keys {
             file: sorted,
-            distinct: Vec::new(alloc),
-            xs: Vec::new(alloc),
+            distinct,
+            xs,
             ys,
-            repeats: false,
+            repeats: true,
         })
     }
 

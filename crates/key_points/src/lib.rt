@@ -8,6 +8,7 @@
 //! [`Keys::xs`] and [`Keys::ys`]. The words of the clauses are in `specs/`.
 #![tactic(auto)]
 
+mod alone;
 mod keys;
 mod parts;
 

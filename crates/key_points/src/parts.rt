@@ -1,6 +1,6 @@
 // The distinct keys and the points of keys that repeat.
 ghost use Rattle.std.specs.Prelude.{◌≡◌, ◌+◌, ◌<◌, ◌≤◌, ◌^◌, ℕ};
-ghost use Rattle.std.specs.Prelude.{length, slice_index, IfOk, OnOk, IsTrue};
+ghost use Rattle.std.specs.Prelude.{◌-◌, length, min, slice_index, vec_len, vec_capacity, IfOk, IsTrue};
 ghost use Rattle.std.specs.List.Sorted.{IsNonDecreasing};
 ghost use Rattle.key_points.specs.KeyPoints.{distinct_of, is_closed, xs_of, ys_of};
 ghost use Rattle.key_points.specs.Groups.{HoldsUpTo, IsGroupStart, IsGroupEnd};
@@ -16,23 +16,27 @@ pub struct Parts {
     pub ys: Vec<u32>,
 }
 
-/// The parts of sorted keys, one group of equal keys after the other.
-pub fn parts_of(alloc: Global, file: &[u64]) -> Result<Parts, NoMemory>
+/// The parts of sorted keys, one group of equal keys after the other. Room is taken once: for the
+/// distinct keys, of which there are so many, and for two points of each, but no more than there
+/// are keys.
+pub fn parts_of(alloc: Global, file: &[u64], count: usize) -> Result<Parts, NoMemory>
     requires never_falls { IsNonDecreasing file.now }
     requires few { length file.now < 2 ^ 32 }
+    requires counted { count ≡ length (distinct_of file.now) }
     ensures distinct { IfOk result (λ parts. parts.distinct.items ≡ distinct_of file.now) }
     ensures xs { IfOk result (λ parts. parts.xs.items ≡ xs_of file.now) }
     ensures ys { IfOk result (λ parts. parts.ys.items ≡ ys_of file.now) }
 {
+    let most = count.saturating_mul(2).min(file.len());
     let mut parts = Parts {
-        distinct: Vec::new(alloc),
-        xs: Vec::new(alloc),
-        ys: Vec::new(alloc),
+        distinct: Vec::with_capacity(alloc, count)?,
+        xs: Vec::with_capacity(alloc, most)?,
+        ys: Vec::with_capacity(alloc, most)?,
     };
     let mut at = 0;
     while at < file.len() {
         let end = end_of(file, at);
-        add_group(&mut parts, file, at, end)?;
+        add_group(&mut parts, file, at, end);
         at = end;
     }
     Ok(parts)
@@ -59,6 +63,7 @@ fn is_closed_group(file: &[u64], at: usize, end: usize) -> bool
     requires end { IsGroupEnd file.now at end }
     ensures closed { result ≡ is_closed file.now (slice_index file.now at) }
     ensures next { IsTrue result → slice_index file.now at < 18446744073709551615 }
+    ensures many { IsTrue result → at + 2 ≤ end }
 {
     if end - at == 1 || file[at] == u64::MAX {
         return false;
@@ -66,24 +71,33 @@ fn is_closed_group(file: &[u64], at: usize, end: usize) -> bool
     end == file.len() || file[end] > file[at] + 1
 }
 
-// Adds the equal keys of these places.
-fn add_group(parts: &mut Parts, file: &[u64], at: usize, end: usize) -> Result<(), NoMemory>
+// Adds the equal keys of these places, for which there is room.
+fn add_group(parts: &mut Parts, file: &[u64], at: usize, end: usize)
     requires never_falls { IsNonDecreasing file.now }
     requires few { length file.now < 2 ^ 32 }
     requires so_far { HoldsUpTo file.now at parts.old.distinct.items parts.old.xs.items
         parts.old.ys.items }
     requires start { IsGroupStart file.now at }
     requires end { IsGroupEnd file.now at end }
-    ensures { OnOk result (HoldsUpTo file.now end parts.new.distinct.items parts.new.xs.items
-        parts.new.ys.items) }
+    requires distinct_room { vec_len parts.old.distinct < vec_capacity parts.old.distinct }
+    requires xs_room { vec_len parts.old.xs + min 2 (end - at) ≤ vec_capacity parts.old.xs }
+    requires ys_room { vec_len parts.old.ys + min 2 (end - at) ≤ vec_capacity parts.old.ys }
+    ensures holds { HoldsUpTo file.now end parts.new.distinct.items parts.new.xs.items
+        parts.new.ys.items }
+    ensures distinct_len { vec_len parts.new.distinct ≡ vec_len parts.old.distinct + 1 }
+    ensures xs_len { vec_len parts.new.xs ≤ vec_len parts.old.xs + min 2 (end - at) }
+    ensures ys_len { vec_len parts.new.ys ≤ vec_len parts.old.ys + min 2 (end - at) }
+    ensures distinct_capacity { vec_capacity parts.new.distinct
+        ≡ vec_capacity parts.old.distinct }
+    ensures xs_capacity { vec_capacity parts.new.xs ≡ vec_capacity parts.old.xs }
+    ensures ys_capacity { vec_capacity parts.new.ys ≡ vec_capacity parts.old.ys }
 {
     let key = file[at];
-    parts.distinct.push(key)?;
-    parts.xs.push(key)?;
-    parts.ys.push(at as u32)?;
+    parts.distinct.push_reserved(key);
+    parts.xs.push_reserved(key);
+    parts.ys.push_reserved(at as u32);
     if is_closed_group(file, at, end) {
-        parts.xs.push(key + 1)?;
-        parts.ys.push(end as u32)?;
+        parts.xs.push_reserved(key + 1);
+        parts.ys.push_reserved(end as u32);
     }
-    Ok(())
 }

@@ -52,7 +52,7 @@ front-of xs long whole =
 digit-whole : (byte : ℕ) → is_ascii_digit byte ≡ true → is_blank byte ≡ false
 digit-whole byte is = grind (arith, nat_tests)
 
-bool-cases : (b : Bool) → (b ≡ true) ⊎ (b ≡ false)
+pub bool-cases : (b : Bool) → (b ≡ true) ⊎ (b ≡ false)
 bool-cases true = inl refl
 bool-cases false = inr refl
 

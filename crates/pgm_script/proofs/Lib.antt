@@ -7,3 +7,4 @@ pub mod TextLemmas
 pub mod ScriptLemmas
 pub mod KindLemmas
 pub mod CutLemmas
+pub mod PlainLemmas

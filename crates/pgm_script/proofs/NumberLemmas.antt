@@ -1,5 +1,5 @@
 -- The number that digits write, as far as they are read.
-use Rattle.std.proofs.Common.{◌≡◌, ℕ, ◌+◌, ◌-◌, ◌*◌, ◌<◌, Bool, true, false, ◌&&◌, if◌then◌else◌, leb, List, length, take, get_or, refl, sym, ap, ◌∙◌, subst, Some, None, arith}
+use Rattle.std.proofs.Common.{◌≡◌, ℕ, ◌+◌, ◌-◌, ◌*◌, ◌<◌, ◌≤◌, Bool, true, false, ◌&&◌, if◌then◌else◌, leb, List, length, take, get_or, refl, sym, ap, ◌∙◌, subst, Some, None, arith}
 use Rattle.std.specs.Char.{is_ascii_digit, digit_value}
 use Rattle.std.specs.List.{list_all}
 use Rattle.std.specs.Str.Parse.{digits_value}
@@ -8,7 +8,7 @@ use Rattle.std.proofs.lemmas.Int.Digits.{digits_value_more}
 use Rattle.std.proofs.lemmas.Str.Parse.{digits_value-take-le}
 use Rattle.std.proofs.lemmas.List.{take_all}
 use Rattle.std.proofs.lemmas.List.Folds.{list_all_more, list_all_at}
-use Rattle.pgm_script.specs.Cuts.{HasDigits}
+use Rattle.pgm_script.specs.Cuts.{HasDigits, AreEightDigits}
 use Rattle.pgm_script.specs.Words.{number_of}
 
 digit-is : (byte : ℕ) → is_ascii_digit byte ≡ true → digit_value byte ≡ byte - 48
@@ -53,3 +53,24 @@ number-is most word value all =
     let same : digits_value 10 word ≡ value = ap (digits_value 10) (sym whole) ∙ sym all.value_is in
     ap (λ (b : Bool). if b && leb (digits_value 10 word) most then Some (digits_value 10 word) else None) digits
     ∙ ap (λ (v : ℕ). if leb v most then Some v else None) same
+
+-- eight digits more
+pub digits-eight : (word : List ℕ) (at value a b c d e f g h : ℕ) → HasDigits word at value → AreEightDigits word at → a ≡ get_or word at 0 - 48 → b ≡ get_or word (at + 1) 0 - 48 →
+    c ≡ get_or word (at + 2) 0 - 48 → d ≡ get_or word (at + 3) 0 - 48 → e ≡ get_or word (at + 4) 0 - 48 → f ≡ get_or word (at + 5) 0 - 48 → g ≡ get_or word (at + 6) 0 - 48 →
+    h ≡ get_or word (at + 7) 0 - 48 → HasDigits word (at + 8) ((((((((value * 10 + a) * 10 + b) * 10 + c) * 10 + d) * 10 + e) * 10 + f) * 10 + g) * 10 + h)
+digits-eight word at value a b c d e f g h so_far eight is-a is-b is-c is-d is-e is-f is-g is-h =
+    let one = step at (at + 1) value a (omega arith) (omega arith) (omega arith) so_far is-a in
+    let two = step (at + 1) (at + 2) _ b (omega arith) (omega arith) (omega arith) one is-b in
+    let three = step (at + 2) (at + 3) _ c (omega arith) (omega arith) (omega arith) two is-c in
+    let four = step (at + 3) (at + 4) _ d (omega arith) (omega arith) (omega arith) three is-d in
+    let five = step (at + 4) (at + 5) _ e (omega arith) (omega arith) (omega arith) four is-e in
+    let six = step (at + 5) (at + 6) _ f (omega arith) (omega arith) (omega arith) five is-f in
+    let seven = step (at + 6) (at + 7) _ g (omega arith) (omega arith) (omega arith) six is-g in
+    step (at + 7) (at + 8) _ h (omega arith) (omega arith) (omega arith) seven is-h
+  where
+    step : (i next so digit : ℕ) → at ≤ i → i < at + 8 → next ≡ i + 1 → HasDigits word i so → digit ≡ get_or word i 0 - 48 → HasDigits word next (so * 10 + digit)
+    step i next so digit low high after has is =
+        let here : HasDigits word (i + 1) (so * 10 + (get_or word i 0 - 48)) =
+        digits-more word i so (get_or word i 0) has (omega (arith, high, eight.within)) refl (eight.digits i low high) in
+        let with_digit : HasDigits word (i + 1) (so * 10 + digit) = subst (λ (n : ℕ). HasDigits word (i + 1) (so * 10 + n)) (sym is) here in
+        subst (λ (k : ℕ). HasDigits word k (so * 10 + digit)) (sym after) with_digit

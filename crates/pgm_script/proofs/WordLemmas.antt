@@ -5,7 +5,7 @@ use Rattle.std.proofs.lemmas.Bool.Decides.{nat_tests}
 use Rattle.std.proofs.lemmas.List.{nil_from_length, length-drop, get_or-drop}
 use Rattle.pgm_script.specs.Words.{put_first, lines_of, is_blank, goes_on, words_of}
 
-differ : (a b : ℕ) → a ≢ b → eqb a b ≡ false
+pub differ : (a b : ℕ) → a ≢ b → eqb a b ≡ false
 differ a b ne = grind (arith, nat_tests)
 
 -- a text up to its first byte 10

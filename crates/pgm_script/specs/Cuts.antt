@@ -1,5 +1,5 @@
 -- A number at the front of a line. No public clause cites it.
-use Rattle.std.specs.Prelude.{◌≡◌, ℕ, ◌<◌, ◌≤◌, true, false, List, [], ◌∷◌, length, take, slice_index, Some, None}
+use Rattle.std.specs.Prelude.{◌≡◌, ℕ, ◌+◌, ◌<◌, ◌≤◌, true, false, List, [], ◌∷◌, length, take, slice_index, Some, None}
 use Rattle.std.specs.Char.{is_ascii_digit}
 use Rattle.std.specs.List.{list_all}
 use Rattle.std.specs.Str.Parse.{digits_value}
@@ -11,6 +11,11 @@ use Rattle.pgm_script.specs.Words.{words_of, number_of}
 pub record HasDigits (word : List ℕ) (i value : ℕ) : Type 0 where
   pub digits : list_all is_ascii_digit (take i word) ≡ true
   pub value_is : value ≡ digits_value 10 (take i word)
+
+-- eight digits stand from this place on
+pub record AreEightDigits (word : List ℕ) (at : ℕ) : Type 0 where
+  pub within : at + 8 ≤ length word
+  pub digits : (i : ℕ) → at ≤ i → i < at + 8 → is_ascii_digit (slice_index word i) ≡ true
 
 -- and no digit follows
 pub record ReadsDigits (line : List ℕ) (len value : ℕ) : Type 0 where

@@ -4,3 +4,4 @@ pub mod Scripts
 pub mod Verbs
 pub mod Texts
 pub mod Cuts
+pub mod Plain

@@ -7,6 +7,7 @@ ghost use Rattle.pgm_script.specs.declared.fault.ScriptFault.{ScriptFault};
 ghost use Rattle.pgm_script.specs.Scripts.{ReadsAs, HasOneReading, IsKind, IsLineOf};
 
 use crate::line::read_line;
+use crate::plain::plain_line;
 use crate::words::cut_line;
 use crate::{ScriptFault, ScriptKind, ScriptLine};
 use std::alloc::{AllocError, Global};
@@ -48,6 +49,11 @@ pub fn parse(alloc: Global, kind: ScriptKind, text: &[u8]) -> Result<Vec<ScriptL
     let mut number = 0;
     while !rest.is_empty() {
         number += 1;
+        if let Some((line, after)) = plain_line(kind, rest) {
+            push(&mut lines, line)?;
+            rest = after;
+            continue;
+        }
         let (line, after) = cut_line(rest);
         match read_line(kind, line) {
             Ok(Some(line)) => push(&mut lines, line)?,

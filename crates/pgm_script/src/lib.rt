@@ -12,6 +12,7 @@
 mod fault;
 mod grammar;
 mod line;
+mod plain;
 mod reading;
 mod script;
 #[cfg(test)]

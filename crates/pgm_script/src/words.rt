@@ -1,8 +1,10 @@
 // Lines cut off a text, words cut off a line, and the numbers that words write.
 ghost use Rattle.std.specs.Prelude.{◌≡◌, ◌≢◌, ◌≤◌, ◌<◌, ◌+◌, ◌*◌, ◌^◌, ℕ, [], ◌∷◌, Ok, Err, true};
 ghost use Rattle.std.specs.Prelude.{false, not, IfSome, IfNone, length, take, slice_index};
-ghost use Rattle.std.specs.Prelude.{MatchResult, SomeIff};
-ghost use Rattle.pgm_script.specs.Cuts.{ReadsDigits, HasTooGreat, BeginsWithNumber, BeginsWithout};
+ghost use Rattle.std.specs.Prelude.{MatchResult, SomeIff, IsTrue, ◌-◌};
+ghost use Rattle.pgm_script.specs.Cuts.{HasDigits, AreEightDigits, ReadsDigits, HasTooGreat};
+ghost use Rattle.pgm_script.specs.Cuts.{BeginsWithNumber, BeginsWithout};
+ghost use Rattle.std.specs.Char.{is_ascii_digit};
 ghost use Rattle.pgm_script.specs.Words.{is_blank, goes_on, lines_of, words_of};
 ghost use Rattle.pgm_script.specs.Scripts.{numbers_of};
 
@@ -139,20 +141,83 @@ fn is_divided(line: &[u8]) -> bool
     line.is_empty() || is_blank(line[0])
 }
 
-// The number that the first digits write and how many they are, where it is below 2^64.
+// The number that the first digits write and how many they are, where it is below 2^64. The first
+// sixteen always fit, so they are taken eight at a time where they are there.
 #[inline]
-fn digits(line: &[u8]) -> Option<(u64, usize)>
+pub(crate) fn digits(line: &[u8]) -> Option<(u64, usize)>
     ensures some { IfSome result (λ read. ReadsDigits line.now read.1 read.0) }
     ensures none { IfNone result (HasTooGreat line.now) }
 {
-    let mut value: u64 = 0;
-    for (i, byte) in line.iter().enumerate() {
+    if !has_eight_digits(line, 0) {
+        return digits_from(line, 0, 0);
+    }
+    let first = eight_digits(line, 0);
+    if !has_eight_digits(line, 8) {
+        return digits_from(line, 8, first);
+    }
+    digits_from(line, 16, first * 100_000_000 + eight_digits(line, 8))
+}
+
+// The same where the first digits, so many, write this number.
+#[inline]
+fn digits_from(line: &[u8], from: usize, number: u64) -> Option<(u64, usize)>
+    requires within { from ≤ length line.now }
+    requires so_far { HasDigits line.now from number }
+    ensures some { IfSome result (λ read. ReadsDigits line.now read.1 read.0) }
+    ensures none { IfNone result (HasTooGreat line.now) }
+{
+    let mut value = number;
+    for i in from..line.len() {
+        let byte = line[i];
         if !byte.is_ascii_digit() {
             return Some((value, i));
         }
-        value = pushed(value, *byte - b'0')?;
+        value = pushed(value, byte - b'0')?;
     }
     Some((value, line.len()))
+}
+
+// Whether eight digits stand from this place on.
+#[inline]
+fn has_eight_digits(line: &[u8], at: usize) -> bool
+    requires { at ≤ 8 }
+    ensures { IsTrue result → AreEightDigits line.now at }
+{
+    if line.len() < at + 8 {
+        return false;
+    }
+    let mut all = true;
+    for i in at..at + 8 {
+        all &= line[i].is_ascii_digit();
+    }
+    all
+}
+
+// The number that they write.
+#[inline]
+fn eight_digits(line: &[u8], at: usize) -> u64
+    requires few { at ≤ 8 }
+    requires eight { AreEightDigits line.now at }
+    ensures digits { (number : ℕ) → HasDigits line.now at number →
+        HasDigits line.now (at + 8) (number * 100000000 + result) }
+    ensures small { result < 100000000 }
+{
+    let a = digit(line, at) * 10 + digit(line, at + 1);
+    let b = digit(line, at + 2) * 10 + digit(line, at + 3);
+    let c = digit(line, at + 4) * 10 + digit(line, at + 5);
+    let d = digit(line, at + 6) * 10 + digit(line, at + 7);
+    (a * 100 + b) * 10_000 + (c * 100 + d)
+}
+
+// The value of the digit in this place.
+#[inline]
+fn digit(line: &[u8], i: usize) -> u64
+    requires inside { i < length line.now }
+    requires digit { is_ascii_digit (slice_index line.now i) ≡ true }
+    ensures value { result ≡ slice_index line.now i - 48 }
+    ensures small { result < 10 }
+{
+    u64::from(line[i] - b'0')
 }
 
 // The number with one more digit, where it fits.

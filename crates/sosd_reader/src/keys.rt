@@ -125,7 +125,11 @@ impl NumberList for KeyList {
     }
 
     fn take_in(&mut self, bytes: &[u8]) -> Result<(), KeyFault> {
-        push_keys(width_of(self.wide), &mut self.keys, bytes)
+        if self.wide {
+            push_keys::<8>(&mut self.keys, bytes)
+        } else {
+            push_keys::<4>(&mut self.keys, bytes)
+        }
     }
 }
 
@@ -138,24 +142,24 @@ fn width_of(wide: bool) -> usize
 }
 
 // Adds the whole numbers of these bytes, and stops at one that is below the key before it.
-fn push_keys(width: usize, keys: &mut Vec<u64>, bytes: &[u8]) -> Result<(), KeyFault>
-    requires kind { IsKind (of_keys width) }
-    requires all_follow { AllFollow (of_keys width) keys.old.items }
-    requires room { vec_len keys.old + length bytes.now / width ≤ vec_capacity keys.old }
-    ensures keys { OnOk result (GoesOn width keys.old.items bytes.now keys.new.items) }
-    ensures len { OnOk result (vec_len keys.new ≡ vec_len keys.old + length bytes.now / width) }
-    ensures all_follow { OnOk result (AllFollow (of_keys width) keys.new.items) }
+fn push_keys<const WIDTH: usize>(keys: &mut Vec<u64>, bytes: &[u8]) -> Result<(), KeyFault>
+    requires kind { IsKind (of_keys WIDTH) }
+    requires all_follow { AllFollow (of_keys WIDTH) keys.old.items }
+    requires room { vec_len keys.old + length bytes.now / WIDTH ≤ vec_capacity keys.old }
+    ensures keys { OnOk result (GoesOn WIDTH keys.old.items bytes.now keys.new.items) }
+    ensures len { OnOk result (vec_len keys.new ≡ vec_len keys.old + length bytes.now / WIDTH) }
+    ensures all_follow { OnOk result (AllFollow (of_keys WIDTH) keys.new.items) }
     ensures fault { IfErr result
-        (StopsAs (of_keys width) (length bytes.now / width) keys.old.items bytes.now) }
+        (StopsAs (of_keys WIDTH) (length bytes.now / WIDTH) keys.old.items bytes.now) }
 {
     let mut before = keys.last().copied().unwrap_or(0);
-    for i in 0..bytes.len() / width {
-        let key = first_number(width, &bytes[width * i..]);
+    for i in 0..bytes.len() / WIDTH {
+        let key = first_number::<WIDTH>(&bytes[WIDTH * i..]);
         if key < before {
             let at = keys.len() as u64;
             return Err(KeyFault::Unsorted { at, before, key });
         }
-        keys.push(key).unwrap();
+        keys.push_reserved(key);
         before = key;
     }
     Ok(())
@@ -163,13 +167,13 @@ fn push_keys(width: usize, keys: &mut Vec<u64>, bytes: &[u8]) -> Result<(), KeyF
 
 // The number whose bytes are the first ones, as many as it is wide, the lowest first.
 #[inline]
-fn first_number(width: usize, bytes: &[u8]) -> u64
-    requires kind { IsKind (of_keys width) }
-    requires whole { width ≤ length bytes.now }
-    ensures bytes { little_bytes width result ≡ take width bytes.now }
-    ensures small { result < 256 ^ width }
+fn first_number<const WIDTH: usize>(bytes: &[u8]) -> u64
+    requires kind { IsKind (of_keys WIDTH) }
+    requires whole { WIDTH ≤ length bytes.now }
+    ensures bytes { little_bytes WIDTH result ≡ take WIDTH bytes.now }
+    ensures small { result < 256 ^ WIDTH }
 {
-    if width == 8 {
+    if WIDTH == 8 {
         first_u64(bytes)
     } else {
         u64::from(first_u32(bytes))

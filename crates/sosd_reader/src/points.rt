@@ -144,7 +144,7 @@ fn push_coords(d: u32, coords: &mut Vec<u32>, bytes: &[u8]) -> Result<(), KeyFau
             let at = coords.len() as u64;
             return Err(KeyFault::Wide { at, value });
         }
-        coords.push(value).unwrap();
+        coords.push_reserved(value);
     }
     Ok(())
 }

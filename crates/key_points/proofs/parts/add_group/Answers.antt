@@ -14,21 +14,21 @@ moved keys end distinct xs ys distinct' xs' ys' d x y holds = record {
   ys_are = y ∙ holds.ys_are ∙ ap (map (lb keys)) (sym x);
 }
 
-pub returns-in_ok-push-5 : goal.returns-in_ok-push-5
-returns-in_ok-push-5 c =
+pub returns-then-is_closed_group-clause-holds : goal.returns-then-is_closed_group-clause-holds
+returns-then-is_closed_group-clause-holds c =
     let keys = c.args.file.now in
     let key = slice_index keys c.args.at in
     let parts = c.args.parts.now in
-    moved keys c.args.end _ _ _ _ _ _ c.in_ok-push.ensures.items
-    (c.in_ok-push-4.ensures.items ∙ ap (λ (l : List ℕ). l ++ (key + 1) ∷ []) c.in_ok-push-2.ensures.items ∙ append_assoc parts.xs.items (key ∷ []) ((key + 1) ∷ []))
-    (c.in_ok-push-5.ensures.items ∙ ap (λ (l : List ℕ). l ++ c.args.end ∷ []) c.in_ok-push-3.ensures.items ∙ append_assoc parts.ys.items (c.args.at ∷ []) (c.args.end ∷ []))
+    moved keys c.args.end _ _ _ _ _ _ c.push_reserved.ensures.items
+    (c.push_reserved-then-is_closed_group.ensures.items ∙ ap (λ (l : List ℕ). l ++ (key + 1) ∷ []) c.push_reserved-2.ensures.items ∙ append_assoc parts.xs.items (key ∷ []) ((key + 1) ∷ []))
+    (c.push_reserved-then-is_closed_group-2.ensures.items ∙ ap (λ (l : List ℕ). l ++ c.args.end ∷ []) c.push_reserved-3.ensures.items ∙ append_assoc parts.ys.items (c.args.at ∷ []) (c.args.end ∷ []))
     (HoldsUpTo-closed keys c.args.at c.args.end c.requires.never_falls c.requires.start c.requires.end parts.distinct.items parts.xs.items parts.ys.items
     c.requires.so_far (sym c.if-is_closed_group.ensures.closed))
 
-pub returns-else-is_closed_group : goal.returns-else-is_closed_group
-returns-else-is_closed_group c =
+pub returns-else-is_closed_group-clause-holds : goal.returns-else-is_closed_group-clause-holds
+returns-else-is_closed_group-clause-holds c =
     let keys = c.args.file.now in
     let parts = c.args.parts.now in
-    moved keys c.args.end _ _ _ _ _ _ c.in_ok-push.ensures.items c.in_ok-push-2.ensures.items c.in_ok-push-3.ensures.items
+    moved keys c.args.end _ _ _ _ _ _ c.push_reserved.ensures.items c.push_reserved-2.ensures.items c.push_reserved-3.ensures.items
     (HoldsUpTo-alone keys c.args.at c.args.end c.requires.never_falls c.requires.start c.requires.end parts.distinct.items parts.xs.items parts.ys.items
     c.requires.so_far (sym c.if-is_closed_group.ensures.closed))

@@ -36,3 +36,14 @@ pub returns-clause-kind : goal.returns-clause-kind
 returns-clause-kind c =
     let so_far : IsUnderWay c.args.kind c.args.text.now c.loop-rest.rest.now c.loop-rest.lines.items c.loop-rest.number = c.loop-rest.invariant.under_way in
     subst (λ (w : List ScriptLine). All (IsLineOf c.args.kind) w) (sym so_far.made) (script-of-kind c.args.kind so_far.before c.requires)
+
+pub loop-rest-smaller-in-Some : goal.loop-rest-smaller-in-Some
+loop-rest-smaller-in-Some c = c.in-Some.ensures.shorter
+
+pub loop-rest-preserved-in-Some : goal.loop-rest-preserved-in-Some
+loop-rest-preserved-in-Some c =
+    let plain = c.in-Some.ensures in
+    record {
+      under_way = under-way-push c.args.kind c.args.text.now _ _ _ _ _ c.loop-rest.number c.in-Some.line c.loop-rest.invariant.under_way plain.cut plain.is c.in_ok-push.ensures;
+      room = omega (arith, c.loop-rest.invariant.room, plain.shorter);
+    }

@@ -1,6 +1,5 @@
-use Rattle.std.proofs.Common.{rules, ◌≡◌, ℕ, ◌*◌, ◌-◌, ◌/◌, List, length, take, drop, slice_index, refl, sym, ap, ◌∙◌, subst, arith, [], ◌∷◌}
+use Rattle.std.proofs.Common.{rules, ◌≡◌, ℕ, ◌*◌, ◌-◌, ◌/◌, List, length, take, drop, slice_index, sym, ap, ◌∙◌, subst, arith}
 use Rattle.std.proofs.lemmas.List.{take_rest, get_or_push, length_push}
-use Rattle.std.proofs.lemmas.Slice.{pushed}
 use Rattle.byteorder.specs.Endian.{little_bytes}
 use Rattle.sosd_reader.specs.NumberFiles.Kind.{of_keys}
 use Rattle.sosd_reader.proofs.Widths.{over-last}
@@ -9,9 +8,9 @@ use Rattle.sosd_reader.proofs.Pushing.{under_way_none, under_way_push, under_way
 use Rattle.sosd_reader.proofs.keys.push_keys.Goals as goal
 
 pub returns-then-key-before-clause-fault : goal.returns-then-key-before-clause-fault
-returns-then-key-before-clause-fault c =
+returns-then-key-before-clause-fault g c =
     let bytes = c.args.bytes.now in
-    let w = c.args.width in
+    let w = g.row.WIDTH in
     let is : little_bytes w c.first_number-key.result ≡ take w (drop (w * c.loop-i.i) bytes) = c.first_number-key.ensures.bytes ∙ ap (take w) (take_rest bytes (w * c.loop-i.i)) in (
       tt,
       under_way_fails (of_keys w) (length bytes / w) _ bytes _ _ _ _ _ c.loop-i.invariant.under_way (omega arith) (omega (arith, c.loop-i.invariant.len)) (omega arith) c.first_number-key.ensures.small is
@@ -19,22 +18,22 @@ returns-then-key-before-clause-fault c =
     )
 
 pub loop-i-init : goal.loop-i-init
-loop-i-init c = record {
-  under_way = under_way_none (of_keys c.args.width) c.args.keys.now.items c.args.bytes.now c.requires.all_follow;
+loop-i-init g c = record {
+  under_way = under_way_none (of_keys g.row.WIDTH) c.args.keys.now.items c.args.bytes.now c.requires.all_follow;
   last = search rules;
   len = omega arith;
   room = c.requires.room;
 }
 
 pub loop-i-preserved : goal.loop-i-preserved
-loop-i-preserved c =
+loop-i-preserved g c =
     let bytes = c.args.bytes.now in
-    let w = c.args.width in
+    let w = g.row.WIDTH in
     let key = c.first_number-key.result in
     let keys = c.loop-i.keys.items in
     let is : little_bytes w key ≡ take w (drop (w * c.loop-i.i) bytes) = c.first_number-key.ensures.bytes ∙ ap (take w) (take_rest bytes (w * c.loop-i.i)) in
-    let items = pushed (key ∷ []) refl c.unwrap.ensures c.push.ensures.items in
-    let len = rw c.unwrap.ensures at c.push.ensures.len in
+    let items = c.push_reserved.ensures.items in
+    let len = c.push_reserved.ensures.len in
     record {
       under_way = rw items (under_way_push (of_keys w) _ bytes _ _ key c.loop-i.invariant.under_way c.first_number-key.ensures.small is
           (key-follows w keys _ key c.loop-i.invariant.last c.if-key-before.false));
@@ -44,8 +43,8 @@ loop-i-preserved c =
     }
 
 pub returns-clause-keys : goal.returns-clause-keys
-returns-clause-keys c =
-    let w = c.args.width in
+returns-clause-keys g c =
+    let w = g.row.WIDTH in
     let n = length c.args.bytes.now in
     let some = width-some (of_keys w) c.requires.kind in
     let last : c.loop-i.i ≡ n / w = omega arith in

@@ -1,7 +1,6 @@
-use Rattle.std.proofs.Common.{◌≡◌, ◌*◌, ◌/◌, length, take, drop, refl, ap, ◌∙◌, arith, [], ◌∷◌}
+use Rattle.std.proofs.Common.{◌≡◌, ◌*◌, ◌/◌, length, take, drop, refl, ap, ◌∙◌, arith}
 use Rattle.std.proofs.lemmas.Bool.{false≢true}
 use Rattle.std.proofs.lemmas.List.{take_rest}
-use Rattle.std.proofs.lemmas.Slice.{pushed}
 use Rattle.byteorder.specs.Endian.{little_bytes}
 use Rattle.sosd_reader.specs.NumberFiles.Kind.{of_points}
 use Rattle.sosd_reader.proofs.Widths.{over-last}
@@ -22,8 +21,8 @@ pub loop-i-preserved : goal.loop-i-preserved
 loop-i-preserved c =
     let bytes = c.args.bytes.now in
     let is : little_bytes 4 c.first_u32-value.result ≡ take 4 (drop (4 * c.loop-i.i) bytes) = c.first_u32-value.ensures.bytes ∙ ap (take 4) (take_rest bytes (4 * c.loop-i.i)) in
-    let items = pushed (c.first_u32-value.result ∷ []) refl c.unwrap.ensures c.push.ensures.items in
-    let len = rw c.unwrap.ensures at c.push.ensures.len in
+    let items = c.push_reserved.ensures.items in
+    let len = c.push_reserved.ensures.len in
     record {
       under_way = rw items (under_way_push (of_points c.args.d) _ bytes _ _ _ c.loop-i.invariant.under_way c.first_u32-value.ensures.small is (c.if-not-fits_range.ensures.0 refl));
       len = omega (arith, len, c.loop-i.invariant.len);

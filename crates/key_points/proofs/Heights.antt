@@ -1,0 +1,101 @@
+-- What one key more adds to the number of distinct keys, and to the heights of keys that stand once.
+use Rattle.std.proofs.Common.{◌≡◌, ◌≢◌, ℕ, ◌+◌, ◌-◌, ◌<◌, ◌≤◌, min, List, [], ◌∷◌, ◌++◌, length, take, slice_index, refl, sym, ap, ◌∙◌, subst, arith, length-append, zero, suc, inl, inr}
+use Rattle.std.proofs.lemmas.List.{take_more, take_all}
+use Rattle.std.specs.List.Sorted.{IsNonDecreasing, IsStrictlyIncreasing}
+use Rattle.window_search.specs.Searches.{lb}
+use Rattle.key_points.specs.KeyPoints.{distinct_of, xs_of, ys_of}
+use Rattle.key_points.proofs.DistinctLemmas.{distinct_of-same, distinct_of-new}
+use Rattle.key_points.proofs.AloneLemmas.{xs_of-alone, lb-rising, IsStrictlyIncreasing-distinct_of}
+use Rattle.key_points.specs.Groups.{IsGroupStart, IsGroupEnd}
+use Rattle.key_points.proofs.GroupLemmas.{distinct_of-group}
+use Rattle.std.proofs.lemmas.Bool.{cases_lt}
+use Rattle.key_points.proofs.PointOrder.{ys-length, ys-at}
+
+pub count-first : (keys : List ℕ) → length (distinct_of (take 1 keys)) ≡ min (length keys) 1
+count-first [] = refl
+count-first (key ∷ keys) = omega arith
+
+-- the keys up to this one end with the two
+last-two : (keys : List ℕ) (i : ℕ) → 1 ≤ i → i < length keys → take (i + 1) keys ≡ (take (i - 1) keys ++ slice_index keys (i - 1) ∷ []) ++ slice_index keys i ∷ []
+last-two keys i some inside =
+    let before : i ≡ i - 1 + 1 = omega arith in
+    take_more keys i 0 inside
+    ∙ ap (λ (l : List ℕ). l ++ slice_index keys i ∷ []) (ap (λ (k : ℕ). take k keys) before ∙ take_more keys (i - 1) 0 (omega (arith, inside)))
+
+last-one : (keys : List ℕ) (i : ℕ) → 1 ≤ i → i < length keys → take i keys ≡ take (i - 1) keys ++ slice_index keys (i - 1) ∷ []
+last-one keys i some inside =
+    let before : i ≡ i - 1 + 1 = omega arith in ap (λ (k : ℕ). take k keys) before ∙ take_more keys (i - 1) 0 (omega (arith, inside))
+
+pub count-same : (keys : List ℕ) (i : ℕ) → 1 ≤ i → i < length keys → slice_index keys i ≡ slice_index keys (i - 1) →
+    length (distinct_of (take (i + 1) keys)) ≡ length (distinct_of (take i keys))
+count-same keys i some inside same =
+    let front = take (i - 1) keys in
+    let key = slice_index keys (i - 1) in
+    ap (λ (l : List ℕ). length (distinct_of l)) (last-two keys i some inside ∙ ap (λ (k : ℕ). (front ++ key ∷ []) ++ k ∷ []) same)
+    ∙ ap length (distinct_of-same front key)
+    ∙ ap (λ (l : List ℕ). length (distinct_of l)) (sym (last-one keys i some inside))
+
+pub count-new : (keys : List ℕ) (i : ℕ) → 1 ≤ i → i < length keys → slice_index keys i ≢ slice_index keys (i - 1) →
+    length (distinct_of (take (i + 1) keys)) ≡ length (distinct_of (take i keys)) + 1
+count-new keys i some inside differ =
+    let front = take (i - 1) keys in
+    let key = slice_index keys (i - 1) in
+    ap (λ (l : List ℕ). length (distinct_of l)) (last-two keys i some inside)
+    ∙ ap length (distinct_of-new front key (slice_index keys i) (λ same. differ (sym same)))
+    ∙ length-append (distinct_of (front ++ key ∷ [])) (slice_index keys i ∷ [])
+    ∙ ap (λ (l : List ℕ). length (distinct_of l) + 1) (sym (last-one keys i some inside))
+
+pub count-all : (keys : List ℕ) (i : ℕ) → length keys ≤ i → length (distinct_of (take i keys)) ≡ length (distinct_of keys)
+count-all keys i past = ap (λ (l : List ℕ). length (distinct_of l)) (take_all i keys past)
+
+-- a key more takes none away
+counts-step : (keys : List ℕ) (i : ℕ) → 1 ≤ i → i < length keys → length (distinct_of (take i keys)) ≤ length (distinct_of (take (i + 1) keys))
+counts-step keys i some inside = elim (cases_lt (slice_index keys i) (slice_index keys (i - 1))) [
+  | inl less ↦ omega (arith, count-new keys i some inside (λ same. omega (arith, same, less)))
+  | inr rest ↦ elim (cases_lt (slice_index keys (i - 1)) (slice_index keys i)) [
+    | inl more ↦ omega (arith, count-new keys i some inside (λ same. omega (arith, same, more)))
+    | inr other ↦ omega (arith, count-same keys i some inside (omega (arith, rest, other)))
+  ]
+]
+
+counts-grow : (keys : List ℕ) (k m : ℕ) → 1 ≤ k → k + m ≤ length keys → length (distinct_of (take k keys)) ≤ length (distinct_of (take (k + m) keys))
+counts-grow keys k zero some within =
+    let same : k ≡ k + 0 = omega arith in omega (arith, ap (λ (n : ℕ). length (distinct_of (take n keys))) same)
+counts-grow keys k (suc m) some within =
+    let next : k + m + 1 ≡ k + suc m = omega arith in
+    omega (
+      arith,
+      counts-grow keys k m some (omega (arith, within)),
+      counts-step keys (k + m) (omega (arith, some)) (omega (arith, within)),
+      ap (λ (n : ℕ). length (distinct_of (take n keys))) next,
+    )
+
+-- before a group there are fewer distinct keys than in all
+pub group-more : (keys : List ℕ) (at end : ℕ) → IsNonDecreasing keys → IsGroupStart keys at → IsGroupEnd keys at end → length (distinct_of (take at keys)) + 1 ≤ length (distinct_of keys)
+group-more keys at end order start group =
+    let all : end + (length keys - end) ≡ length keys = omega (arith, group.within) in
+    omega (
+      arith,
+      ap length (distinct_of-group keys at end order start group),
+      length-append (distinct_of (take at keys)) (slice_index keys at ∷ []),
+      counts-grow keys end (length keys - end) (omega (arith, group.some)) (omega (arith, group.within)),
+      count-all keys (end + (length keys - end)) (omega (arith, all)),
+    )
+
+module _ (keys : List ℕ) (order : IsNonDecreasing keys) (alone : distinct_of keys ≡ keys) where
+  points : xs_of keys ≡ keys
+  points = xs_of-alone keys order alone
+
+  heights-length : length (ys_of keys) ≡ length keys
+  heights-length = ys-length keys ∙ ap length points
+
+  -- the height of a key that stands once is its place
+  pub heights-more : (place : ℕ) → place < length keys → take (place + 1) (ys_of keys) ≡ take place (ys_of keys) ++ place ∷ []
+  heights-more place inside =
+      let rises = subst (λ (xs : List ℕ). IsStrictlyIncreasing xs) alone (IsStrictlyIncreasing-distinct_of keys order) in
+      let is : slice_index (ys_of keys) place ≡ place =
+      ys-at keys place (omega (arith, ap length points, inside)) ∙ ap (λ (xs : List ℕ). lb keys (slice_index xs place)) points ∙ lb-rising keys rises place inside in
+      take_more (ys_of keys) place 0 (omega (arith, heights-length, inside)) ∙ ap (λ (k : ℕ). take place (ys_of keys) ++ k ∷ []) is
+
+  pub heights-all : (place : ℕ) → length keys ≤ place → take place (ys_of keys) ≡ ys_of keys
+  heights-all place past = take_all place (ys_of keys) (omega (arith, heights-length, past))
