@@ -4,6 +4,7 @@ use Rattle.std.specs.Prelude.{slice_set}
 use Rattle.std.proofs.lemmas.Bool.{cases_lt}
 use Rattle.std.proofs.lemmas.List.{get_or-set_same, get_or-set_other}
 use Rattle.std.proofs.Math.Nat.{pow-suc, pow-zero, mul-le-mul_left}
+use Rattle.window_search.specs.Searches.{IsPredecessor}
 use Rattle.window_search.proofs.Halving.{IsHalved}
 
 -- from one of `left + 1` places to one of `now_left + 1`, at most half as many without the last
@@ -47,3 +48,10 @@ lanes_done R asked places lane q place in_asked in_places before here k less = e
       subst (λ (j : ℕ). R (slice_index (slice_set asked lane q) j) (slice_index (slice_set places lane place) j)) same
       (subst (λ (a : ℕ). R a (slice_index (slice_set places lane place) lane)) (sym (get_or-set_same asked lane q 0 in_asked)) (subst (R q) (sym (get_or-set_same places lane place 0 in_places)) here))
 ]
+
+-- the run of a question, the predecessor among the first x of runs, is one of `count` from a low one on
+pub record HoldsRun (xs : List ℕ) (count q low : ℕ) : Type 0 where
+  pub holds : (run : ℕ) → IsPredecessor xs q run → (low ≤ run) × (run < low + count)
+
+pub holds_more : (xs : List ℕ) (count more q low : ℕ) → count ≤ more → HoldsRun xs count q low → HoldsRun xs more q low
+holds_more xs count more q low longer here = record { holds = λ run is. let both = here.holds run is in (both.0, omega (arith, both.1, longer)) }

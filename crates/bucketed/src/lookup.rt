@@ -48,7 +48,7 @@ impl<'a> Buckets<'a> {
 
     /// How many runs of level 0 begin at or before `q`.
     #[inline(always)]
-    pub(crate) fn begun<L: Ledger>(&self, q: u64, steps: &mut Steps<L>) -> u32
+    fn begun<L: Ledger>(&self, q: u64, steps: &mut Steps<L>) -> u32
         ensures runs { AreBegun (xs_at self.now.index.keys self.now.index.levels 1) q result }
         ensures cost { TakesAtMost (8 * (runs_beside self.now.index self.now.bits q + 1)) steps.old
             steps.new }
@@ -73,7 +73,7 @@ impl<'a> Buckets<'a> {
     /// At least and at most how many runs of level 0 begin at or before `q`: by the table of the
     /// index where that leaves open few, and else by the bucket and that table together.
     #[inline(always)]
-    fn begun_between(&self, q: u64) -> (u32, u32)
+    pub(crate) fn begun_between(&self, q: u64) -> (u32, u32)
         ensures between { IsBetween (xs_at self.now.index.keys self.now.index.levels 1) q result.0
             result.1 }
         ensures few { result.1 - result.0 < 4 * (runs_beside self.now.index self.now.bits q + 1) }
@@ -104,16 +104,4 @@ fn position_from<L: Ledger>(buckets: &Buckets<'_>, q: u64, blank: Blank) -> u32
 {
     let mut steps = Steps::<L>::new(blank);
     buckets.lower_bound(q, &mut steps)
-}
-
-/// How many runs begin at or before `q`, with a counter of its own.
-#[inline(always)]
-pub fn begun_from<L: Ledger>(buckets: &Buckets<'_>, q: u64, blank: Blank) -> u32
-    requires name { blank.name ≡ L.name }
-    requires parts { blank.parts ≡ L.parts }
-    requires one { blank.parts ≡ 1 }
-    ensures { AreBegun (xs_at buckets.now.index.keys buckets.now.index.levels 1) q result }
-{
-    let mut steps = Steps::<L>::new(blank);
-    buckets.begun(q, &mut steps)
 }

@@ -5,9 +5,6 @@ ghost use Rattle.window_search.specs.Searches.{lb, IsPredecessor};
 ghost use Rattle.levels.specs.Indexes.{xs_at};
 
 use crate::Buckets;
-use crate::lookup::begun_from;
-use std::marker::Brand;
-use std::sync::ledger::Blank;
 
 /// How many questions are searched in step. Their reads of memory don't wait for one another.
 const LANES: usize = 16;
@@ -16,9 +13,9 @@ impl<'a> Buckets<'a> {
     /// The position of each question in the file, in order, behind what the list has: how many keys
     /// of the file are below the question.
     ///
-    /// The list has room for as many more. The runs of sixteen questions are found, and then their
-    /// positions in step, so that their reads of memory don't wait for one another. Cannot fail and
-    /// takes no memory.
+    /// The list has room for as many more. Sixteen questions are searched in step, for their runs and
+    /// then for their positions, so that their reads of memory don't wait for one another. Cannot
+    /// fail and takes no memory.
     pub fn positions(&self, qs: &[u64], into: &mut Vec<u32>)
         requires room { vec_len into.old + length qs.now ≤ vec_capacity into.old }
         ensures positions { into.new.items
@@ -26,7 +23,8 @@ impl<'a> Buckets<'a> {
         ensures capacity { vec_capacity into.old ≤ vec_capacity into.new }
     {
         let mut rest = qs;
-        if !self.index().keys().is_empty() {
+        let index = self.index();
+        if !index.keys().is_empty() && index.levels() > 1 {
             while rest.len() >= LANES {
                 let (block, later) = rest.split_at(LANES);
                 self.push_block(block, into);
@@ -52,6 +50,7 @@ impl<'a> Buckets<'a> {
     #[inline(always)]
     fn push_block(&self, qs: &[u64], into: &mut Vec<u32>)
         requires some { 0 < length self.now.index.keys }
+        requires above { 1 < length self.now.index.levels }
         requires sixteen { length qs.now ≡ 16 }
         requires room { vec_len into.old + length qs.now ≤ vec_capacity into.old }
         ensures positions { into.new.items
@@ -60,28 +59,38 @@ impl<'a> Buckets<'a> {
     {
         let index = self.index();
         let first = index.keys().file()[0];
-        let mut asked = [0; LANES];
-        let mut places = [0; LANES];
+        let _runs = index.runs();
+        let (mut asked, mut lows, mut places) = ([0; LANES], [0; LANES], [0; LANES]);
+        let mut count: u32 = 1;
         for lane in 0..LANES {
             let q = qs[lane].max(first);
+            let (low, len) = self.run_among(q);
             asked[lane] = q;
-            places[lane] = self.run_of(q);
+            lows[lane] = low;
+            count = count.max(len);
         }
+        index.runs_in_step(&asked, &lows, count, &mut places);
         index.lower_bounds_in(&asked, &mut places);
         for place in &places {
             let _ = into.push(*place);
         }
     }
 
-    /// The run of level 0 that begins last at or before `q`.
+    /// The first of the runs of level 0 among which is the last one that begins at or before `q`,
+    /// and how many they are.
     #[inline(always)]
-    fn run_of(&self, q: u64) -> u32
+    fn run_among(&self, q: u64) -> (u32, u32)
         requires some { 0 < length self.now.index.keys }
         requires from_first { slice_index self.now.index.keys 0 ≤ q }
-        ensures { IsPredecessor (xs_at self.now.index.keys self.now.index.levels 1) q result }
+        ensures some { 1 ≤ result.1 }
+        ensures most { result.1 ≤ length (xs_at self.now.index.keys self.now.index.levels 1) }
+        ensures holds { (run : ℕ) →
+            IsPredecessor (xs_at self.now.index.keys self.now.index.levels 1) q run →
+            (result.0 ≤ run) × (run < result.0 + result.1) }
     {
-        let index = self.index();
-        let _runs = index.runs();
-        begun_from::<Brand>(self, q, Blank::new(1)) - 1
+        let _runs = self.index().runs();
+        let (low, high) = self.begun_between(q);
+        let run = low.saturating_sub(1);
+        (run, high.saturating_sub(run).max(1))
     }
 }

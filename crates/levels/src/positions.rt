@@ -115,7 +115,13 @@ impl Index {
 
     /// The runs of level 0, each of which is among `count` places from its low end on.
     #[inline(always)]
-    fn runs_among(&self, qs: &[u64; 16], lows: &[u32; 16], count: u32, runs: &mut [u32; 16])
+    pub(crate) fn runs_among(
+        &self,
+        qs: &[u64; 16],
+        lows: &[u32; 16],
+        count: u32,
+        runs: &mut [u32; 16],
+    )
         requires never_falls { IsNonDecreasing self.now.keys }
         requires few { length self.now.keys < 2 ^ 32 }
         requires index { IsIndex self.now.keys self.now.eps self.now.eps_rec self.now.levels }

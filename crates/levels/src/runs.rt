@@ -4,7 +4,7 @@ ghost use Rattle.std.specs.List.Sorted.{IsNonDecreasing};
 ghost use Rattle.window_search.specs.Searches.{lb, IsPredecessor};
 ghost use Rattle.levels.specs.Costs.{TakesAtMost};
 ghost use Rattle.levels.specs.Indexes.{IsIndex, xs_at};
-ghost use Rattle.levels.specs.InStep.{AreRuns};
+ghost use Rattle.levels.specs.InStep.{AreNear, AreRuns};
 
 use crate::index::Index;
 use budget::Steps;
@@ -64,6 +64,22 @@ impl Index {
         let keys = self.keys().file();
         let (low, high) = self.window_by_model(0, run, q);
         lower_in(keys, low, high, q, steps)
+    }
+
+    /// The runs of level 0 of sixteen questions, in step: the last one that begins at or before
+    /// each question, which is not below the first key and has its run among `count` places from
+    /// its low end on. Cannot fail and takes no memory.
+    #[inline(always)]
+    pub fn runs_in_step(&self, qs: &[u64; 16], lows: &[u32; 16], count: u32, runs: &mut [u32; 16])
+        requires some { 0 < length self.now.keys }
+        requires above { 1 < length self.now.levels }
+        requires from_first { (k : ℕ) → k < 16 →
+            slice_index self.now.keys 0 ≤ slice_index qs.now k }
+        requires near { AreNear (xs_at self.now.keys self.now.levels 1) qs.now lows.now count }
+        ensures { AreRuns (xs_at self.now.keys self.now.levels 1) qs.now runs.new }
+    {
+        let _runs = self.runs();
+        self.runs_among(qs, lows, count, runs);
     }
 
     /// The lower bounds of sixteen questions, in step, each in the window of its run of level 0:

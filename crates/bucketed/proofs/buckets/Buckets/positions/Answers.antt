@@ -18,6 +18,7 @@ loop-rest-preserved c =
     c.push_block.ensures.positions in
     record {
       some = inv.some;
+      above = inv.above;
       before = (inv.before.0 ++ block, more.0, more.1);
       room = omega (
         arith,

@@ -7,6 +7,7 @@ use Rattle.bucketed.proofs.buckets.Buckets.positions.Given as goal
 abbrev pub invariant-loop-rest : goal.invariant-loop-rest
 invariant-loop-rest l = record {
   some : 0 < length l.self.index.keys;
+  above : 1 < length l.self.index.levels;
   before : (before : List ℕ) × (l.fn.qs ≡ before ++ l.rest) × (l.into.items ≡ l.fn.into.items ++ map (lb l.self.index.keys) before);
   room : vec_len l.into + length l.rest ≤ vec_capacity l.into;
   capacity : vec_capacity l.fn.into ≤ vec_capacity l.into;
