@@ -13,9 +13,9 @@ first c =
     let few : half < 18446744073709551616 = pow_below c.highest_bit-shift.result 64 c.highest_bit-shift.ensures.few in
     elim c.if-keys-rest.branch [
       | then-keys-rest w ↦ subst (λ place. IsAmong keys c.args.q place half) (sym w.place-is)
-        (first-above keys c.args.q _ half c.requires.never_falls c.highest_bit-shift.ensures.at_most some (omega arith) w.if-keys-rest.true)
+          (first-above keys c.args.q _ half c.requires.never_falls c.highest_bit-shift.ensures.at_most some (omega arith) w.if-keys-rest.true)
       | else-keys-rest w ↦ subst (λ place. IsAmong keys c.args.q place half) (sym w.place-is)
-        (first-below keys c.args.q _ half c.requires.never_falls c.highest_bit-shift.ensures.at_most c.highest_bit-shift.ensures.above (omega arith) w.if-keys-rest.false)
+          (first-below keys c.args.q _ half c.requires.never_falls c.highest_bit-shift.ensures.at_most c.highest_bit-shift.ensures.above (omega arith) w.if-keys-rest.false)
     ]
 
 pub loop-shift-init : goal.loop-shift-init
