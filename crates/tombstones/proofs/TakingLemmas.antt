@@ -1,11 +1,11 @@
 -- Taking the winner of the least key off the fronts of two lists: a list whose first key is the least loses it.
-use Rattle.std.proofs.Common.{◌≡◌, ℕ, ◌<◌, ◌≤◌, ◌==◌, leb, Bool, true, false, if◌then◌else◌, List, ◌∷◌, drop, Some, None, refl, sym, ap, ◌∙◌, subst, inl, inr, arith}
+use Rattle.std.proofs.Common.{◌≡◌, ℕ, ◌<◌, ◌≤◌, ◌==◌, leb, Bool, true, false, if◌then◌else◌, List, ◌∷◌, drop, Some, None, refl, arith}
 use Rattle.std.specs.Int.{from_bool}
 use Rattle.std.proofs.lemmas.Bool.{leb-true, leb-false}
 use Rattle.std.proofs.lemmas.Bool.Decides.{nat_tests}
 use Rattle.tombstones.specs.declared.entry.Entry.{Entry}
-use Rattle.tombstones.specs.Entries.{IsAscending, entry_at, winner_at}
-use Rattle.tombstones.proofs.EntryLemmas.{ascending_rest, absent_in_rest, absent_below_first, absent_in_empty, absent_in_both}
+use Rattle.tombstones.specs.Entries.{IsAscending, winner_at}
+use Rattle.tombstones.proofs.EntryLemmas.{absent_in_rest, absent_below_first, absent_in_both}
 
 -- the entry is the winner at its key, up to which nothing is left, and at every other key the winner stays
 pub record IsTaken (newer older newer_left older_left : List Entry) (entry : Entry) : Type 0 where
