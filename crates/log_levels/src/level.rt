@@ -24,8 +24,9 @@ pub const EPS: u32 = 64;
 
 pub const EPS_REC: u32 = 4;
 
-/// A list of so many keys or fewer is searched by halving, which is then faster than the index.
-const SHORT: usize = 16384;
+/// A list of so many keys or fewer is searched by halving. The keys of longer ones aren't all in a
+/// near cache, and then a search whose branches are foretold is faster, since it reads ahead.
+const SHORT: usize = 4096;
 
 /// The entries of a level, by rising key, with the index of their keys and a filter of them. Seen
 /// as the entries. It is never changed.

@@ -1,5 +1,5 @@
 -- The leading zeros and the highest bit make up 64.
-use Rattle.std.proofs.Common.{◌≡◌, ◌+◌, ◌*◌, ◌^◌, ◌<◌, ◌≤◌, ℕ, ◌-◌, suc, sym, subst, arith}
+use Rattle.std.proofs.Common.{◌≡◌, ◌*◌, ◌^◌, ◌<◌, ◌≤◌, ◌-◌, subst, arith}
 use Rattle.std.proofs.lemmas.Nat.{leading_top}
 use Rattle.std.specs.Int.{leading_zeros, w64}
 use Rattle.log_levels.proofs.halving.highest_bit.Goals as goal

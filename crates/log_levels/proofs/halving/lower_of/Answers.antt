@@ -1,5 +1,5 @@
 -- The first step leaves as many places as the highest bit of the length has: those from 0 on, or those behind the rest.
-use Rattle.std.proofs.Common.{◌≡◌, ◌+◌, ◌-◌, ◌*◌, ◌%◌, ◌^◌, ◌<◌, length, sym, subst, arith}
+use Rattle.std.proofs.Common.{◌^◌, ◌<◌, sym, subst, arith}
 use Rattle.std.proofs.lemmas.Nat.{pow_pos, pow_below}
 use Rattle.log_levels.proofs.HalvingLemmas.{IsAmong, first-above, first-below}
 use Rattle.log_levels.proofs.halving.lower_of.Goals as goal
