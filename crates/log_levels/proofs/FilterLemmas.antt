@@ -1,9 +1,8 @@
 -- What a filter keeps when further bits are set, and that it denies no key of its entries.
-use Rattle.std.proofs.Common.{◌≡◌, ℕ, ◌<◌, List, length, slice_index, slice_index_or, slice_set, get_or, set, bit_and, bit_or, Option, Some, None, refl, sym, ap, ◌∙◌, subst, inl, inr, arith}
+use Rattle.std.proofs.Common.{◌≡◌, ℕ, ◌<◌, List, length, slice_index, slice_set, get_or, set, bit_and, bit_or, Option, Some, None, refl, sym, ap, ◌∙◌, subst, inl, inr}
 use Rattle.std.proofs.lemmas.List.{get_or-set_same, get_or-set_other, length-set}
 use Rattle.std.proofs.lemmas.Nat.{and_assoc, and_or_self, or_comm}
 use Rattle.std.proofs.lemmas.Bool.{cases_eq}
-use Rattle.std.specs.List.{All}
 use Rattle.tombstones.specs.declared.entry.Entry.{Entry}
 use Rattle.tombstones.specs.Entries.{entry_at}
 use Rattle.tombstones.proofs.CallerLemmas.{key-entry_at, Contains-entry_at}

@@ -1,6 +1,6 @@
 -- The filters of levels: a few bits of one word for each key, set. No public clause cites it.
 -- Sources: B. H. Bloom, Space/time trade-offs in hash coding with allowable errors, CACM 13(7), 1970; F. Putze, P. Sanders and J. Singler, Cache-, hash- and space-efficient Bloom filters, WEA 2007 (all bits of a key in one block).
-use Rattle.std.specs.Prelude.{◌≡◌, ℕ, ◌+◌, ◌*◌, ◌/◌, ◌%◌, ◌^◌, List, length, slice_index, bit_and, bit_or, bit_xor, All}
+use Rattle.std.specs.Prelude.{◌≡◌, ℕ, ◌*◌, ◌/◌, ◌%◌, ◌^◌, List, length, slice_index, bit_and, bit_or, bit_xor, All}
 use Rattle.tombstones.specs.declared.entry.Entry.{Entry}
 
 -- both halves of the product of a key with 2^64 by the golden ratio, folded into one word

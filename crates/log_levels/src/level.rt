@@ -1,6 +1,7 @@
 // A level as it is kept.
 ghost use Rattle.std.specs.Prelude.{◌≡◌, ◌+◌, ◌^◌, ◌<◌, ◌≤◌, ℕ};
 ghost use Rattle.std.specs.Prelude.{None, IfSome, length, vec_len, IfOk};
+ghost use Rattle.std.specs.List.Sorted.{IsNonDecreasing};
 ghost use Rattle.std.specs.Option.{option_copied};
 ghost use Rattle.levels.specs.Indexes.{IsIndex};
 ghost use Rattle.tombstones.specs.Entries.{IsAscending, entry_at};
@@ -11,6 +12,7 @@ ghost use Rattle.log_levels.specs.Shapes.{level_keys};
 
 use crate::builder::Builder;
 use crate::filter::Filter;
+use crate::halving::lower_of;
 use budget::NoMemory;
 use levels::{Index, Keys};
 use std::alloc::Global;
@@ -21,6 +23,10 @@ use tombstones::Entry;
 pub const EPS: u32 = 64;
 
 pub const EPS_REC: u32 = 4;
+
+/// A list of so many keys or fewer is searched by halving. The keys of longer ones aren't all in a
+/// near cache, and then a search whose branches are foretold is faster, since it reads ahead.
+const SHORT: usize = 4096;
 
 /// The entries of a level, by rising key, with the index of their keys and a filter of them. Seen
 /// as the entries. It is never changed.
@@ -82,6 +88,7 @@ impl Level {
     #[inline]
     fn keys(&self) -> &[u64]
         ensures keys { result.now ≡ level_keys self.now }
+        ensures never_falls { IsNonDecreasing result.now }
         ensures ascending { IsAscending self.now }
     {
         let _ = &self.entries;
@@ -94,7 +101,10 @@ impl Level {
         ensures place { result ≡ lb (level_keys self.now) q }
         ensures within { result ≤ length self.now }
     {
-        let _ = &self.entries;
+        let keys = self.keys();
+        if keys.len() <= SHORT {
+            return lower_of(keys, q);
+        }
         self.index.position(q) as usize
     }
 

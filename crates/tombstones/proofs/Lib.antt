@@ -3,3 +3,4 @@ pub mod EntryLemmas
 pub mod Order
 pub mod PartLemmas
 pub mod Progress
+pub mod TakingLemmas

@@ -1,10 +1,10 @@
 ghost use Rattle.std.specs.Prelude.{◌≡◌, ℕ, ◌+◌, ◌<◌, ◌≤◌, ◌==◌};
-ghost use Rattle.std.specs.Prelude.{if◌then◌else◌, length};
+ghost use Rattle.std.specs.Prelude.{if◌then◌else◌, length, drop};
+ghost use Rattle.std.specs.Int.{from_bool};
 ghost use Rattle.std.specs.Prelude.{Some, None, IfNone, IfSome};
 ghost use Rattle.tombstones.specs.Entries.{IsAscending, winner_at};
 
 use super::Entry;
-use std::cmp::Ordering;
 
 /// What a merge has not yet taken of its two lists.
 #[derive(Clone, Copy)]
@@ -41,21 +41,15 @@ impl Remaining<'_> {
             length self.old.newer.now + length self.old.older.now) }
     {
         match (self.newer.split_first(), self.older.split_first()) {
-            (Some((new, newer)), Some((old, older))) => match new.key.cmp(&old.key) {
-                Ordering::Less => {
-                    self.newer = newer;
-                    Some(*new)
-                }
-                Ordering::Equal => {
-                    self.newer = newer;
-                    self.older = older;
-                    Some(*new)
-                }
-                Ordering::Greater => {
-                    self.older = older;
-                    Some(*old)
-                }
-            },
+            (Some((new, _)), Some((old, _))) => {
+                // The places move by the answers: of branches on them half were foretold wrongly.
+                let takes_new = new.key <= old.key;
+                let takes_old = old.key <= new.key;
+                let least = if takes_new { *new } else { *old };
+                self.newer = behind(self.newer, takes_new);
+                self.older = behind(self.older, takes_old);
+                Some(least)
+            }
             (Some((new, newer)), None) => {
                 self.newer = newer;
                 Some(*new)
@@ -67,4 +61,13 @@ impl Remaining<'_> {
             (None, None) => None,
         }
     }
+}
+
+/// The entries without the first one, where it is taken.
+#[inline(always)]
+fn behind(entries: &[Entry], is_taken: bool) -> &[Entry]
+    requires { 0 < length entries.now }
+    ensures { result.now ≡ drop (from_bool is_taken) entries.now }
+{
+    &entries[usize::from(is_taken)..]
 }

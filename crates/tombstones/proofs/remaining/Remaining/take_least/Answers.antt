@@ -1,46 +1,26 @@
--- Each list that loses its first entry stays ascending, and has no entry up to the key taken; the other list has none by
--- the order of the two first keys.
-use Rattle.std.proofs.Common.{◌≡◌, ◌<◌, arith}
-use Rattle.std.proofs.lemmas.Bool.Decides.{nat_tests}
-use Rattle.std.proofs.lemmas.Cmp.{ranked}
-use Rattle.tombstones.proofs.EntryLemmas.{ascending_rest, absent_in_rest, absent_below_first, absent_in_empty, absent_in_both}
+-- Of two lists those lose their first entry whose key is the least; a list alone has no entry up to the key taken.
+use Rattle.std.proofs.Common.{◌≡◌, leb, if◌then◌else◌, sym, ◌∙◌}
+use Rattle.std.proofs.lemmas.Bool.{le-leb, lt-leb, cond-true, cond-false}
+use Rattle.tombstones.proofs.EntryLemmas.{ascending_rest, absent_in_rest, absent_in_empty, absent_in_both}
+use Rattle.tombstones.proofs.TakingLemmas.{IsTaken, taken-by_answers}
 use Rattle.tombstones.proofs.remaining.Remaining.take_least.Goals as goal
+use Rattle.tombstones.proofs.remaining.Remaining.take_least.Goals.{then-takes_new, else-takes_new}
 
-pub returns-in-Less-clause-newer_ascending : goal.returns-in-Less-clause-newer_ascending
-returns-in-Less-clause-newer_ascending c = ascending_rest _ _ _ c.in-Some-Some.ensures.cases.0 c.requires.newer_ascending
+taken : (c : goal.After-self-in-Some-Some-1) → IsTaken c.args.self.now.newer.now c.args.self.now.older.now c.behind-self.result.now c.behind-self-in-Some-Some.result.now c.if-takes_new.least
+taken c =
+    let new = c.in-Some-Some.new.now in
+    let old = c.in-Some-Some.old.now in
+    let chosen : c.if-takes_new.least ≡ (if leb new.key old.key then new else old) = elim c.if-takes_new.branch [
+      | then-takes_new w ↦ w.least-is ∙ sym (cond-true (leb new.key old.key) new old (le-leb _ _ w.if-takes_new.true))
+      | else-takes_new w ↦ w.least-is ∙ sym (cond-false (leb new.key old.key) new old (lt-leb _ _ w.if-takes_new.false))
+    ] in
+    taken-by_answers c.args.self.now.newer.now c.args.self.now.older.now _ _ _ _ new old _ c.requires.newer_ascending c.requires.older_ascending c.in-Some-Some.ensures.cases.0 c.in-Some-Some.ensures'.cases.0 c.behind-self.ensures c.behind-self-in-Some-Some.ensures chosen
 
-pub returns-in-Less-clause-least : goal.returns-in-Less-clause-least
-returns-in-Less-clause-least c key le =
-    let less : c.in-Some-Some.new.now.key < c.in-Some-Some.old.now.key = ranked _ _ _ c.in-Less.ensures in
-    let newer_absent = absent_in_rest _ _ _ c.in-Some-Some.ensures.cases.0 c.requires.newer_ascending key le in
-    let older_absent = absent_below_first _ _ _ c.in-Some-Some.ensures'.cases.0 c.requires.older_ascending key (omega arith) in
-    absent_in_both _ _ key newer_absent older_absent
+pub returns-after-takes_new-clause-taken : goal.returns-after-takes_new-clause-taken
+returns-after-takes_new-clause-taken c = (taken c).taken
 
-pub returns-in-Equal-clause-newer_ascending : goal.returns-in-Equal-clause-newer_ascending
-returns-in-Equal-clause-newer_ascending c = ascending_rest _ _ _ c.in-Some-Some.ensures.cases.0 c.requires.newer_ascending
-
-pub returns-in-Equal-clause-older_ascending : goal.returns-in-Equal-clause-older_ascending
-returns-in-Equal-clause-older_ascending c = ascending_rest _ _ _ c.in-Some-Some.ensures'.cases.0 c.requires.older_ascending
-
-pub returns-in-Equal-clause-least : goal.returns-in-Equal-clause-least
-returns-in-Equal-clause-least c key le =
-    let equal : c.in-Some-Some.new.now.key ≡ c.in-Some-Some.old.now.key = ranked _ _ _ c.in-Equal.ensures in
-    let newer_absent = absent_in_rest _ _ _ c.in-Some-Some.ensures.cases.0 c.requires.newer_ascending key le in
-    let older_absent = absent_in_rest _ _ _ c.in-Some-Some.ensures'.cases.0 c.requires.older_ascending key (omega arith) in
-    absent_in_both _ _ key newer_absent older_absent
-
-pub returns-in-Greater-clause-older_ascending : goal.returns-in-Greater-clause-older_ascending
-returns-in-Greater-clause-older_ascending c = ascending_rest _ _ _ c.in-Some-Some.ensures'.cases.0 c.requires.older_ascending
-
-pub returns-in-Greater-clause-least : goal.returns-in-Greater-clause-least
-returns-in-Greater-clause-least c key le =
-    let greater : c.in-Some-Some.old.now.key < c.in-Some-Some.new.now.key = ranked _ _ _ c.in-Greater.ensures in
-    let newer_absent = absent_below_first _ _ _ c.in-Some-Some.ensures.cases.0 c.requires.newer_ascending key (omega arith) in
-    let older_absent = absent_in_rest _ _ _ c.in-Some-Some.ensures'.cases.0 c.requires.older_ascending key le in
-    absent_in_both _ _ key newer_absent older_absent
-
-pub returns-in-Greater-clause-taken : goal.returns-in-Greater-clause-taken
-returns-in-Greater-clause-taken c key = grind (arith, nat_tests, absent_below_first _ _ _ c.in-Some-Some.ensures.cases.0 c.requires.newer_ascending key)
+pub returns-after-takes_new-clause-least : goal.returns-after-takes_new-clause-least
+returns-after-takes_new-clause-least c = (taken c).least
 
 pub returns-in-Some-None-clause-newer_ascending : goal.returns-in-Some-None-clause-newer_ascending
 returns-in-Some-None-clause-newer_ascending c = ascending_rest _ _ _ c.in-Some-None.ensures.cases.0 c.requires.newer_ascending
