@@ -13,11 +13,8 @@ use zorder::dilated_coordinate;
 fn raised(place: u32, lesser: u64, greater: u64) -> u32
     ensures { IsRaised place lesser greater result }
 {
-    if lesser < greater {
-        place.max(highest_difference(lesser, greater))
-    } else {
-        place
-    }
+    let higher = place.max(highest_difference(lesser, greater));
+    if lesser < greater { higher } else { place }
 }
 
 /// The highest place that decides a coordinate of `z` to be out of its interval, or 0.
@@ -45,11 +42,8 @@ fn zeros_with_room(d: u32, c: u32, z: u64, high: u64) -> u64
     ensures { (i : ℕ) → (bit_at result i ≡ 1) ↔ ((i % d ≡ c) × HasRoom d z high i) }
 {
     let (at, most) = (dilated_coordinate(d, c, z), dilated_coordinate(d, c, high));
-    if at < most {
-        dilated_coordinate(d, c, !z) & (u64::MAX >> (63 - highest_difference(at, most)))
-    } else {
-        0
-    }
+    let zeros = dilated_coordinate(d, c, !z) & (u64::MAX >> (63 - highest_difference(at, most)));
+    if at < most { zeros } else { 0 }
 }
 
 /// Those of all coordinates.
