@@ -1,12 +1,12 @@
 -- A number that is filled down by steps that double in length, and what it says of the places where two numbers differ.
-use Rattle.std.proofs.Common.{◌≡◌, ◌↔◌, ℕ, ◌+◌, ◌-◌, ◌*◌, ◌/◌, ◌%◌, ◌^◌, ◌<◌, ◌≤◌, min, max, w64, sym, ap, ◌∙◌, subst, inl, inr, refl, arith}
+use Rattle.std.proofs.Common.{◌≡◌, ◌↔◌, ℕ, ◌+◌, ◌-◌, ◌*◌, ◌/◌, ◌%◌, ◌^◌, ◌<◌, ◌≤◌, min, max, w64, sym, ap, ◌∙◌, inl, inr, refl, arith}
 use Rattle.std.specs.Prelude.{bit_and, bit_or, bit_xor}
 use Rattle.std.specs.Int.{bit_at, bit_not}
 use Rattle.std.proofs.lemmas.Bool.{cases_lt, cases_eq}
 use Rattle.std.proofs.lemmas.Nat.{div-add-mod', mod_below}
 use Rattle.std.proofs.Math.Nat.{add-mul-mod_self_right, div-le_self, mul-le-mul_right}
 use Rattle.std.proofs.lemmas.Nat.Bits.{bit_at-lt, bit_at_above, bit_at_and, bit_at_or, bit_at_xor, bit_at_not}
-use Rattle.zorder.proofs.CallerLemmas.{DiffersAt, bit_at-shr, bit_at-own, bit_at-other, own_from_one, dilated-lt}
+use Rattle.zorder.proofs.CallerLemmas.{DiffersAt, bit_at-shr, bit_at-own, bit_at-other}
 use Rattle.zorder.specs.Dilated.{dilated}
 use Rattle.bigmin.specs.Openings.{IsFilledDown}
 

@@ -1,6 +1,5 @@
 -- The distances compare as the coordinate and its ends do.
-use Rattle.std.proofs.Common.{◌≡◌, ℕ, ◌+◌, ◌<◌, ◌≤◌, IsTrue, sym, subst, inl, inr, arith}
-use Rattle.std.specs.Prelude.{◌&&◌}
+use Rattle.std.proofs.Common.{◌≤◌, subst, inl, inr, arith}
 use Rattle.std.proofs.lemmas.Bool.{and_parts, and_from, cases_eq, leb-true, le-leb}
 use Rattle.zorder.specs.Dilated.{dilated}
 use Rattle.boxes.proofs.OrderedCorners.{distance_within}

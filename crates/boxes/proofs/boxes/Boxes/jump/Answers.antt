@@ -1,7 +1,6 @@
 -- No place is looked at before the lower bound of the next code inside, and none at all where there is no such code.
-use Rattle.std.proofs.Common.{◌+◌, ◌<◌, length, slice_index, sym, ap, subst, arith}
+use Rattle.std.proofs.Common.{◌<◌, length, slice_index, sym, ap, subst, arith}
 use Rattle.zorder.specs.Codes.{code}
-use Rattle.zorder.specs.Regions.{IsInside}
 use Rattle.bigmin.specs.NextInBox.{IsNextInBox, HasNoNext}
 use Rattle.window_search.proofs.CallerLemmas.{IsLowerBound-lb}
 use Rattle.boxes.specs.BoxAnswers.{IsLookedAt}
