@@ -14,8 +14,9 @@ use bigmin::next_by_corners;
 use zorder::{Corners, Region, dilated_coordinate, is_empty};
 
 /// How many places behind a code are looked through for the end of a jump, before the index is
-/// asked. They are two lines of the cache; a lookup reads more.
-const NEAR: usize = 16;
+/// asked. They are four lines of the cache side by side; a lookup reads as many, one after the
+/// other.
+const NEAR: usize = 32;
 
 /// Where a walk has come to: the next place that is to be looked at, or the end of the codes, and
 /// at how many places it looked before.
