@@ -1,4 +1,4 @@
-pub mod Differences
+pub mod FillLemmas
 pub mod GreaterLemmas
 pub mod OpeningLemmas
 pub mod PlaceLemmas

@@ -1,5 +1,5 @@
 -- The places that decide a coordinate, and the zeros of a code that may turn into a one. No public clause cites it.
-use Rattle.std.specs.Prelude.{◌≡◌, ◌⊎◌, ℕ, ◌%◌, ◌<◌, ◌≤◌, max}
+use Rattle.std.specs.Prelude.{◌≡◌, ◌⊎◌, ◌↔◌, ℕ, ◌+◌, ◌*◌, ◌%◌, ◌<◌, ◌≤◌, max}
 use Rattle.std.specs.Int.{bit_at}
 use Rattle.zorder.specs.Dilated.{dilated}
 use Rattle.zorder.proofs.CallerLemmas.{DiffersAt}
@@ -8,16 +8,14 @@ use Rattle.zorder.proofs.CallerLemmas.{DiffersAt}
 abbrev pub IsDecidedAt : ℕ → ℕ → ℕ → ℕ → ℕ → ℕ → Type 0
 IsDecidedAt d z low high c t = DiffersAt t (dilated d c z) (dilated d c low) ⊎ DiffersAt t (dilated d c high) (dilated d c z)
 
--- the greater of a place and of the highest place at which two numbers differ, where the first is the lesser one
-pub record IsRaised (place lesser greater result : ℕ) : Type 0 where
-  pub not_below : place ≤ result
-  pub covers : (t : ℕ) → DiffersAt t lesser greater → t ≤ result
-  pub attained : (result ≡ place) ⊎ DiffersAt result lesser greater
-
 -- the highest place that decides a coordinate of z to be out of its interval, or 0
-pub record IsHighestDecision (d z low high count place : ℕ) : Type 0 where
-  pub highest : (c t : ℕ) → c < count → IsDecidedAt d z low high c t → t ≤ place
-  pub attained : (place ≡ 0) ⊎ ((c : ℕ) × (c < count) × IsDecidedAt d z low high c place)
+pub record IsHighestDecision (d z low high place : ℕ) : Type 0 where
+  pub highest : (c t : ℕ) → c < d → IsDecidedAt d z low high c t → t ≤ place
+  pub attained : (place ≡ 0) ⊎ ((c : ℕ) × (c < d) × IsDecidedAt d z low high c place)
+
+-- filled has a one just where bits has one at that place or some steps of d above it, which is in the same coordinate
+abbrev pub IsFilledDown : ℕ → ℕ → ℕ → Type 0
+IsFilledDown d bits filled = (i : ℕ) → (bit_at filled i ≡ 1) ↔ ((steps : ℕ) × (bit_at bits (i + steps * d) ≡ 1))
 
 -- at the place i is a zero of z that may be a one: at or below the highest place where z's coordinate differs from high's, which is above it
 pub record HasRoom (d z high i : ℕ) : Type 0 where

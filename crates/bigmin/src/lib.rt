@@ -12,7 +12,7 @@
 //! memory.
 #![tactic(auto)]
 
-mod highest;
+mod filled;
 mod jump;
 mod openings;
 

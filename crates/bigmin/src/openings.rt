@@ -2,22 +2,22 @@
 ghost use Rattle.std.specs.Prelude.{◌≡◌, ◌↔◌, ℕ, ◌%◌, ◌<◌, ◌≤◌, MatchOption};
 ghost use Rattle.std.specs.Int.{bit_at};
 ghost use Rattle.zorder.specs.Codes.{IsDimension};
-ghost use Rattle.bigmin.specs.Openings.{IsRaised, IsHighestDecision, HasRoom, Opens};
+ghost use Rattle.zorder.specs.Dilated.{dilated};
+ghost use Rattle.zorder.proofs.CallerLemmas.{DiffersAt};
+ghost use Rattle.bigmin.specs.Openings.{IsHighestDecision, Opens};
 
-use crate::highest::highest_difference;
-use zorder::dilated_coordinate;
+use crate::filled::filled_down;
 
-/// The greater of a place and of the highest place at which two numbers differ, where the first is
-/// the lesser one.
+/// The highest places at which coordinates of two numbers differ, of those coordinates that are
+/// greater in the second.
 #[inline(always)]
-fn raised(place: u32, lesser: u64, greater: u64) -> u32
-    ensures { IsRaised place lesser greater result }
+fn highest_rises(d: u32, lesser: u64, greater: u64) -> u64
+    requires { IsDimension d }
+    ensures { (t : ℕ) → (bit_at result t ≡ 1)
+        ↔ DiffersAt t (dilated d (t % d) lesser) (dilated d (t % d) greater) }
 {
-    if lesser < greater {
-        place.max(highest_difference(lesser, greater))
-    } else {
-        place
-    }
+    let filled = filled_down(d, lesser ^ greater);
+    filled & !(filled >> d) & greater
 }
 
 /// The highest place that decides a coordinate of `z` to be out of its interval, or 0.
@@ -26,43 +26,11 @@ fn raised(place: u32, lesser: u64, greater: u64) -> u32
 #[inline(always)]
 fn highest_decision(d: u32, z: u64, low: u64, high: u64) -> u32
     requires { IsDimension d }
-    ensures { IsHighestDecision d z low high d result }
+    ensures within { result < 64 }
+    ensures highest { IsHighestDecision d z low high result }
 {
-    let mut highest = 0;
-    for c in 0..d {
-        let at = dilated_coordinate(d, c, z);
-        highest = raised(highest, at, dilated_coordinate(d, c, low));
-        highest = raised(highest, dilated_coordinate(d, c, high), at);
-    }
-    highest
-}
-
-/// The zeros of coordinate `c` of `z` that may be a one, as far as the high end is concerned.
-#[inline(always)]
-fn zeros_with_room(d: u32, c: u32, z: u64, high: u64) -> u64
-    requires dimension { IsDimension d }
-    requires within { c < d }
-    ensures { (i : ℕ) → (bit_at result i ≡ 1) ↔ ((i % d ≡ c) × HasRoom d z high i) }
-{
-    let (at, most) = (dilated_coordinate(d, c, z), dilated_coordinate(d, c, high));
-    if at < most {
-        dilated_coordinate(d, c, !z) & (u64::MAX >> (63 - highest_difference(at, most)))
-    } else {
-        0
-    }
-}
-
-/// Those of all coordinates.
-#[inline(always)]
-fn all_zeros_with_room(d: u32, z: u64, high: u64) -> u64
-    requires { IsDimension d }
-    ensures { (i : ℕ) → (bit_at result i ≡ 1) ↔ HasRoom d z high i }
-{
-    let mut zeros = 0;
-    for c in 0..d {
-        zeros |= zeros_with_room(d, c, z, high);
-    }
-    zeros
+    let decisions = highest_rises(d, z, low) | highest_rises(d, high, z);
+    (decisions | 1).ilog2()
 }
 
 /// The lowest place from which on a code between `low` and `high`, coordinate by coordinate, can be
@@ -74,7 +42,10 @@ pub fn lowest_opening(d: u32, z: u64, low: u64, high: u64) -> Option<u32>
         (λ place. Opens d z low high place × ((i : ℕ) → Opens d z low high i → place ≤ i)) }
 {
     let undecided = u64::MAX << highest_decision(d, z, low, high);
-    let open = all_zeros_with_room(d, z, high) & undecided;
+    // The zeros of `z` that may be a one, as far as the high end is concerned. Those of a coordinate
+    // that is above it are decided.
+    let zeros = !z & filled_down(d, high ^ z);
+    let open = zeros & undecided;
     if open == 0 {
         return None;
     }

@@ -1,20 +1,22 @@
 // The walk over the sorted codes from one stretch of codes inside a region to the next.
-ghost use Rattle.std.specs.Prelude.{◌≡◌, ◌+◌, ◌<◌, ◌≤◌, ◌^◌, ℕ, ◌++◌, length, drop, slice_index};
+ghost use Rattle.std.specs.Prelude.{◌≡◌, ◌↔◌, ◌+◌, ◌<◌, ◌≤◌, ◌^◌, ℕ, ◌++◌, IsTrue, length, drop, slice_index};
 ghost use Rattle.zorder.specs.Codes.{IsDimension};
 ghost use Rattle.zorder.specs.Corners.{AreCorners};
 ghost use Rattle.zorder.specs.Dilated.{IsBetween};
 ghost use Rattle.zorder.specs.Regions.{IsEmpty, IsRegion, IsInside};
+ghost use Rattle.bigmin.specs.NextBetween.{AreOrdered};
 ghost use Rattle.window_search.specs.Searches.{lb};
 ghost use Rattle.boxes.specs.BoxAnswers.{codes_inside, IsLookedAt};
 ghost use Rattle.boxes.specs.Walks.{HasWalked};
 
 use crate::Boxes;
 use bigmin::next_by_corners;
-use zorder::{Corners, Region, is_between, is_empty};
+use zorder::{Corners, Region, dilated_coordinate, is_empty};
 
 /// How many places behind a code are looked through for the end of a jump, before the index is
-/// asked. They are two lines of the cache; a lookup reads more.
-const NEAR: usize = 16;
+/// asked. They are four lines of the cache side by side; a lookup reads as many, one after the
+/// other.
+const NEAR: usize = 32;
 
 /// Where a walk has come to: the next place that is to be looked at, or the end of the codes, and
 /// at how many places it looked before.
@@ -110,14 +112,6 @@ impl Boxes {
         if z > corners.high {
             return codes.len();
         }
-        let after = at + 1;
-        if after == codes.len() {
-            return after;
-        }
-        // Often the next code is inside again, and then the region's next code isn't asked for.
-        if corners.inside(region, codes[after]) {
-            return after;
-        }
         match next_by_corners(z, region, corners) {
             None => codes.len(),
             Some(next) => self.lower_bound_past(at, next),
@@ -148,6 +142,7 @@ impl Boxes {
 fn stretch_end(region: &Region, corners: &Corners, codes: &[u64], at: usize) -> usize
     requires region { IsRegion region.now }
     requires corners { AreCorners region.now corners.now }
+    requires some_inside { ¬ IsEmpty region.now }
     requires here { at ≤ length codes.now }
     ensures onwards { at ≤ result }
     ensures within { result ≤ length codes.now }
@@ -168,6 +163,7 @@ fn stretch_end(region: &Region, corners: &Corners, codes: &[u64], at: usize) -> 
 #[inline(always)]
 fn between_until(d: u32, low: u64, high: u64, codes: &[u64], at: usize) -> usize
     requires dimension { IsDimension d }
+    requires ordered { AreOrdered d low high }
     requires here { at ≤ length codes.now }
     ensures onwards { at ≤ result }
     ensures within { result ≤ length codes.now }
@@ -177,9 +173,26 @@ fn between_until(d: u32, low: u64, high: u64, codes: &[u64], at: usize) -> usize
         → ¬ IsBetween d low high (slice_index codes.now result) }
 {
     for place in at..codes.len() {
-        if !is_between(d, low, high, codes[place]) {
+        if !is_within(d, low, high, codes[place]) {
             return place;
         }
     }
     codes.len()
+}
+
+/// Whether a number lies between two others, none of whose coordinates is out of order. It is one
+/// comparison a coordinate, of distances from the lower end, and there is no branch.
+#[inline(always)]
+fn is_within(d: u32, low: u64, high: u64, z: u64) -> bool
+    requires dimension { IsDimension d }
+    requires ordered { AreOrdered d low high }
+    ensures { IsTrue result ↔ IsBetween d low high z }
+{
+    let mut within = true;
+    for c in 0..d {
+        let least = dilated_coordinate(d, c, low);
+        let width = dilated_coordinate(d, c, high).wrapping_sub(least);
+        within &= dilated_coordinate(d, c, z).wrapping_sub(least) <= width;
+    }
+    within
 }

@@ -1,14 +1,14 @@
 -- Coordinates among the places of a code: taken out of them, and put into them.
-use Rattle.std.proofs.Common.{◌≡◌, ◌≢◌, ℕ, zero, suc, ◌+◌, ◌-◌, ◌*◌, ◌%◌, ◌^◌, ◌<◌, ◌≤◌, sym, ap, ◌∙◌, inl, inr, arith, lit<}
+use Rattle.std.proofs.Common.{◌≡◌, ◌≢◌, ℕ, zero, suc, ◌+◌, ◌-◌, ◌*◌, ◌/◌, ◌%◌, ◌^◌, ◌<◌, ◌≤◌, min, max, sym, ap, ◌∙◌, inl, inr, arith, lit<}
 use Rattle.std.specs.Prelude.{bit_and, bit_or}
 use Rattle.std.specs.Int.{bit_at}
 use Rattle.std.proofs.lemmas.Bool.{cases_lt}
 use Rattle.std.proofs.lemmas.Nat.{and_le_r, mod_below}
-use Rattle.std.proofs.lemmas.Nat.Bits.{bit_at-lt, bit_at_and, bit_at_or, bit_at_above}
+use Rattle.std.proofs.lemmas.Nat.Bits.{bit_at-lt, bit_at_and, bit_at_or, bit_at_above, bit_at_mask_above, bit_at_mask_below, bit_at_mask_inside, same_from_bits}
 use Rattle.std.proofs.Math.Nat.{mul-le-mul_right}
 use Rattle.zorder.specs.Codes.{IsDimension, coordinate_bits, coordinate}
 use Rattle.zorder.specs.Spread.{IsSpread}
-use Rattle.zorder.proofs.BitLemmas.{bit_at-shl, bit_at-shl_low, under_zero}
+use Rattle.zorder.proofs.BitLemmas.{bit_at-shl, bit_at-shl_low, bit_at-shr, under_zero}
 use Rattle.zorder.proofs.CodeLemmas.{below_from_bits, bit_at-coordinate, past_range}
 use Rattle.zorder.proofs.SpreadLemmas.{IsMask}
 
@@ -38,6 +38,48 @@ module _ (d z : ℕ) (some : 0 < d) (fits : z < 2 ^ 64) where
             | inl near ↦ omega (arith, bit_at_and z mask (j * d + r), ones.ones j r within near, bit_at-lt z (j * d + r), bit)
             | inr far ↦ under_zero z mask (j * d + r) (bit_at_above mask 64 (j * d + r) ones.fits far) ∙ sym (bit_at_above z 64 (j * d + r) fits far) ∙ bit
           ]
+
+-- three blocks of a byte, put side by side
+module _ (x y : ℕ) (fits : x < 2 ^ 22) (spread : IsSpread 8 24 x y) where
+  abbrev pub three_bytes : ℕ
+  three_bytes = bit_or (bit_or (bit_and y 0xff) (bit_and (y / 2 ^ 16) 0xff00)) (bit_and (y / 2 ^ 32) 0xff0000)
+
+  parts : (i : ℕ) → bit_at three_bytes i ≡ max (max (min (bit_at y i) (bit_at 0xff i)) (min (bit_at y (16 + i)) (bit_at 0xff00 i))) (min (bit_at y (32 + i)) (bit_at 0xff0000 i))
+  parts i =
+      let second : bit_at (bit_and (y / 2 ^ 16) 0xff00) i ≡ min (bit_at y (16 + i)) (bit_at 0xff00 i) =
+      bit_at_and (y / 2 ^ 16) 0xff00 i ∙ ap (λ n. min n (bit_at 0xff00 i)) (bit_at-shr y 16 i) in
+      let third : bit_at (bit_and (y / 2 ^ 32) 0xff0000) i ≡ min (bit_at y (32 + i)) (bit_at 0xff0000 i) =
+      bit_at_and (y / 2 ^ 32) 0xff0000 i ∙ ap (λ n. min n (bit_at 0xff0000 i)) (bit_at-shr y 32 i) in
+      omega (
+        arith,
+        bit_at_or (bit_or (bit_and y 0xff) (bit_and (y / 2 ^ 16) 0xff00)) (bit_and (y / 2 ^ 32) 0xff0000) i,
+        bit_at_or (bit_and y 0xff) (bit_and (y / 2 ^ 16) 0xff00) i,
+        bit_at_and y 0xff i,
+        second,
+        third,
+      )
+
+  bit_same : (i : ℕ) → bit_at three_bytes i ≡ bit_at x i
+  bit_same i = elim (cases_lt i 8) [
+    | inl first ↦
+        let here : bit_at y i ≡ bit_at x i = ap (bit_at y) (omega arith) ∙ spread.filled 0 i first ∙ ap (bit_at x) (omega arith) in
+        omega (arith, parts i, here, bit_at-lt x i, bit_at_mask_inside 0 8 i (omega arith) first, bit_at_mask_below 8 16 i (omega arith), bit_at_mask_below 16 24 i (omega arith))
+    | inr from_8 ↦ elim (cases_lt i 16) [
+      | inl second ↦
+          let here : bit_at y (16 + i) ≡ bit_at x i = ap (bit_at y) (omega arith) ∙ spread.filled 1 (i - 8) (omega arith) ∙ ap (bit_at x) (omega arith) in
+          omega (arith, parts i, here, bit_at-lt x i, bit_at_mask_above 0 8 i from_8, bit_at_mask_inside 8 16 i from_8 second, bit_at_mask_below 16 24 i (omega arith))
+      | inr from_16 ↦ elim (cases_lt i 24) [
+        | inl third ↦
+            let here : bit_at y (32 + i) ≡ bit_at x i = ap (bit_at y) (omega arith) ∙ spread.filled 2 (i - 16) (omega arith) ∙ ap (bit_at x) (omega arith) in
+            omega (arith, parts i, here, bit_at-lt x i, bit_at_mask_above 0 8 i from_8, bit_at_mask_above 8 16 i from_16, bit_at_mask_inside 16 24 i from_16 third)
+        | inr far ↦
+            omega (arith, parts i, bit_at_above x 22 i fits (omega arith), bit_at_mask_above 0 8 i from_8, bit_at_mask_above 8 16 i from_16, bit_at_mask_above 16 24 i far)
+      ]
+    ]
+  ]
+
+  pub bytes_gathered : three_bytes ≡ x
+  bytes_gathered = same_from_bits three_bytes x bit_same
 
 -- ---- put in
 

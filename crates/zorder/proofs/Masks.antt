@@ -24,9 +24,6 @@ mask_1_2 = is_mask 1 2 0x5555555555555555 (lit≤ tt) (lit< tt) refl
 
 -- ---- of three coordinates
 
-pub mask_32_96 : IsMask 32 96 0x00000000ffffffff
-mask_32_96 = is_mask 32 96 0x00000000ffffffff (lit≤ tt) (lit< tt) refl
-
 pub mask_16_48 : IsMask 16 48 0xffff00000000ffff
 mask_16_48 = is_mask 16 48 0xffff00000000ffff (lit≤ tt) (lit< tt) refl
 

@@ -102,8 +102,9 @@ fn gather_by_3(code: u64) -> u32
     let blocks_2 = join_blocks(blocks_1, 2, 0x30c3_0c30_c30c_30c3);
     let blocks_4 = join_blocks(blocks_2, 4, 0xf00f_00f0_0f00_f00f);
     let blocks_8 = join_blocks(blocks_4, 8, 0x00ff_0000_ff00_00ff);
-    let blocks_16 = join_blocks(blocks_8, 16, 0xffff_0000_0000_ffff);
-    join_blocks(blocks_16, 32, 0x0000_0000_ffff_ffff) as u32
+    // Each block is a byte of its own now, and bytes are put side by side in one step where a loop
+    // over codes is made of vectors.
+    ((blocks_8 & 0xff) | ((blocks_8 >> 16) & 0xff00) | ((blocks_8 >> 32) & 0xff_0000)) as u32
 }
 
 /// The number that every fourth bit makes, from the lowest on.

@@ -1,7 +1,19 @@
 -- Between the corners' codes is inside, in each dimension.
 use Rattle.std.proofs.Common.{◌≡◌, slice_index, sym, arith}
 use Rattle.zorder.proofs.CallerLemmas.{corners-from_inside, inside-from_corners}
+use Rattle.boxes.proofs.OrderedCorners.{ordered_corners}
 use Rattle.boxes.proofs.walk.stretch_end.Goals as goal
+
+pub between_until-requires-clause-ordered : goal.between_until-requires-clause-ordered
+between_until-requires-clause-ordered c = ordered_corners c.args.region.now c.requires.region c.args.corners.now c.requires.corners c.requires.some_inside 2 (sym c.in-2.is)
+
+pub between_until-requires-in-3-clause-ordered : goal.between_until-requires-in-3-clause-ordered
+between_until-requires-in-3-clause-ordered c = ordered_corners c.args.region.now c.requires.region c.args.corners.now c.requires.corners c.requires.some_inside 3 (sym c.in-3.is)
+
+pub between_until-requires-in_default-clause-ordered : goal.between_until-requires-in_default-clause-ordered
+between_until-requires-in_default-clause-ordered c =
+    let four : 4 ≡ c.args.region.now.d = omega (arith, c.requires.region.dimension) in
+    ordered_corners c.args.region.now c.requires.region c.args.corners.now c.requires.corners c.requires.some_inside 4 four
 
 pub returns-in-2-clause-inside : goal.returns-in-2-clause-inside
 returns-in-2-clause-inside c =

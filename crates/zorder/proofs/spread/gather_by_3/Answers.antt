@@ -1,9 +1,9 @@
--- Each step doubles the blocks, from single bits to the whole number.
+-- Each step doubles the blocks, from single bits to bytes, and the bytes are the number.
 use Rattle.std.proofs.Common.{◌^◌, ◌<◌, refl, arith, lit<, lit≤}
 use Rattle.zorder.specs.Codes.{coordinate}
-use Rattle.zorder.proofs.GatherLemmas.{coordinate-lt, first_spread, masked-lt}
-use Rattle.zorder.proofs.SpreadLemmas.{short, join, gathered}
-use Rattle.zorder.proofs.Masks.{mask_1_3, mask_2_6, mask_4_12, mask_8_24, mask_16_48, mask_32_96}
+use Rattle.zorder.proofs.GatherLemmas.{bytes_gathered, coordinate-lt, first_spread}
+use Rattle.zorder.proofs.SpreadLemmas.{short, join}
+use Rattle.zorder.proofs.Masks.{mask_1_3, mask_2_6, mask_4_12, mask_8_24}
 use Rattle.zorder.proofs.spread.gather_by_3.Goals as goal
 
 pub returns : goal.returns
@@ -14,7 +14,4 @@ returns c =
     let blocks_2 = join {block = 1} {stride = 3} 2 mask_2_6 (lit≤ tt) refl (short 3 22 (lit< tt) refl (lit≤ tt) narrow) blocks_1 c.join_blocks-blocks_2.ensures in
     let blocks_4 = join {block = 2} {stride = 6} 4 mask_4_12 (lit≤ tt) refl (short 3 22 (lit< tt) refl (lit≤ tt) narrow) blocks_2 c.join_blocks-blocks_4.ensures in
     let blocks_8 = join {block = 4} {stride = 12} 8 mask_8_24 (lit≤ tt) refl (short 3 22 (lit< tt) refl (lit≤ tt) narrow) blocks_4 c.join_blocks-blocks_8.ensures in
-    let blocks_16 = join {block = 8} {stride = 24} 16 mask_16_48 (lit≤ tt) refl (short 3 22 (lit< tt) refl (lit≤ tt) narrow) blocks_8 c.join_blocks-blocks_16.ensures in
-    let blocks_32 = join {block = 16} {stride = 48} 32 mask_32_96 (lit≤ tt) refl (short 3 22 (lit< tt) refl (lit≤ tt) narrow) blocks_16 c.join_blocks.ensures in
-    let wide : coordinate 3 0 c.args.code < 2 ^ 32 = omega arith in
-    gathered 32 96 (coordinate 3 0 c.args.code) c.join_blocks.result (lit≤ tt) wide (masked-lt 32 _ _ c.join_blocks.result (lit< tt) c.join_blocks.ensures) blocks_32
+    bytes_gathered (coordinate 3 0 c.args.code) c.join_blocks-blocks_8.result narrow blocks_8

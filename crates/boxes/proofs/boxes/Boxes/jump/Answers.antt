@@ -1,11 +1,10 @@
 -- No place is looked at before the lower bound of the next code inside, and none at all where there is no such code.
-use Rattle.std.proofs.Common.{◌+◌, ◌<◌, refl, length, slice_index, sym, ap, subst, arith}
+use Rattle.std.proofs.Common.{◌<◌, length, slice_index, sym, ap, subst, arith}
 use Rattle.zorder.specs.Codes.{code}
-use Rattle.zorder.specs.Regions.{IsInside}
 use Rattle.bigmin.specs.NextInBox.{IsNextInBox, HasNoNext}
 use Rattle.window_search.proofs.CallerLemmas.{IsLowerBound-lb}
 use Rattle.boxes.specs.BoxAnswers.{IsLookedAt}
-use Rattle.boxes.proofs.LookedLemmas.{of_region, looked_here, none_past, none_left, none_between, looked_at_bound, bound_beyond}
+use Rattle.boxes.proofs.LookedLemmas.{of_region, none_past, none_left, none_between, looked_at_bound, bound_beyond}
 use Rattle.boxes.proofs.boxes.Boxes.jump.Goals as goal
 
 pub returns-then-z-corners-clause-skipped : goal.returns-then-z-corners-clause-skipped
@@ -61,12 +60,3 @@ returns-in-Some-clause-due c =
     let next = subst (λ z. IsNextInBox region z c.in-Some.next) (ap (λ xs. slice_index xs c.args.at) is) c.in-Some.ensures.next in
     λ within. subst (IsLookedAt region codes) (sym c.lower_bound_past.ensures)
     (looked_at_bound region codes of c.in-Some.next next.code next.inside (omega (arith, within, c.lower_bound_past.ensures)))
-
-pub returns-then-inside-clause-due : goal.returns-then-inside-clause-due
-returns-then-inside-clause-due c =
-    let region = c.args.region.now in
-    let codes = c.args.self.now.codes in
-    let is = c.codes-codes.ensures.codes in
-    let of = of_region region codes _ _ is c.requires.dims c.codes-codes.ensures.never_falls c.codes-codes.ensures.each in
-    let inside = subst (IsInside region) (ap (λ xs. slice_index xs (c.args.at + 1)) is) (c.if-inside.ensures.exact.0 refl) in
-    λ within. looked_here region codes of (c.args.at + 1) within inside

@@ -3,8 +3,14 @@ use Rattle.std.proofs.Common.{◌≡◌, ℕ, ◌+◌, ◌-◌, ◌++◌, List, 
 use Rattle.zorder.specs.Regions.{IsInside}
 use Rattle.boxes.specs.BoxAnswers.{codes_inside}
 use Rattle.boxes.specs.Walks.{HasWalked}
-use Rattle.boxes.proofs.LookedLemmas.{of_region, inside_fronts, walk_along}
+use Rattle.boxes.proofs.LookedLemmas.{of_region, inside_fronts, not_empty, walk_along}
 use Rattle.boxes.proofs.boxes.Boxes.next_stretch.Goals as goal
+
+pub stretch_end-end-requires-clause-some_inside : goal.stretch_end-end-requires-clause-some_inside
+stretch_end-end-requires-clause-some_inside c =
+    let codes = c.args.self.now.codes in
+    let of = of_region c.args.region.now codes _ _ c.codes-codes.ensures.codes c.requires.dims c.codes-codes.ensures.never_falls c.codes-codes.ensures.each in
+    not_empty c.args.region.now codes of c.args.walk.now.at c.args.walk.now.looked c.requires.here c.requires.walked
 
 pub over_outside-requires-clause-walked : goal.over_outside-requires-clause-walked
 over_outside-requires-clause-walked c =
