@@ -22,10 +22,10 @@ pub record IsMask (block stride mask : ℕ) : Type 0 where
 abbrev pub mask_test : ℕ → ℕ → ℕ → Bool
 mask_test block stride mask = all_below 64 (λ i. eqb (bit_at mask i) (if nat_lt (i % stride) block then 1 else 0))
 
-when_below : (r block n : ℕ) → r < block → n ≡ (if nat_lt r block then 1 else 0) → n ≡ 1
+pub when_below : (r block n : ℕ) → r < block → n ≡ (if nat_lt r block then 1 else 0) → n ≡ 1
 when_below r block n below e = grind (arith, nat_tests)
 
-when_from : (r block n : ℕ) → block ≤ r → n ≡ (if nat_lt r block then 1 else 0) → n ≡ 0
+pub when_from : (r block n : ℕ) → block ≤ r → n ≡ (if nat_lt r block then 1 else 0) → n ≡ 0
 when_from r block n from e = grind (arith, nat_tests)
 
 pub is_mask : (block stride mask : ℕ) → block ≤ stride → mask < 2 ^ 64 → mask_test block stride mask ≡ true → IsMask block stride mask
@@ -54,7 +54,7 @@ abbrev pub IsShort : ℕ → ℕ → ℕ → Type 0
 IsShort block stride x = (j r : ℕ) → r < block → 64 ≤ j * stride + r → bit_at x (j * block + r) ≡ 0
 
 -- j is even or odd
-halves_of : (j : ℕ) → (q : ℕ) × ((j ≡ q + q) ⊎ (j ≡ q + q + 1))
+pub halves_of : (j : ℕ) → (q : ℕ) × ((j ≡ q + q) ⊎ (j ≡ q + q + 1))
 halves_of j = (j / 2, elim (cases_lt (j % 2) 1) [ inl even ↦ inl (omega arith) | inr odd ↦ inr (omega arith) ])
 
 module _ (block stride shift : ℕ) (room : block + block ≤ stride) (gap : shift + block ≡ stride) (x y : ℕ) where

@@ -15,12 +15,14 @@
 #![tactic(auto)]
 
 mod codes;
+mod columns;
 mod corner_codes;
 mod dilated;
 mod regions;
 mod spread;
 
 pub use codes::{decode, encode, fits_range};
+pub use columns::decode_pairs;
 pub use corner_codes::{Corners, is_between};
 pub use dilated::dilated_coordinate;
 pub use regions::{Region, inside, is_empty};

@@ -1,6 +1,6 @@
 //! Codes that a plain program worked out bit by bit, and each call once.
 
-use crate::{Corners, Region, decode, encode, fits_range, inside, is_empty};
+use crate::{Corners, Region, decode, decode_pairs, encode, fits_range, inside, is_empty};
 use std::process::Abort;
 
 /// Points and their codes: the least and greatest of each coordinate, and mixed ones.
@@ -50,6 +50,48 @@ fn check_row(rt: &impl Abort, d: u32, coords: [u32; 4], z: u64) {
 fn rows_of_codes(rt: HostRuntime) {
     for (d, coords, z) in ROWS {
         check_row(&rt, d, coords, z);
+    }
+}
+
+/// The codes of two coordinates above, once more: four at once, and three by themselves. What stands
+/// behind them stays.
+#[test]
+fn pairs_at_once(rt: HostRuntime) {
+    let codes: [u64; 7] = [
+        0x535c_4e71_677c_7ed5,
+        27,
+        0x5555_5555_5555_5555,
+        0xaaaa_aaaa_aaaa_aaaa,
+        0xffff_ffff_ffff_ffff,
+        0x4000_0000_0000_0002,
+        0x535c_4e71_677c_7ed5,
+    ];
+    let mut firsts = [7u32; 8];
+    let mut seconds = [9u32; 8];
+    decode_pairs(&codes, &mut firsts, &mut seconds);
+    let xs: [u32; 8] = [
+        0xdead_beef,
+        5,
+        0xffff_ffff,
+        0,
+        0xffff_ffff,
+        0x8000_0000,
+        0xdead_beef,
+        7,
+    ];
+    let ys: [u32; 8] = [
+        0x1234_5678,
+        3,
+        0,
+        0xffff_ffff,
+        0xffff_ffff,
+        1,
+        0x1234_5678,
+        9,
+    ];
+    for i in 0..8 {
+        assert_eq!(rt; firsts[i], xs[i]);
+        assert_eq!(rt; seconds[i], ys[i]);
     }
 }
 
