@@ -2,6 +2,7 @@ pub mod Counting
 pub mod InsideTest
 pub mod LookedLemmas
 pub mod OrderedCorners
+mod CellLemmas
 pub mod CodeLists
 pub mod OneCount
 pub mod CallerLemmas

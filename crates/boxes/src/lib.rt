@@ -16,6 +16,7 @@
 
 mod answer;
 mod boxes;
+mod cells;
 mod codes;
 mod found;
 mod walk;

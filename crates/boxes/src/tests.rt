@@ -132,8 +132,11 @@ const ENDS_OF_THREE_ROWS: [Row; 2] = [
     ),
 ];
 
-/// All points of the square of side 32, whose codes are 0 to 1,023, so that jumps are long.
-const GRID_ROWS: [(&str, [u32; 4], [u32; 4], u64, u64); 4] = [
+/// All points of the square of side 32, whose codes are 0 to 1,023, so that jumps and what is
+/// passed by cells are long.
+const GRID_ROWS: [(&str, [u32; 4], [u32; 4], u64, u64); 6] = [
+    ("all", [0, 0, 0, 0], [31, 31, 0, 0], 1024, 1024),
+    ("the left half", [0, 0, 0, 0], [15, 31, 0, 0], 512, 514),
     ("the last column", [31, 0, 0, 0], [31, 31, 0, 0], 32, 63),
     ("the first row", [0, 0, 0, 0], [31, 0, 0, 0], 32, 48),
     ("the middle", [15, 15, 0, 0], [16, 16, 0, 0], 4, 8),

@@ -1,5 +1,7 @@
 // The walk over the sorted codes from one stretch of codes inside a region to the next.
-ghost use Rattle.std.specs.Prelude.{◌≡◌, ◌↔◌, ◌+◌, ◌<◌, ◌≤◌, ◌^◌, ℕ, ◌++◌, IsTrue, length, drop, slice_index};
+ghost use Rattle.std.specs.Prelude.{◌≡◌, ◌↔◌, ◌+◌, ◌<◌, ◌≤◌, ◌^◌, ℕ, ◌++◌, IsTrue};
+ghost use Rattle.std.specs.Prelude.{length, drop, slice_index};
+ghost use Rattle.std.specs.List.Sorted.{IsNonDecreasing};
 ghost use Rattle.zorder.specs.Codes.{IsDimension};
 ghost use Rattle.zorder.specs.Corners.{AreCorners};
 ghost use Rattle.zorder.specs.Dilated.{IsBetween};
@@ -10,6 +12,7 @@ ghost use Rattle.boxes.specs.BoxAnswers.{codes_inside, IsLookedAt};
 ghost use Rattle.boxes.specs.Walks.{HasWalked};
 
 use crate::Boxes;
+use crate::cells::over_cells;
 use bigmin::next_by_corners;
 use zorder::{Corners, Region, dilated_coordinate, is_empty};
 
@@ -17,6 +20,9 @@ use zorder::{Corners, Region, dilated_coordinate, is_empty};
 /// asked. They are four lines of the cache side by side; a lookup reads as many, one after the
 /// other.
 const NEAR: usize = 32;
+
+/// How many codes are tested one by one before whole cells of them are tried, and between.
+const ONE_BY_ONE: usize = 16;
 
 /// Where a walk has come to: the next place that is to be looked at, or the end of the codes, and
 /// at how many places it looked before.
@@ -112,6 +118,9 @@ impl Boxes {
         if z > corners.high {
             return codes.len();
         }
+        if at + 1 < codes.len() && corners.inside(region, codes[at + 1]) {
+            return at + 1;
+        }
         match next_by_corners(z, region, corners) {
             None => codes.len(),
             Some(next) => self.lower_bound_past(at, next),
@@ -143,6 +152,7 @@ fn stretch_end(region: &Region, corners: &Corners, codes: &[u64], at: usize) -> 
     requires region { IsRegion region.now }
     requires corners { AreCorners region.now corners.now }
     requires some_inside { ¬ IsEmpty region.now }
+    requires sorted { IsNonDecreasing codes.now }
     requires here { at ≤ length codes.now }
     ensures onwards { at ≤ result }
     ensures within { result ≤ length codes.now }
@@ -159,11 +169,12 @@ fn stretch_end(region: &Region, corners: &Corners, codes: &[u64], at: usize) -> 
 }
 
 /// The first place from one on whose code doesn't lie between two others, coordinate by coordinate,
-/// or the end.
+/// or the end. Some are tested one by one, then cells of them are passed whole, and so on.
 #[inline(always)]
 fn between_until(d: u32, low: u64, high: u64, codes: &[u64], at: usize) -> usize
     requires dimension { IsDimension d }
     requires ordered { AreOrdered d low high }
+    requires sorted { IsNonDecreasing codes.now }
     requires here { at ≤ length codes.now }
     ensures onwards { at ≤ result }
     ensures within { result ≤ length codes.now }
@@ -172,18 +183,44 @@ fn between_until(d: u32, low: u64, high: u64, codes: &[u64], at: usize) -> usize
     ensures not { result < length codes.now
         → ¬ IsBetween d low high (slice_index codes.now result) }
 {
-    for place in at..codes.len() {
+    let mut place = at;
+    while codes.len() - place > ONE_BY_ONE {
+        let limit = place + ONE_BY_ONE;
+        let end = between_before(d, low, high, codes, place, limit);
+        if end < limit {
+            return end;
+        }
+        place = over_cells(d, low, high, codes, end);
+    }
+    between_before(d, low, high, codes, place, codes.len())
+}
+
+/// The first place from one on, and before a limit, whose code doesn't lie between two others,
+/// coordinate by coordinate, or the limit.
+#[inline(always)]
+fn between_before(d: u32, low: u64, high: u64, codes: &[u64], at: usize, limit: usize) -> usize
+    requires dimension { IsDimension d }
+    requires ordered { AreOrdered d low high }
+    requires here { at ≤ limit }
+    requires within { limit ≤ length codes.now }
+    ensures onwards { at ≤ result }
+    ensures within { result ≤ limit }
+    ensures between { (j : ℕ) → at ≤ j → j < result
+        → IsBetween d low high (slice_index codes.now j) }
+    ensures not { result < limit → ¬ IsBetween d low high (slice_index codes.now result) }
+{
+    for place in at..limit {
         if !is_within(d, low, high, codes[place]) {
             return place;
         }
     }
-    codes.len()
+    limit
 }
 
 /// Whether a number lies between two others, none of whose coordinates is out of order. It is one
 /// comparison a coordinate, of distances from the lower end, and there is no branch.
 #[inline(always)]
-fn is_within(d: u32, low: u64, high: u64, z: u64) -> bool
+pub fn is_within(d: u32, low: u64, high: u64, z: u64) -> bool
     requires dimension { IsDimension d }
     requires ordered { AreOrdered d low high }
     ensures { IsTrue result ↔ IsBetween d low high z }
