@@ -29,7 +29,7 @@ use std::env;
 use std::rt::{Clock, Env, Files};
 use std::thread::Threads;
 use std::time::{Duration, Instant};
-use zorder::{Region, decode, encode, inside};
+use zorder::{Region, decode, decode_pairs, encode, inside};
 
 /// How often a script is answered in each way.
 const ROUNDS: u32 = 5;
@@ -42,6 +42,9 @@ const SCRIPT_LIMIT: u64 = 67_108_864;
 
 /// How many codes of each box are jumped from at most.
 const JUMPS: usize = 16;
+
+/// How many codes are decoded at once.
+const BLOCK: usize = 256;
 
 /// What the boxes of a script have together.
 #[derive(Clone, Copy, PartialEq, Eq)]
@@ -123,6 +126,8 @@ fn answer<R: AllocGlobal + Print + Clock>(rt: &R, boxes: &Boxes, lines: &[Script
     requires { All (IsLineOf (ScriptKind.Region boxes.now.dims)) lines.now }
 {
     let mut found = Vec::with_capacity(rt.alloc(), boxes.codes().len())?;
+    let mut firsts = vec![in rt.alloc(); 0u32; BLOCK]?;
+    let mut seconds = vec![in rt.alloc(); 0u32; BLOCK]?;
     let mut counting = Duration::MAX;
     let mut filling = Duration::MAX;
     let mut visiting = Duration::MAX;
@@ -131,10 +136,10 @@ fn answer<R: AllocGlobal + Print + Clock>(rt: &R, boxes: &Boxes, lines: &[Script
         let counted = count_all(boxes, lines);
         counting = counting.min(start.elapsed(rt)?);
         let start = Instant::now(rt)?;
-        let (filled, _) = fill_all(boxes, lines, &mut found, false);
+        let (filled, _) = fill_all(boxes, lines, &mut found, false, &mut firsts, &mut seconds);
         filling = filling.min(start.elapsed(rt)?);
         let start = Instant::now(rt)?;
-        let (visited, sum) = fill_all(boxes, lines, &mut found, true);
+        let (visited, sum) = fill_all(boxes, lines, &mut found, true, &mut firsts, &mut seconds);
         visiting = visiting.min(start.elapsed(rt)?);
         ensure!(counted == filled && counted == visited, "the ways differ");
         if round == 0 {
@@ -192,8 +197,12 @@ fn fill_all(
     lines: &[ScriptLine],
     found: &mut Vec<u64>,
     summing: bool,
+    firsts: &mut [u32],
+    seconds: &mut [u32],
 ) -> (Answered, u64)
     requires each { All (IsLineOf (ScriptKind.Region boxes.now.dims)) lines.now }
+    requires firsts { 256 ≤ length firsts.old }
+    requires seconds { 256 ≤ length seconds.old }
     requires room { length boxes.now.codes ≤ vec_capacity found.old }
     ensures room { length boxes.now.codes ≤ vec_capacity found.new }
 {
@@ -208,7 +217,7 @@ fn fill_all(
             all.found = all.found.wrapping_add(found.len() as u64);
             all.looked = all.looked.wrapping_add(looked);
             if summing {
-                sum = sum.wrapping_add(sum_of(region.d, found));
+                sum = sum.wrapping_add(sum_of(region.d, found, firsts, seconds));
             }
         }
     }
@@ -228,19 +237,55 @@ fn fill_one(boxes: &Boxes, region: &Region, found: &mut Vec<u64>) -> u64
     boxes.fill(region, found)
 }
 
-/// The sum of the coordinates of points.
-fn sum_of(dims: u32, codes: &[u64]) -> u64
+/// The sum of the coordinates of points. If many are decoded at once, it is to `firsts` and
+/// `seconds`.
+fn sum_of(dims: u32, codes: &[u64], firsts: &mut [u32], seconds: &mut [u32]) -> u64
     requires dimension { IsDimension dims }
     requires codes { All (λ z. IsCode dims z) codes.now }
+    requires firsts { 256 ≤ length firsts.old }
+    requires seconds { 256 ≤ length seconds.old }
 {
     match dims {
-        2 => sum_in(2, codes),
+        2 => sum_of_pairs(codes, firsts, seconds),
         3 => sum_in(3, codes),
         _ => sum_in(4, codes),
     }
 }
 
-/// The same; where the dimension is a literal, the loops over coordinates are unrolled.
+/// The same of two coordinates, of which a block is decoded at once.
+fn sum_of_pairs(codes: &[u64], firsts: &mut [u32], seconds: &mut [u32]) -> u64
+    requires firsts { 256 ≤ length firsts.old }
+    requires seconds { 256 ≤ length seconds.old }
+{
+    let mut sum = 0u64;
+    for block in codes.chunks(BLOCK) {
+        sum = sum.wrapping_add(sum_of_block(block, firsts, seconds));
+    }
+    sum
+}
+
+/// The same of a block.
+fn sum_of_block(block: &[u64], firsts: &mut [u32], seconds: &mut [u32]) -> u64
+    requires block { length block.now ≤ 256 }
+    requires firsts { 256 ≤ length firsts.old }
+    requires seconds { 256 ≤ length seconds.old }
+{
+    decode_pairs(block, firsts, seconds);
+    let sum = total(&firsts[..block.len()]);
+    sum.wrapping_add(total(&seconds[..block.len()]).wrapping_mul(3))
+}
+
+/// The sum of numbers, in 64 bits.
+fn total(numbers: &[u32]) -> u64 {
+    let mut sum = 0u64;
+    for number in numbers {
+        sum = sum.wrapping_add(u64::from(*number));
+    }
+    sum
+}
+
+/// The sum, one point after the other; where the dimension is a literal, the loops over coordinates
+/// are unrolled.
 #[inline(always)]
 fn sum_in(dims: u32, codes: &[u64]) -> u64
     requires dimension { IsDimension dims }
