@@ -42,8 +42,8 @@ pub fn lowest_opening(d: u32, z: u64, low: u64, high: u64) -> Option<u32>
         (λ place. Opens d z low high place × ((i : ℕ) → Opens d z low high i → place ≤ i)) }
 {
     let undecided = u64::MAX << highest_decision(d, z, low, high);
-    // The zeros of `z` that may be a one, as far as the high end is concerned. Those of a coordinate
-    // that is above it are decided.
+    // The zeros of `z` that may be a one, as far as the high end is concerned. Those of a
+    // coordinate that is above it are decided.
     let zeros = !z & filled_down(d, high ^ z);
     let open = zeros & undecided;
     if open == 0 {

@@ -82,9 +82,9 @@ fn four_pairs(codes: u64x4) -> (u32x4, u32x4)
 /// The coordinates of codes of two coordinates: the first ones and the second ones, in the order of
 /// the codes, each of which may be any number.
 ///
-/// They are written to the beginnings of two lists, which are at least as long as that of the codes.
-/// The same as [`decode`](crate::decode) of each, in about half the time. Cannot fail and takes no
-/// memory. Source: Morton, IBM Ottawa, 1966.
+/// They are written to the beginnings of two lists, which are at least as long as that of the
+/// codes. The same as [`decode`](crate::decode) of each, in about half the time. Cannot fail and
+/// takes no memory. Source: Morton, IBM Ottawa, 1966.
 pub fn decode_pairs(codes: &[u64], firsts: &mut [u32], seconds: &mut [u32])
     requires firsts { length codes.now ≤ length firsts.old }
     requires seconds { length codes.now ≤ length seconds.old }

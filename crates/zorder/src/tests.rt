@@ -53,8 +53,8 @@ fn rows_of_codes(rt: HostRuntime) {
     }
 }
 
-/// The codes of two coordinates above, once more: four at once, and three by themselves. What stands
-/// behind them stays.
+/// The codes of two coordinates above, once more: four at once, and three by themselves. What
+/// stands behind them stays.
 #[test]
 fn pairs_at_once(rt: HostRuntime) {
     let codes: [u64; 7] = [
