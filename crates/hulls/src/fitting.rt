@@ -138,11 +138,17 @@ impl Hulls {
         let lift = 2 * self.eps;
         let falls = self.steep.turns(point, lift, steps);
         let rises = self.flat.turns(mirrored, lift, steps);
+        self.last = place;
+        // Most points turn neither line, and then nothing else changes.
+        if !falls {
+            if !rises {
+                return Offer::Extended;
+            }
+        }
         // A point that leaves the flat line as it is can be no lower place of a later steep pair,
         // and the other way round.
         self.steep.go_on(point, falls, rises, lift, steps);
         self.flat.go_on(mirrored, rises, falls, lift, steps);
-        self.last = place;
         Offer::Extended
     }
 

@@ -183,7 +183,7 @@ impl Hull {
         ensures capacity { room_in self.old ≤ room_in self.new }
     {
         if self.moves(next, turns, lift, steps) {
-            self.move_on(next, stands_out, lift, steps);
+            self.move_on(next.x, next.height, next.place, stands_out, lift, steps);
         } else {
             self.turn(next, turns, lift);
             self.put_off(next, stands_out, steps);

@@ -20,28 +20,32 @@ use std::sync::ledger::Ledger;
 impl Hull {
     /// Takes in the next point, where the pair becomes another one that may begin at another place.
     ///
-    /// This is rare, and it is kept out of the code that each point runs.
+    /// This is rare, so it is kept out of the code that each point runs, and it takes the point's
+    /// numbers, so that the point itself need not stand in memory.
     #[cold]
     #[inline(never)]
     pub fn move_on<L: Ledger>(
         &mut self,
-        next: Vertex,
+        x: u64,
+        height: u32,
+        place: u32,
         stands_out: bool,
         lift: u32,
         steps: &mut Steps<L>,
     )
         requires next { (q : Points) × (eps : ℕ) × (s : ℕ) × (e : ℕ) × IsHullOf q eps s e self.old ×
-            IsNextVertex q e next × (lift ≡ 2 * eps) × (eps ≤ MAX_EPSILON) ×
+            IsNextVertex q e (record { x = x; height = height; place = place }) × (lift ≡ 2 * eps) × (eps ≤ MAX_EPSILON) ×
             (e < s + room_in self.old) × IsFittable q eps s e ×
             (IsAtMost self.old.slope.slope (steep_slope q eps (lower_of self.old) e) → ⊥) ×
             OnFalse stands_out (IsShadowed q eps s e) }
         ensures hull { (q : Points) (eps s e : ℕ) → IsHullOf q eps s e self.old →
-            IsNextVertex q e next → lift ≡ 2 * eps → eps ≤ MAX_EPSILON → IsFittable q eps s e
+            IsNextVertex q e (record { x = x; height = height; place = place }) → lift ≡ 2 * eps → eps ≤ MAX_EPSILON → IsFittable q eps s e
             → (IsAtMost self.old.slope.slope (steep_slope q eps (lower_of self.old) e) → ⊥) →
             OnFalse stands_out (IsShadowed q eps s e) → IsHullOf q eps s (e + 1) self.new }
         ensures cost { steps.new + spare_of self.new ≤ steps.old + spare_of self.old + 3 }
         ensures capacity { room_in self.old ≤ room_in self.new }
     {
+        let next = Vertex { x, height, place };
         self.settle(steps);
         self.turn_to(next, lift, steps);
         self.take_in(next, stands_out, steps);

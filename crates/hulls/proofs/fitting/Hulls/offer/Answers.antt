@@ -1,8 +1,9 @@
 -- A point over the steep line is a cut, and so is one that lies over the flat line upside down; a point that is neither is taken in by both hulls.
-use Rattle.std.proofs.Common.{◌≡◌, ◌+◌, ◌*◌, ℕ, ap, arith, refl}
+use Rattle.std.proofs.Common.{◌≡◌, ◌+◌, ◌*◌, ◌-◌, ℕ, ap, arith, refl}
 use Rattle.std.proofs.lemmas.Bool.{OnTrue_at, OnFalse_at}
 use Rattle.hulls.specs.Hull.{GoesOn}
 use Rattle.hulls.specs.Hulls.{mirrored}
+use Rattle.hulls.proofs.Waiting.{IsHullWith-keeps, IsHullWith-skips}
 use Rattle.hulls.proofs.NewPoint.{IsNextVertex-steep, IsNextVertex-flat, no_line-over, no_line-under, IsCutOf-over, IsCutOf-under, fits-longer, IsFittable-steep, IsFittable-flat, IsShadowed-steep, IsShadowed-flat, OnTrue-map, OnFalse-map, StandsFor-longer}
 use Rattle.hulls.proofs.fitting.Hulls.offer.Goals as goal
 
@@ -126,6 +127,36 @@ returns-clause-fits g c = λ p eps s e next.
     fits-longer hulls p eps s e c.args.x c.args.y (omega arith) next
     (OnFalse_at c.if-is_over.false c.is_over.ensures.not_over p eps s e next.stands.steep point)
     (OnFalse_at c.if-is_over-2.false c.is_over-2.ensures.not_over (mirrored p) eps s e next.stands.flat turned)
+
+pub returns-then-not-rises-clause-fits : goal.returns-then-not-rises-clause-fits
+returns-then-not-rises-clause-fits g c = λ p eps s e next.
+    let hulls = c.args.self.now in
+    let point = IsNextVertex-steep hulls p eps s e c.args.x c.args.y (hulls.last + 1) (omega arith) next.stands.last next in
+    let turned = IsNextVertex-flat hulls p eps s e c.args.x c.args.y (hulls.last + 1) next.stands.last next in
+    fits-longer hulls p eps s e c.args.x c.args.y (omega arith) next
+    (OnFalse_at c.if-is_over.false c.is_over.ensures.not_over p eps s e next.stands.steep point)
+    (OnFalse_at c.if-is_over-2.false c.is_over-2.ensures.not_over (mirrored p) eps s e next.stands.flat turned)
+
+pub returns-then-not-rises-clause-stands : goal.returns-then-not-rises-clause-stands
+returns-then-not-rises-clause-stands g c = λ p eps s e next.
+    let hulls = c.args.self.now in
+    let x = c.args.x in
+    let y = c.args.y in
+    let point = IsNextVertex-steep hulls p eps s e x y (hulls.last + 1) (omega arith) next.stands.last next in
+    let turned = IsNextVertex-flat hulls p eps s e x y (hulls.last + 1) next.stands.last next in
+    let not_over = OnFalse_at c.if-is_over.false c.is_over.ensures.not_over p eps s e next.stands.steep point in
+    let not_under = OnFalse_at c.if-is_over-2.false c.is_over-2.ensures.not_over (mirrored p) eps s e next.stands.flat turned in
+    let lift : 2 * hulls.eps ≡ 2 * eps = ap (λ (t : ℕ). 2 * t) next.stands.bound in
+    let fits = fits-longer hulls p eps s e x y (omega arith) next not_over not_under in
+    let falls_stay = OnFalse-map c.turns-falls.result (λ stays. stays p eps s e next.stands.steep point lift) c.turns-falls.ensures.stay in
+    let rises_stay = OnFalse-map c.turns-rises.result (λ stays. stays (mirrored p) eps s e next.stands.flat turned lift) c.turns-rises.ensures.stay in
+    let shadow = IsShadowed-steep hulls p eps s e x y c.turns-rises.result (omega arith) next rises_stay in
+    let shadow_turned = IsShadowed-flat hulls p eps s e x y c.turns-falls.result (omega arith) next falls_stay in
+    StandsFor-longer hulls (record { steep = hulls.steep; flat = hulls.flat; eps = hulls.eps; last = hulls.last + 1 }) p eps s e x y (omega arith) next fits
+    (IsHullWith-skips p eps s e hulls.steep (IsHullWith-keeps p eps s e hulls.steep (record { x = x; height = y; place = hulls.last + 1 }) next.stands.steep point next.stands.bounded
+    not_over (OnFalse_at c.if-not-falls.true falls_stay)) (OnFalse_at c.if-not-rises.true shadow))
+    (IsHullWith-skips (mirrored p) eps s e hulls.flat (IsHullWith-keeps (mirrored p) eps s e hulls.flat (record { x = x; height = 4294967295 - y; place = hulls.last + 1 }) next.stands.flat turned next.stands.bounded
+    not_under (OnFalse_at c.if-not-rises.true rises_stay)) (OnFalse_at c.if-not-falls.true shadow_turned)) next.stands.last refl
 
 pub returns-clause-stands : goal.returns-clause-stands
 returns-clause-stands g c = λ p eps s e next.
