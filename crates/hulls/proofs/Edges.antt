@@ -1,5 +1,5 @@
 -- The edge of a hull: what lies under the line through its first two vertices, and under a steeper one.
-use Rattle.std.proofs.Common.{◌≡◌, ◌⊎◌, ℕ, zero, suc, ◌+◌, ◌*◌, ◌-◌, ◌<◌, ◌≤◌, pos, ◌-ℤ◌, inl, inr, refl, ap, subst, sym, arith}
+use Rattle.std.proofs.Common.{◌≡◌, ℕ, zero, suc, ◌+◌, ◌*◌, ◌-◌, ◌<◌, ◌≤◌, inl, inr, refl, ap, subst, arith}
 use Rattle.std.proofs.lemmas.Int.{ints}
 use Rattle.std.proofs.lemmas.Bool.{cases_lt}
 use borrow.Author.Differences.{up, down}
@@ -7,7 +7,7 @@ use Rattle.exact_cross.specs.declared.slope.Slope.{Slope}
 use Rattle.exact_cross.specs.Points.{Points}
 use Rattle.exact_cross.specs.Slopes.{IsAtMost, steep_slope}
 use Rattle.exact_cross.proofs.CallerLemmas.{IsAtMost-refl, IsAtMost-trans, IsAtMost-total, products_le-out}
-use Rattle.hulls.specs.Hull.{IsUnderChord, IsShadowed, IsUpperHull, IsUnderLine, IsEdgeOf, RiseRight}
+use Rattle.hulls.specs.Hull.{IsUnderChord, IsUpperHull, IsUnderLine, IsEdgeOf, RiseRight}
 use Rattle.hulls.proofs.Chords.{chord_under}
 use Rattle.hulls.proofs.RaisedSlopes.{at_least-out, at_least-in, under-out, under-in}
 use Rattle.hulls.proofs.Tangents.{place_before, not_right, chord_gaps, chord_from_gaps}

@@ -1,6 +1,6 @@
 -- Points that wait to come on the hull, and the edge that tells whether the pair's lower place stays.
 use Rattle.std.specs.Bool.{OnTrue, OnFalse}
-use Rattle.std.proofs.Common.{◌≡◌, ◌⊎◌, Bool, true, false, ℕ, zero, suc, ◌+◌, ◌*◌, ◌-◌, ◌^◌, ◌<◌, ◌≤◌, ◌∙◌, List, [], ◌∷◌, ◌++◌, length, take, inl, inr, refl, ap, subst, sym, arith}
+use Rattle.std.proofs.Common.{◌≡◌, ◌⊎◌, Bool, true, false, ℕ, zero, suc, ◌+◌, ◌*◌, ◌-◌, ◌<◌, ◌≤◌, ◌∙◌, List, [], ◌∷◌, ◌++◌, length, take, inl, inr, refl, ap, subst, sym, arith}
 use Rattle.std.proofs.lemmas.Bool.{cases_lt}
 use Rattle.std.proofs.lemmas.List.{get_or_append_left, get_or_push, length-append}
 use Rattle.exact_cross.specs.declared.slope.Slope.{Slope}
@@ -11,9 +11,9 @@ use Rattle.hulls.specs.declared.vertex.Vertex.{Vertex}
 use Rattle.hulls.specs.declared.slope.CountedSlope.{CountedSlope}
 use Rattle.hulls.specs.declared.hull.Hull.{Hull}
 use Rattle.hulls.specs.Vertices.{vertex_at, lifted_slope}
-use Rattle.hulls.specs.Hull.{IsShadowed, IsUpperHull, IsUnderLine, IsVertexOf, IsPairOf, IsEdgeOf, IsHullOn, IsHullUpTo, IsHullWith, IsHullOf, IsPlaceIn, AreLater, IsFittable, IsNextVertex, RiseRight, lower_of}
+use Rattle.hulls.specs.Hull.{IsShadowed, IsUpperHull, IsUnderLine, IsVertexOf, IsPairOf, IsEdgeOf, IsHullOn, IsHullUpTo, IsHullWith, IsHullOf, AreLater, IsFittable, IsNextVertex, RiseRight, lower_of}
 use Rattle.hulls.proofs.RaisedSlopes.{under_own_line}
-use Rattle.hulls.proofs.Tangents.{place_before, not_right}
+use Rattle.hulls.proofs.Tangents.{not_right}
 use Rattle.hulls.proofs.Edges.{under_steeper, IsUpperHull-two, IsEdgeOf-first, IsEdgeOf-none}
 use Rattle.hulls.proofs.PairSteps.{IsPairOf-keeps, IsPairOf-turns}
 use Rattle.hulls.proofs.HullSteps.{lifted_is_steep, place_of_next, under_line-from_slope, slope-from_under_line, kept_vertex, new_vertex, grown_length, IsHullUpTo-skips_to}

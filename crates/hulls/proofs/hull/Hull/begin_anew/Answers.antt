@@ -1,5 +1,5 @@
 -- The tangent's vertex is the lower point, and the edge goes to the next vertex.
-use Rattle.std.proofs.Common.{◌≡◌, ℕ, ◌+◌, ◌<◌, ◌≤◌, length, refl, arith}
+use Rattle.std.proofs.Common.{◌+◌, ◌<◌, ◌≤◌, length, refl, arith}
 use Rattle.hulls.specs.Vertices.{vertex_at}
 use Rattle.hulls.specs.Hull.{IsEdgeOf}
 use Rattle.hulls.proofs.HullSteps.{read_vertex}

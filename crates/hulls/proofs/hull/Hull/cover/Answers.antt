@@ -1,5 +1,5 @@
 -- The vertices that stay and the new one are the hull.
-use Rattle.std.proofs.Common.{◌≡◌, ◌∙◌, ap, ◌+◌, ◌<◌, ◌++◌, ◌∷◌, [], List, if◌then◌else◌, Result, is_ok, IsOk, Ok, Err, vec_len, vec_capacity, arith}
+use Rattle.std.proofs.Common.{◌≡◌, ◌∙◌, ap, ◌<◌, ◌++◌, ◌∷◌, [], List, if◌then◌else◌, Result, is_ok, IsOk, Ok, Err, vec_len, vec_capacity, arith}
 use Rattle.hulls.specs.declared.vertex.Vertex.{Vertex}
 use Rattle.hulls.proofs.HullSteps.{IsHullUpTo-covers}
 use Rattle.hulls.proofs.hull.Hull.cover.Goals as goal

@@ -1,5 +1,5 @@
 -- With all points on the hull the tangent is found there, and the lower point and the edge are read off the hull with the new point.
-use Rattle.std.proofs.Common.{◌≡◌, ℕ, ◌+◌, ◌*◌, ◌-◌, ◌<◌, ◌≤◌, length, [], sym, arith}
+use Rattle.std.proofs.Common.{◌+◌, ◌*◌, ◌-◌, ◌≤◌, length, sym, arith}
 use Rattle.exact_cross.specs.Slopes.{IsAtMost, steep_slope}
 use Rattle.hulls.specs.Vertices.{vertex_at}
 use Rattle.hulls.specs.Hull.{spare_of}

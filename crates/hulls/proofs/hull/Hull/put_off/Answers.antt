@@ -1,5 +1,5 @@
 -- The point waits, or it is the only one after the lower place, or it is shadowed.
-use Rattle.std.proofs.Common.{◌≡◌, ◌∙◌, ap, refl, ◌+◌, ◌<◌, ◌++◌, ◌∷◌, [], List, if◌then◌else◌, Result, is_ok, IsOk, Ok, Err, vec_len, vec_capacity, arith}
+use Rattle.std.proofs.Common.{◌≡◌, ◌∙◌, ap, refl, ◌<◌, ◌++◌, ◌∷◌, [], List, if◌then◌else◌, Result, is_ok, IsOk, Ok, Err, vec_len, vec_capacity, arith}
 use Rattle.std.proofs.lemmas.Bool.{OnTrue_at, OnFalse_at}
 use Rattle.hulls.specs.declared.vertex.Vertex.{Vertex}
 use Rattle.hulls.proofs.Waiting.{IsHullWith-restarts, IsHullWith-waits, IsHullWith-skips}

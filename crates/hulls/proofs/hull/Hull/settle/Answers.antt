@@ -1,5 +1,5 @@
 -- The points that waited come on the hull one after the other; what lies between them is shadowed.
-use Rattle.std.proofs.Common.{◌≡◌, ◌∙◌, ℕ, ◌+◌, ◌*◌, ◌-◌, ◌<◌, ◌≤◌, length, refl, arith}
+use Rattle.std.proofs.Common.{◌≡◌, ◌∙◌, ◌<◌, ◌≤◌, length, refl, arith}
 use Rattle.hulls.specs.Vertices.{vertex_at}
 use Rattle.hulls.proofs.HullSteps.{read_vertex, left_of_next}
 use Rattle.hulls.proofs.Waiting.{IsPartlyOn-none, IsPartlyOn-up_to, IsPartlyOn-more, IsPartlyOn-all}

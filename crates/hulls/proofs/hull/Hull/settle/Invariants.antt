@@ -1,5 +1,5 @@
 -- So far the first points that waited stand on the hull, at two steps or vertices each.
-use Rattle.std.proofs.Common.{◌≡◌, ℕ, ◌+◌, ◌*◌, ◌-◌, ◌<◌, ◌≤◌, length, vec_capacity}
+use Rattle.std.proofs.Common.{◌≡◌, ℕ, ◌+◌, ◌*◌, ◌-◌, ◌≤◌, length, vec_capacity}
 use Rattle.exact_cross.specs.Points.{Points}
 use Rattle.hulls.specs.Vertices.{vertex_at}
 use Rattle.hulls.specs.Hull.{IsHullOf, RiseRight}
