@@ -1,6 +1,6 @@
 -- What the tests of a new point against the two lines say of the run with that point.
 use Rattle.std.proofs.Common.{◌≡◌, Bool, true, false, ℕ, ◌+◌, ◌*◌, ◌-◌, ◌^◌, ◌<◌, ◌≤◌, ◌∙◌, pos, ◌-ℤ◌, inl, inr, ap, subst, sym, arith}
-use Rattle.std.specs.Bool.{OnFalse}
+use Rattle.std.specs.Bool.{OnTrue, OnFalse}
 use Rattle.std.proofs.lemmas.Int.{ints}
 use Rattle.std.proofs.lemmas.Bool.{cases_lt}
 use borrow.Author.Differences.{up, down}
@@ -328,3 +328,7 @@ StandsFor-one hulls p eps place x y ascends inside low last bound bounded steep 
 pub OnFalse-map : {P Q : Type 0} (b : Bool) → (P → Q) → OnFalse b P → OnFalse b Q
 OnFalse-map true f h = tt
 OnFalse-map false f h = f h
+
+pub OnTrue-map : {P Q : Type 0} (b : Bool) → (P → Q) → OnTrue b P → OnTrue b Q
+OnTrue-map true f h = f h
+OnTrue-map false f h = tt

@@ -1,5 +1,5 @@
 -- What two hulls stand for: a run of points, given place by place.
-use Rattle.std.specs.Prelude.{◌≡◌, ℕ, ◌+◌, ◌-◌, ◌^◌, ◌<◌, ◌≤◌, min, vec_capacity}
+use Rattle.std.specs.Prelude.{◌≡◌, ℕ, ◌+◌, ◌-◌, ◌^◌, ◌<◌, ◌≤◌, min}
 use Rattle.exact_cross.specs.declared.TheConstants.{MAX_EPSILON}
 use Rattle.exact_cross.specs.declared.segment.Witness.{Witness}
 use Rattle.exact_cross.specs.Points.{Points, IsAscending}
@@ -7,7 +7,7 @@ use Rattle.exact_cross.specs.Lines.{SomeLineFits}
 use Rattle.hulls.specs.declared.fitting.Hulls.{Hulls}
 use Rattle.hulls.specs.declared.fitting.Offer.{Offer}
 use Rattle.hulls.specs.declared.fitting.Offer.TheVariants.{Extended, Cut}
-use Rattle.hulls.specs.Hull.{IsHullOf, spare_of}
+use Rattle.hulls.specs.Hull.{IsHullOf, room_in, spare_of}
 
 -- what holds where the point was taken in, and what of the witness where it wasn't
 abbrev pub MatchOffer : Offer → Type 0 → (Witness → Type 0) → Type 0
@@ -20,9 +20,9 @@ mirrored p = record { count = p.count; x = p.x; y = λ j. 4294967295 - p.y j }
 
 -- how many points of one run fit in
 abbrev pub room_of : Hulls → ℕ
-room_of hulls = min (vec_capacity hulls.steep.vertices) (vec_capacity hulls.flat.vertices)
+room_of hulls = min (room_in hulls.steep) (room_in hulls.flat)
 
--- how many points stand on the two hulls past the tangent places
+-- how many steps later calls may take for points that came before: one for each point on the two hulls past the tangent places, and two for each that waits to come on one
 abbrev pub spare : Hulls → ℕ
 spare hulls = spare_of hulls.steep + spare_of hulls.flat
 

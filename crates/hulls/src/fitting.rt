@@ -29,9 +29,9 @@ pub enum Offer {
 /// Source: O'Rourke, CACM 24(9), 1981.
 #[derive(Drop)]
 pub struct Hulls {
-    /// The steep pair, with the upper hull of the points.
+    /// The steep pair, with the points at which the next one can begin.
     steep: Hull,
-    /// The flat pair, with the upper hull of the points upside down.
+    /// The flat pair, which is the steep pair of the points upside down.
     flat: Hull,
     /// The error bound.
     eps: u32,
@@ -42,8 +42,8 @@ pub struct Hulls {
 impl Hulls {
     /// No run yet, with room for `room` points of one run.
     ///
-    /// `eps` is the error bound `ε`. This call alone takes memory: `room` points of 16 bytes for
-    /// each of the two hulls, which aren't touched before they are used.
+    /// `eps` is the error bound `ε`. This call alone takes memory: twice `room` points of 16 bytes
+    /// for each of the two lines, which aren't touched before they are used.
     ///
     /// # Errors
     ///
@@ -136,13 +136,19 @@ impl Hulls {
             return Offer::Cut(self.flat.cut_before(place, Side::Under));
         }
         let lift = 2 * self.eps;
-        let falls = self.steep.turn_to(point, lift, steps);
-        let rises = self.flat.turn_to(mirrored, lift, steps);
+        let falls = self.steep.turns(point, lift, steps);
+        let rises = self.flat.turns(mirrored, lift, steps);
+        self.last = place;
+        // Most points turn neither line, and then nothing else changes.
+        if !falls {
+            if !rises {
+                return Offer::Extended;
+            }
+        }
         // A point that leaves the flat line as it is can be no lower place of a later steep pair,
         // and the other way round.
-        self.steep.take_in(point, rises, steps);
-        self.flat.take_in(mirrored, falls, steps);
-        self.last = place;
+        self.steep.go_on(point, falls, rises, lift, steps);
+        self.flat.go_on(mirrored, rises, falls, lift, steps);
         Offer::Extended
     }
 

@@ -12,6 +12,7 @@
 
 mod fitting;
 mod hull;
+mod moves;
 mod search;
 mod slope;
 mod vertex;

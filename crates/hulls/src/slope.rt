@@ -2,7 +2,7 @@
 ghost use Rattle.std.specs.Prelude.{◌≡◌, ◌+◌, ◌<◌, ◌≤◌};
 ghost use Rattle.std.specs.Bool.{OnTrue, OnFalse};
 ghost use Rattle.exact_cross.specs.Slopes.{IsAtMost};
-ghost use Rattle.hulls.specs.Slopes.{steepest};
+ghost use Rattle.hulls.specs.Slopes.{flattest, steepest};
 ghost use Rattle.hulls.specs.Vertices.{lifted_slope};
 
 use crate::vertex::Vertex;
@@ -30,7 +30,19 @@ impl CountedSlope {
         }
     }
 
+    /// The slope of the edge of a hull of one vertex, which has no edge: flatter than any two points
+    /// are.
+    pub fn flattest() -> CountedSlope
+        ensures { result.slope ≡ flattest }
+    {
+        let rise = -STEEPEST;
+        CountedSlope {
+            slope: Slope { rise, run: 1 },
+        }
+    }
+
     /// The slope from a vertex to `lift` above another one to the right of it.
+    #[inline(always)]
     pub fn between(low: Vertex, high: Vertex, lift: u32) -> CountedSlope
         requires right { low.x < high.x }
         requires lift { lift ≤ 2097152 }
@@ -44,7 +56,7 @@ impl CountedSlope {
     }
 
     /// Whether this slope is less than the other one.
-    #[inline]
+    #[inline(always)]
     pub fn is_below<L: Ledger>(&self, other: &CountedSlope, steps: &mut Steps<L>) -> bool
         requires this { 1 ≤ self.now.slope.run }
         requires that { 1 ≤ other.now.slope.run }

@@ -39,7 +39,7 @@ use std::sync::ledger::{Blank, Ledger};
 ///
 /// # Errors
 ///
-/// `NoMemory` alone, where the list of segments or the two hulls find none. The hulls ask for 32
+/// `NoMemory` alone, where the list of segments or the two hulls find none. The hulls ask for 64
 /// bytes a point, once for the whole range, and touch as much as the longest hulls of a run take.
 ///
 /// Source: Ferragina and Vinciguerra, PVLDB 13(8), 2020, section 3.1; O'Rourke, CACM 24(9), 1981.

@@ -13,3 +13,16 @@ loop-place-init g c =
           (IsAscending-points_of xs ys c.requires.same_length c.requires.rising c.requires.never_falls) (omega arith) refl refl);
       room = omega (arith, c.in_ok-hulls.ensures.room, c.start.ensures.room);
     }
+
+pub offer-offer-requires : goal.offer-offer-requires
+offer-offer-requires g c =
+    let so_far = c.loop-place.invariant in
+    (points_of c.args.xs.now c.args.ys.now, c.args.eps, 0, c.loop-place.place, record { stands = so_far.stands; more = omega arith; at_x = refl; at_y = refl }, omega arith, omega (arith, so_far.room))
+
+pub loop-place-preserved : goal.loop-place-preserved
+loop-place-preserved g c =
+    let so_far = c.loop-place.invariant in
+    record {
+      stands = c.in_default.ensures.stands (points_of c.args.xs.now c.args.ys.now) c.args.eps 0 c.loop-place.place (record { stands = so_far.stands; more = omega arith; at_x = refl; at_y = refl });
+      room = omega (arith, c.in_default.ensures.room, so_far.room);
+    }

@@ -18,6 +18,14 @@ loop-place-init g c =
       bound = c.start.ensures.bound;
     }
 
+pub offer-requires : goal.offer-requires
+offer-requires g c =
+    let xs = c.args.xs.now in
+    let ys = c.args.ys.now in
+    let so_far = c.loop-place.invariant in
+    let next = IsNext-place c.loop-place.hulls xs ys (bound_of c.args.hulls.now) c.args.start c.loop-place.place so_far.stands (omega arith) in
+    (points_of xs ys, bound_of c.args.hulls.now, c.args.start, c.loop-place.place, next, omega arith, omega (arith, so_far.room, c.requires.room))
+
 pub loop-place-preserved : goal.loop-place-preserved
 loop-place-preserved g c =
     let xs = c.args.xs.now in
@@ -63,3 +71,6 @@ pub returns-clause-steep : goal.returns-clause-steep
 returns-clause-steep g c =
     let at_end : c.loop-place.place ≡ c.args.to = omega (arith, c.loop-place.auto.place-end (omega arith)) in
     c.segment_of-segment-2.ensures.steep (points_of c.args.xs.now c.args.ys.now) (bound_of c.args.hulls.now) c.args.to (rw at_end at c.loop-place.invariant.stands)
+
+pub returns-clause-cut : goal.returns-clause-cut
+returns-clause-cut g c = record { last = λ same. c.segment_of-segment-2.ensures.cut; other = λ less. absurd (omega (arith, less)) }

@@ -6,6 +6,7 @@ use lib.Dec.{T}
 use lib.Signed.{non_neg}
 use Rattle.hulls.specs.declared.vertex.Vertex.{Vertex}
 use Rattle.hulls.specs.Hull.{IsVertexOf, lower_of}
+use Rattle.hulls.proofs.Waiting.{low_point}
 use Rattle.hulls.proofs.PairLine.{Rises, Rises-from_stands, line_of_pair-from_slope}
 use Rattle.hulls.proofs.fitting.Hulls.line.Goals as goal
 
@@ -31,6 +32,6 @@ returns-else-low-b-clause-line c = λ p eps s e stands.
     let apart : lower_of hulls.steep ≡ hulls.steep.upper → ⊥ = λ same. c.if-low-b.false (ap (λ (v : Vertex). v.place) c.lower-low.ensures ∙ same ∙ sym c.upper-b.ensures) in
     let rises : Rises p eps c.lower-low.result.place c.upper-b.result c.slope-slope.result =
     rw (c.lower-low.ensures, c.upper-b.ensures, c.slope-slope.ensures) (Rises-from_stands hulls p eps s e stands apart) in
-    let point : IsVertexOf p c.lower-low.result = rw c.lower-low.ensures (stands.steep.are_points hulls.steep.tangent (omega arith) stands.steep.inside) in
+    let point : IsVertexOf p c.lower-low.result = rw c.lower-low.ensures (low_point p eps s e e hulls.steep stands.steep) in
     line_of_pair-from_slope p eps hulls.eps c.lower-low.result.place c.upper-b.result c.lower-low.result c.slope-slope.result c.from-y.result c.from.result
     rises point refl stands.bound c.from-y.ensures c.from.ensures

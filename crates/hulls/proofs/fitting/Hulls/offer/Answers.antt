@@ -1,8 +1,10 @@
 -- A point over the steep line is a cut, and so is one that lies over the flat line upside down; a point that is neither is taken in by both hulls.
-use Rattle.std.proofs.Common.{◌≡◌, ◌+◌, ◌*◌, ℕ, ap, arith, refl}
+use Rattle.std.proofs.Common.{◌≡◌, ◌+◌, ◌*◌, ◌-◌, ℕ, ap, arith, refl}
 use Rattle.std.proofs.lemmas.Bool.{OnTrue_at, OnFalse_at}
+use Rattle.hulls.specs.Hull.{GoesOn}
 use Rattle.hulls.specs.Hulls.{mirrored}
-use Rattle.hulls.proofs.NewPoint.{IsNextVertex-steep, IsNextVertex-flat, no_line-over, no_line-under, IsCutOf-over, IsCutOf-under, fits-longer, IsFittable-steep, IsFittable-flat, IsShadowed-steep, IsShadowed-flat, OnFalse-map, StandsFor-longer}
+use Rattle.hulls.proofs.Waiting.{IsHullWith-keeps, IsHullWith-skips}
+use Rattle.hulls.proofs.NewPoint.{IsNextVertex-steep, IsNextVertex-flat, no_line-over, no_line-under, IsCutOf-over, IsCutOf-under, fits-longer, IsFittable-steep, IsFittable-flat, IsShadowed-steep, IsShadowed-flat, OnTrue-map, OnFalse-map, StandsFor-longer}
 use Rattle.hulls.proofs.fitting.Hulls.offer.Goals as goal
 
 pub is_over-requires : goal.is_over-requires
@@ -49,58 +51,73 @@ returns-then-is_over-2-clause-witness g c = λ p eps s e next.
     (OnTrue_at c.if-is_over-2.true c.is_over-2.ensures.over (mirrored p) eps s e next.stands.flat
     (IsNextVertex-flat hulls p eps s e c.args.x c.args.y (c.args.self.now.last + 1) here next)) c.cut_before-then-is_over-2.ensures
 
-pub turn_to-falls-requires : goal.turn_to-falls-requires
-turn_to-falls-requires g c =
+pub turns-falls-requires : goal.turns-falls-requires
+turns-falls-requires g c =
     let r = c.requires in
     let next = r.4 in
     let vertex = IsNextVertex-steep c.args.self.now r.0 r.1 r.2 r.3 c.args.x c.args.y (c.args.self.now.last + 1) (omega arith) next.stands.last next in
     (r.0, r.1, r.2, r.3, next.stands.steep, vertex, ap (λ (t : ℕ). 2 * t) next.stands.bound, next.stands.bounded)
 
-pub turn_to-rises-requires : goal.turn_to-rises-requires
-turn_to-rises-requires g c =
+pub turns-rises-requires : goal.turns-rises-requires
+turns-rises-requires g c =
     let r = c.requires in
     let next = r.4 in
     let vertex = IsNextVertex-flat c.args.self.now r.0 r.1 r.2 r.3 c.args.x c.args.y (c.args.self.now.last + 1) next.stands.last next in
     (mirrored r.0, r.1, r.2, r.3, next.stands.flat, vertex, ap (λ (t : ℕ). 2 * t) next.stands.bound, next.stands.bounded)
 
-pub take_in-requires-clause-next : goal.take_in-requires-clause-next
-take_in-requires-clause-next g c =
+pub go_on-requires : goal.go_on-requires
+go_on-requires g c =
+    let p = c.requires.0 in
+    let eps = c.requires.1 in
+    let s = c.requires.2 in
+    let e = c.requires.3 in
+    let next = c.requires.4 in
     let hulls = c.args.self.now in
-    let r = c.requires in
-    let next = r.4 in
-    let place = hulls.last + 1 in
-    let point = IsNextVertex-steep hulls r.0 r.1 r.2 r.3 c.args.x c.args.y (hulls.last + 1) (omega arith) next.stands.last next in
-    let turned = IsNextVertex-flat hulls r.0 r.1 r.2 r.3 c.args.x c.args.y (hulls.last + 1) next.stands.last next in
-    let not_over = OnFalse_at c.if-is_over.false c.is_over.ensures.not_over r.0 r.1 r.2 r.3 next.stands.steep point in
-    let not_under = OnFalse_at c.if-is_over-2.false c.is_over-2.ensures.not_over (mirrored r.0) r.1 r.2 r.3 next.stands.flat turned in
-    let fits = fits-longer hulls r.0 r.1 r.2 r.3 c.args.x c.args.y (omega arith) next not_over not_under in (
-      r.0,
-      r.1,
-      r.2,
-      r.3,
-      c.turn_to-falls.ensures.pair r.0 r.1 r.2 r.3 next.stands.steep point (ap (λ (t : ℕ). 2 * t) next.stands.bound) next.stands.bounded
-          (IsFittable-steep hulls r.0 r.1 r.2 r.3 c.args.x c.args.y next fits) not_over,
-      point,
-    )
+    let x = c.args.x in
+    let y = c.args.y in
+    let point = IsNextVertex-steep hulls p eps s e x y (hulls.last + 1) (omega arith) next.stands.last next in
+    let turned = IsNextVertex-flat hulls p eps s e x y (hulls.last + 1) next.stands.last next in
+    let not_over = OnFalse_at c.if-is_over.false c.is_over.ensures.not_over p eps s e next.stands.steep point in
+    let not_under = OnFalse_at c.if-is_over-2.false c.is_over-2.ensures.not_over (mirrored p) eps s e next.stands.flat turned in
+    let lift : 2 * hulls.eps ≡ 2 * eps = ap (λ (t : ℕ). 2 * t) next.stands.bound in
+    let fits = fits-longer hulls p eps s e x y (omega arith) next not_over not_under in
+    let falls_stay = OnFalse-map c.turns-falls.result (λ stays. stays p eps s e next.stands.steep point lift) c.turns-falls.ensures.stay in
+    let rises_stay = OnFalse-map c.turns-rises.result (λ stays. stays (mirrored p) eps s e next.stands.flat turned lift) c.turns-rises.ensures.stay in
+    let goes : GoesOn p eps s e c.turns-falls.result hulls.steep = record {
+      fits = IsFittable-steep hulls p eps s e x y next fits;
+      under = not_over;
+      turn = OnTrue-map c.turns-falls.result (λ turns. turns p eps s e next.stands.steep point lift) c.turns-falls.ensures.turn;
+      stay = falls_stay;
+    } in
+    let shadow = IsShadowed-steep hulls p eps s e x y c.turns-rises.result (omega arith) next rises_stay in
+    record { next = (p, eps, s, e, next.stands.steep, point, lift, next.stands.bounded, omega (arith, c.requires.6), goes, shadow) }
 
-pub take_in-requires-2-clause-next : goal.take_in-requires-2-clause-next
-take_in-requires-2-clause-next g c =
+pub go_on-requires-2 : goal.go_on-requires-2
+go_on-requires-2 g c =
+    let p = c.requires.0 in
+    let eps = c.requires.1 in
+    let s = c.requires.2 in
+    let e = c.requires.3 in
+    let next = c.requires.4 in
     let hulls = c.args.self.now in
-    let r = c.requires in
-    let next = r.4 in
-    let point = IsNextVertex-steep hulls r.0 r.1 r.2 r.3 c.args.x c.args.y (hulls.last + 1) (omega arith) next.stands.last next in
-    let turned = IsNextVertex-flat hulls r.0 r.1 r.2 r.3 c.args.x c.args.y (hulls.last + 1) next.stands.last next in
-    let not_over = OnFalse_at c.if-is_over.false c.is_over.ensures.not_over r.0 r.1 r.2 r.3 next.stands.steep point in
-    let not_under = OnFalse_at c.if-is_over-2.false c.is_over-2.ensures.not_over (mirrored r.0) r.1 r.2 r.3 next.stands.flat turned in
-    let fits = fits-longer hulls r.0 r.1 r.2 r.3 c.args.x c.args.y (omega arith) next not_over not_under in (
-      mirrored r.0,
-      r.1,
-      r.2,
-      r.3,
-      c.turn_to-rises.ensures.pair (mirrored r.0) r.1 r.2 r.3 next.stands.flat turned (ap (λ (t : ℕ). 2 * t) next.stands.bound) next.stands.bounded
-          (IsFittable-flat hulls r.0 r.1 r.2 r.3 c.args.x c.args.y (omega arith) next fits) not_under,
-      turned,
-    )
+    let x = c.args.x in
+    let y = c.args.y in
+    let point = IsNextVertex-steep hulls p eps s e x y (hulls.last + 1) (omega arith) next.stands.last next in
+    let turned = IsNextVertex-flat hulls p eps s e x y (hulls.last + 1) next.stands.last next in
+    let not_over = OnFalse_at c.if-is_over.false c.is_over.ensures.not_over p eps s e next.stands.steep point in
+    let not_under = OnFalse_at c.if-is_over-2.false c.is_over-2.ensures.not_over (mirrored p) eps s e next.stands.flat turned in
+    let lift : 2 * hulls.eps ≡ 2 * eps = ap (λ (t : ℕ). 2 * t) next.stands.bound in
+    let fits = fits-longer hulls p eps s e x y (omega arith) next not_over not_under in
+    let falls_stay = OnFalse-map c.turns-falls.result (λ stays. stays p eps s e next.stands.steep point lift) c.turns-falls.ensures.stay in
+    let rises_stay = OnFalse-map c.turns-rises.result (λ stays. stays (mirrored p) eps s e next.stands.flat turned lift) c.turns-rises.ensures.stay in
+    let goes_turned : GoesOn (mirrored p) eps s e c.turns-rises.result hulls.flat = record {
+      fits = IsFittable-flat hulls p eps s e x y (omega arith) next fits;
+      under = not_under;
+      turn = OnTrue-map c.turns-rises.result (λ turns. turns (mirrored p) eps s e next.stands.flat turned lift) c.turns-rises.ensures.turn;
+      stay = rises_stay;
+    } in
+    let shadow_turned = IsShadowed-flat hulls p eps s e x y c.turns-falls.result (omega arith) next falls_stay in
+    record { next = (mirrored p, eps, s, e, next.stands.flat, turned, lift, next.stands.bounded, omega (arith, c.requires.6), goes_turned, shadow_turned) }
 
 pub returns-clause-fits : goal.returns-clause-fits
 returns-clause-fits g c = λ p eps s e next.
@@ -110,6 +127,36 @@ returns-clause-fits g c = λ p eps s e next.
     fits-longer hulls p eps s e c.args.x c.args.y (omega arith) next
     (OnFalse_at c.if-is_over.false c.is_over.ensures.not_over p eps s e next.stands.steep point)
     (OnFalse_at c.if-is_over-2.false c.is_over-2.ensures.not_over (mirrored p) eps s e next.stands.flat turned)
+
+pub returns-then-not-rises-clause-fits : goal.returns-then-not-rises-clause-fits
+returns-then-not-rises-clause-fits g c = λ p eps s e next.
+    let hulls = c.args.self.now in
+    let point = IsNextVertex-steep hulls p eps s e c.args.x c.args.y (hulls.last + 1) (omega arith) next.stands.last next in
+    let turned = IsNextVertex-flat hulls p eps s e c.args.x c.args.y (hulls.last + 1) next.stands.last next in
+    fits-longer hulls p eps s e c.args.x c.args.y (omega arith) next
+    (OnFalse_at c.if-is_over.false c.is_over.ensures.not_over p eps s e next.stands.steep point)
+    (OnFalse_at c.if-is_over-2.false c.is_over-2.ensures.not_over (mirrored p) eps s e next.stands.flat turned)
+
+pub returns-then-not-rises-clause-stands : goal.returns-then-not-rises-clause-stands
+returns-then-not-rises-clause-stands g c = λ p eps s e next.
+    let hulls = c.args.self.now in
+    let x = c.args.x in
+    let y = c.args.y in
+    let point = IsNextVertex-steep hulls p eps s e x y (hulls.last + 1) (omega arith) next.stands.last next in
+    let turned = IsNextVertex-flat hulls p eps s e x y (hulls.last + 1) next.stands.last next in
+    let not_over = OnFalse_at c.if-is_over.false c.is_over.ensures.not_over p eps s e next.stands.steep point in
+    let not_under = OnFalse_at c.if-is_over-2.false c.is_over-2.ensures.not_over (mirrored p) eps s e next.stands.flat turned in
+    let lift : 2 * hulls.eps ≡ 2 * eps = ap (λ (t : ℕ). 2 * t) next.stands.bound in
+    let fits = fits-longer hulls p eps s e x y (omega arith) next not_over not_under in
+    let falls_stay = OnFalse-map c.turns-falls.result (λ stays. stays p eps s e next.stands.steep point lift) c.turns-falls.ensures.stay in
+    let rises_stay = OnFalse-map c.turns-rises.result (λ stays. stays (mirrored p) eps s e next.stands.flat turned lift) c.turns-rises.ensures.stay in
+    let shadow = IsShadowed-steep hulls p eps s e x y c.turns-rises.result (omega arith) next rises_stay in
+    let shadow_turned = IsShadowed-flat hulls p eps s e x y c.turns-falls.result (omega arith) next falls_stay in
+    StandsFor-longer hulls (record { steep = hulls.steep; flat = hulls.flat; eps = hulls.eps; last = hulls.last + 1 }) p eps s e x y (omega arith) next fits
+    (IsHullWith-skips p eps s e hulls.steep (IsHullWith-keeps p eps s e hulls.steep (record { x = x; height = y; place = hulls.last + 1 }) next.stands.steep point next.stands.bounded
+    not_over (OnFalse_at c.if-not-falls.true falls_stay)) (OnFalse_at c.if-not-rises.true shadow))
+    (IsHullWith-skips (mirrored p) eps s e hulls.flat (IsHullWith-keeps (mirrored p) eps s e hulls.flat (record { x = x; height = 4294967295 - y; place = hulls.last + 1 }) next.stands.flat turned next.stands.bounded
+    not_under (OnFalse_at c.if-not-rises.true rises_stay)) (OnFalse_at c.if-not-falls.true shadow_turned)) next.stands.last refl
 
 pub returns-clause-stands : goal.returns-clause-stands
 returns-clause-stands g c = λ p eps s e next.
@@ -122,12 +169,22 @@ returns-clause-stands g c = λ p eps s e next.
     let not_under = OnFalse_at c.if-is_over-2.false c.is_over-2.ensures.not_over (mirrored p) eps s e next.stands.flat turned in
     let lift : 2 * hulls.eps ≡ 2 * eps = ap (λ (t : ℕ). 2 * t) next.stands.bound in
     let fits = fits-longer hulls p eps s e x y (omega arith) next not_over not_under in
-    let steep = c.turn_to-falls.ensures.pair p eps s e next.stands.steep point lift next.stands.bounded (IsFittable-steep hulls p eps s e x y next fits) not_over in
-    let flat = c.turn_to-rises.ensures.pair (mirrored p) eps s e next.stands.flat turned lift next.stands.bounded (IsFittable-flat hulls p eps s e x y (omega arith) next fits) not_under in
-    let shadow = IsShadowed-steep hulls p eps s e x y c.turn_to-rises.result (omega arith) next
-    (OnFalse-map c.turn_to-rises.result (λ stays. stays (mirrored p) eps s e next.stands.flat turned lift) c.turn_to-rises.ensures.stays) in
-    let shadow_turned = IsShadowed-flat hulls p eps s e x y c.turn_to-falls.result (omega arith) next
-    (OnFalse-map c.turn_to-falls.result (λ stays. stays p eps s e next.stands.steep point lift) c.turn_to-falls.ensures.stays) in
-    StandsFor-longer hulls (record { steep = c.take_in.new.self; flat = c.take_in-2.new.self; eps = hulls.eps; last = hulls.last + 1 }) p eps s e x y (omega arith) next fits
-    (c.take_in.ensures.hull p eps s e steep point shadow)
-    (c.take_in-2.ensures.hull (mirrored p) eps s e flat turned shadow_turned) next.stands.last refl
+    let falls_stay = OnFalse-map c.turns-falls.result (λ stays. stays p eps s e next.stands.steep point lift) c.turns-falls.ensures.stay in
+    let rises_stay = OnFalse-map c.turns-rises.result (λ stays. stays (mirrored p) eps s e next.stands.flat turned lift) c.turns-rises.ensures.stay in
+    let goes : GoesOn p eps s e c.turns-falls.result hulls.steep = record {
+      fits = IsFittable-steep hulls p eps s e x y next fits;
+      under = not_over;
+      turn = OnTrue-map c.turns-falls.result (λ turns. turns p eps s e next.stands.steep point lift) c.turns-falls.ensures.turn;
+      stay = falls_stay;
+    } in
+    let shadow = IsShadowed-steep hulls p eps s e x y c.turns-rises.result (omega arith) next rises_stay in
+    let goes_turned : GoesOn (mirrored p) eps s e c.turns-rises.result hulls.flat = record {
+      fits = IsFittable-flat hulls p eps s e x y (omega arith) next fits;
+      under = not_under;
+      turn = OnTrue-map c.turns-rises.result (λ turns. turns (mirrored p) eps s e next.stands.flat turned lift) c.turns-rises.ensures.turn;
+      stay = rises_stay;
+    } in
+    let shadow_turned = IsShadowed-flat hulls p eps s e x y c.turns-falls.result (omega arith) next falls_stay in
+    StandsFor-longer hulls (record { steep = c.go_on.new.self; flat = c.go_on-2.new.self; eps = hulls.eps; last = hulls.last + 1 }) p eps s e x y (omega arith) next fits
+    (c.go_on.ensures.hull p eps s e next.stands.steep point lift next.stands.bounded goes shadow)
+    (c.go_on-2.ensures.hull (mirrored p) eps s e next.stands.flat turned lift next.stands.bounded goes_turned shadow_turned) next.stands.last refl
