@@ -21,19 +21,43 @@ static bool is_below(const Slope &f, const Slope &g) {
     return (i128)f.rise * g.run < (i128)g.rise * f.run;
 }
 
+// The pair with its hull; points that can be a later pair's lower place wait in `later` until the lower place may move.
 struct Hull {
-    std::vector<Vertex> vertices;
+    std::vector<Vertex> vertices, later;
     size_t tangent = 0;
-    Slope slope;
+    Vertex low;
+    Slope slope, edge;
     void start(const Vertex &first) {
         vertices.clear();
         vertices.push_back(first);
+        later.clear();
         tangent = 0;
+        low = first;
         slope = {1LL << 40, 1};
+        edge = {-(1LL << 40), 1};
     }
-    bool is_over(const Vertex &next) { return is_below(slope, between(vertices[tangent], next, 0)); }
-    bool turn_to(const Vertex &next, uint32_t lift) {
-        if (!is_below(between(vertices[tangent], next, lift), slope)) return false;
+    bool is_over(const Vertex &next) { return is_below(slope, between(low, next, 0)); }
+    bool turns(const Vertex &next, uint32_t lift) { return is_below(between(low, next, lift), slope); }
+    void go_on(const Vertex &next, bool turns, bool stands_out, uint32_t lift) {
+        if (turns && is_below(between(low, next, lift), edge)) {
+            move_on(next, stands_out, lift);
+            return;
+        }
+        if (turns) slope = between(low, next, lift);
+        if (!stands_out) return;
+        Slope further = between(low, next, 0);
+        if (is_below(edge, further)) {
+            vertices.resize(tangent + 1);
+            vertices.push_back(next);
+            later.clear();
+            edge = further;
+        } else {
+            later.push_back(next);
+        }
+    }
+    void move_on(const Vertex &next, bool stands_out, uint32_t lift) {
+        for (const Vertex &point : later) cover(point);
+        later.clear();
         slope = between(vertices[tangent], next, lift);
         while (tangent + 1 < vertices.size()) {
             Slope further = between(vertices[tangent + 1], next, lift);
@@ -41,10 +65,11 @@ struct Hull {
             ++tangent;
             slope = further;
         }
-        return true;
+        if (stands_out) cover(next);
+        low = vertices[tangent];
+        edge = tangent + 1 < vertices.size() ? between(low, vertices[tangent + 1], 0) : Slope{-(1LL << 40), 1};
     }
-    void take_in(const Vertex &next, bool stands_out) {
-        if (!stands_out) return;
+    void cover(const Vertex &next) {
         while (vertices.size() > tangent + 1) {
             const Vertex &last = vertices.back();
             if (is_below(between(last, next, 0), between(vertices[vertices.size() - 2], last, 0))) break;
@@ -80,10 +105,10 @@ int main(int argc, char **argv) {
             } else if (steep.is_over(point) || flat.is_over(turned)) {
                 break;
             } else {
-                bool falls = steep.turn_to(point, lift);
-                bool rises = flat.turn_to(turned, lift);
-                steep.take_in(point, rises);
-                flat.take_in(turned, falls);
+                bool falls = steep.turns(point, lift);
+                bool rises = flat.turns(turned, lift);
+                steep.go_on(point, falls, rises, lift);
+                flat.go_on(turned, rises, falls, lift);
             }
         }
         u64 per_point = (steps - before + (i - start) - 1) / (i - start);
