@@ -7,8 +7,8 @@ use Rattle.std.proofs.Math.Nat.{mul-le-mul_left, mul-le-mul_right, div-mul-le_se
 use Rattle.std.specs.List.Sorted.{IsNonDecreasing}
 use Rattle.window_search.specs.Searches.{lb}
 use Rattle.levels.specs.Indexes.{PgmIndex, xs_at}
-use Rattle.radix_table.specs.Tables.{IsBetween}
-use Rattle.radix_table.proofs.CountLemmas.{Rises, IsEntry-at, IsFilled, IsFilled-more, IsFilledTo, filled_more, step-below}
+use Rattle.radix_table.specs.Tables.{IsBetween, IsFilledTo}
+use Rattle.radix_table.proofs.CountLemmas.{Rises, IsEntry-at, IsFilled, IsFilled-more, filled_more, step-below}
 use Rattle.radix_table.proofs.ScaleLemmas.{power_some}
 use Rattle.bucketed.specs.Tables.{bucket_of}
 

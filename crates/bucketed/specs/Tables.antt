@@ -39,9 +39,3 @@ pub record AreBuckets (index : PgmIndex) (bits : ℕ) (table : List ℕ) : Type 
   pub some : 1 ≤ bits
   pub few : bits ≤ 20
   pub entries : IsTable index bits table
-
--- so many numbers of a list stand in front that are at most q, and all others are greater
-pub record AreBegun (xs : List ℕ) (q count : ℕ) : Type 0 where
-  pub within : count ≤ length xs
-  pub before : (k : ℕ) → k < count → slice_index xs k ≤ q
-  pub from : (k : ℕ) → count ≤ k → k < length xs → q < slice_index xs k

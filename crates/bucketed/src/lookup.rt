@@ -5,7 +5,7 @@ ghost use Rattle.window_search.specs.Searches.{lb, IsPredecessor};
 ghost use Rattle.radix_table.specs.Tables.{IsBetween};
 ghost use Rattle.levels.specs.Costs.{TakesAtMost};
 ghost use Rattle.levels.specs.Indexes.{xs_at};
-ghost use Rattle.bucketed.specs.Tables.{lookup_bound, runs_beside, AreBegun};
+ghost use Rattle.bucketed.specs.Tables.{lookup_bound, runs_beside};
 
 use crate::Buckets;
 use budget::Steps;
@@ -49,7 +49,7 @@ impl<'a> Buckets<'a> {
     /// How many runs of level 0 begin at or before `q`.
     #[inline(always)]
     fn begun<L: Ledger>(&self, q: u64, steps: &mut Steps<L>) -> u32
-        ensures runs { AreBegun (xs_at self.now.index.keys self.now.index.levels 1) q result }
+        ensures runs { IsBetween (xs_at self.now.index.keys self.now.index.levels 1) q result result }
         ensures cost { TakesAtMost (8 * (runs_beside self.now.index self.now.bits q + 1)) steps.old
             steps.new }
     {

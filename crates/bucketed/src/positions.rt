@@ -13,9 +13,9 @@ impl<'a> Buckets<'a> {
     /// The position of each question in the file, in order, behind what the list has: how many keys
     /// of the file are below the question.
     ///
-    /// The list has room for as many more. Sixteen questions are searched in step, for their runs and
-    /// then for their positions, so that their reads of memory don't wait for one another. Cannot
-    /// fail and takes no memory.
+    /// The list has room for as many more. Sixteen questions are searched in step, for their runs
+    /// and then for their positions, so that their reads of memory don't wait for one another.
+    /// Cannot fail and takes no memory.
     pub fn positions(&self, qs: &[u64], into: &mut Vec<u32>)
         requires room { vec_len into.old + length qs.now ≤ vec_capacity into.old }
         ensures positions { into.new.items

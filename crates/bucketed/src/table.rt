@@ -1,12 +1,11 @@
 // The table, in one pass over the runs.
-ghost use Rattle.std.specs.Prelude.{◌≡◌, ◌+◌, ◌-◌, ◌<◌, ◌≤◌, ◌^◌};
-ghost use Rattle.std.specs.Prelude.{ℕ, length, slice_index};
-ghost use Rattle.std.specs.Prelude.{IfOk, vec_len, vec_capacity};
-ghost use Rattle.bucketed.specs.Tables.{IsTable, entry_at};
+ghost use Rattle.std.specs.Prelude.{◌≤◌, IfOk};
+ghost use Rattle.bucketed.specs.Tables.{IsTable};
 
 use crate::MAX_BITS;
 use budget::NoMemory;
 use levels::Index;
+use radix_table::fill_to;
 use std::alloc::Global;
 
 /// The entries of all buckets, and one more, which is the number of runs.
@@ -20,25 +19,8 @@ pub fn table_of(alloc: Global, index: &Index, bits: u32) -> Result<Vec<u32>, NoM
     let runs = index.runs();
     for run in 0..runs {
         let bucket = index.first_x(run) >> (64 - bits);
-        fill(&mut table, bucket as usize + 1, run)?;
+        fill_to(&mut table, bucket as usize + 1, run)?;
     }
-    fill(&mut table, buckets + 1, runs)?;
+    fill_to(&mut table, buckets + 1, runs)?;
     Ok(table)
-}
-
-/// Appends a number until the table has so many.
-fn fill(table: &mut Vec<u32>, to: usize, number: u32) -> Result<(), NoMemory>
-    ensures before { IfOk result (λ _. (k : ℕ) → k < vec_len table.old →
-        slice_index table.new.items k ≡ slice_index table.old.items k) }
-    ensures added { IfOk result (λ _. (k : ℕ) → vec_len table.old ≤ k → k < to →
-        slice_index table.new.items k ≡ number) }
-    ensures at_least { IfOk result (λ _. to ≤ vec_len table.new) }
-    ensures at_most { IfOk result (λ _. vec_len table.old ≤ to → vec_len table.new ≡ to) }
-    ensures full { IfOk result
-        (λ _. to ≤ vec_len table.old → vec_len table.new ≡ vec_len table.old) }
-{
-    for _entry in table.len()..to {
-        table.push(number)?;
-    }
-    Ok(())
 }

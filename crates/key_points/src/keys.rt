@@ -46,8 +46,8 @@ impl Model for Keys {
 impl Keys {
     /// The keys of a file, with their points.
     ///
-    /// Where no key repeats, the keys are kept once, and beside them a height of 4 bytes a key, which
-    /// is all memory that is taken.
+    /// Where no key repeats, the keys are kept once, and beside them a height of 4 bytes a key,
+    /// which is all memory that is taken.
     ///
     /// # Errors
     ///

@@ -1,6 +1,7 @@
 // The distinct keys and the points of keys that repeat.
 ghost use Rattle.std.specs.Prelude.{◌≡◌, ◌+◌, ◌<◌, ◌≤◌, ◌^◌, ℕ};
-ghost use Rattle.std.specs.Prelude.{◌-◌, length, min, slice_index, vec_len, vec_capacity, IfOk, IsTrue};
+ghost use Rattle.std.specs.Prelude.{◌-◌, length, min, slice_index, vec_len, vec_capacity};
+ghost use Rattle.std.specs.Prelude.{IfOk, IsTrue};
 ghost use Rattle.std.specs.List.Sorted.{IsNonDecreasing};
 ghost use Rattle.key_points.specs.KeyPoints.{distinct_of, is_closed, xs_of, ys_of};
 ghost use Rattle.key_points.specs.Groups.{HoldsUpTo, IsGroupStart, IsGroupEnd};

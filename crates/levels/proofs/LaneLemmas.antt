@@ -1,8 +1,8 @@
 -- One lane of questions in step, and a write to one lane.
-use Rattle.std.proofs.Common.{◌≡◌, ℕ, ◌+◌, ◌-◌, ◌<◌, ◌≤◌, List, ◌++◌, map, append_assoc, length, slice_index, refl, sym, ap, ◌∙◌, subst, inl, inr, arith}
+use Rattle.std.proofs.Common.{◌≡◌, ℕ, ◌+◌, ◌-◌, ◌<◌, ◌≤◌, List, ◌++◌, map, take, append_assoc, length, slice_index, refl, sym, ap, ◌∙◌, subst, inl, inr, arith}
 use Rattle.std.specs.Prelude.{slice_set, max}
 use Rattle.std.proofs.lemmas.Bool.{cases_lt}
-use Rattle.std.proofs.lemmas.List.{get_or-set_same, get_or-set_other, get_or-map, length-map, map-append, ext_get_or}
+use Rattle.std.proofs.lemmas.List.{get_or-set_same, get_or-set_other, get_or-map, get_or-take, length-map, length-take-le, map-append, ext_get_or}
 use Rattle.std.specs.List.Sorted.{IsNonDecreasing}
 use Rattle.window_search.specs.Searches.{lb, IsPredecessor}
 use Rattle.window_search.proofs.LowerBounds.{lb-is, predecessor_from, predecessor_before, lb_after, lb_not_after}
@@ -74,6 +74,16 @@ block_positions keys qs asked places first order is count lanes raised found =
     ext_get_or 0 places (map (lb keys) qs) (omega (arith, length-map qs (lb keys))) (λ k inside.
     found k (omega arith) ∙ ap (lb keys) (raised k (omega arith)) ∙ lb-raised keys (slice_index qs k) first order is
     ∙ sym (get_or-map (lb keys) qs k 0 0 (omega arith)))
+
+-- ---- questions in the first lanes
+
+pub lane_positions : (keys qs asked places : List ℕ) (done : ℕ) → done ≡ length qs → length qs ≤ 16 → length places ≡ 16 → ((k : ℕ) → k < done → slice_index asked k ≡ slice_index qs k) →
+    ((k : ℕ) → k < 16 → slice_index places k ≡ lb keys (slice_index asked k)) → take done places ≡ map (lb keys) qs
+lane_positions keys qs asked places done all few lanes same found =
+    let count : length (take done places) ≡ done = length-take-le done places (omega (arith, all, lanes)) in
+    ext_get_or 0 (take done places) (map (lb keys) qs) (omega (arith, count, all, length-map qs (lb keys))) (λ k inside.
+    get_or-take done places k 0 (omega (arith, count)) ∙ found k (omega (arith, count, all)) ∙ ap (lb keys) (same k (omega (arith, count)))
+    ∙ sym (get_or-map (lb keys) qs k 0 0 (omega (arith, count, all))))
 
 -- the predecessors that are the only place left
 pub AreRuns-from : (list qs bases : List ℕ) → AreAmong list qs bases 1 → ((k : ℕ) → k < 16 → (place : ℕ) × IsPredecessor list (slice_index qs k) place) → AreRuns list qs bases

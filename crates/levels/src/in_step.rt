@@ -50,24 +50,25 @@ fn halve_predecessors(list: &[u64], qs: &[u64; 16], bases: &mut [u32; 16], half:
 ///
 /// Each step halves the places of all sixteen, and no branch depends on a key.
 #[inline(always)]
-pub fn bounds_in_step(list: &[u64], qs: &[u64; 16], bases: &mut [u32; 16], count: u32)
+pub fn bounds_in_step(list: &[u64], qs: &[u64; 16], bases: &mut [u32; 16], count: u64)
     requires order { IsNonDecreasing list.now }
     requires few { length list.now < 2 ^ 32 }
     requires some { 1 ≤ count }
+    requires most { count ≤ 2 ^ 32 }
     requires bounds { HaveBounds list.now qs.now bases.old count }
     ensures { HaveBounds list.now qs.now bases.new 1 }
 {
     let mut count = count;
     while count > 1 {
         let half = count / 2;
-        halve_bounds(list, qs, bases, half, count);
+        halve_bounds(list, qs, bases, half as u32, count);
         count -= half;
     }
 }
 
 /// One step of it: `half` of the places are left out.
 #[inline(always)]
-fn halve_bounds(list: &[u64], qs: &[u64; 16], bases: &mut [u32; 16], half: u32, count: u32)
+fn halve_bounds(list: &[u64], qs: &[u64; 16], bases: &mut [u32; 16], half: u32, count: u64)
     requires order { IsNonDecreasing list.now }
     requires few { length list.now < 2 ^ 32 }
     requires some { 1 ≤ half }

@@ -9,6 +9,7 @@
 //! [`one_index`]. The words of the clauses are in `specs/`.
 #![tactic(auto)]
 
+mod among;
 mod build;
 mod entry;
 mod in_step;
@@ -20,6 +21,7 @@ mod positions;
 mod runs;
 mod windows;
 
+pub use among::positions_among;
 pub use index::{Index, one_index};
 pub use key_points::Keys;
 pub use windows::{one_list_of_windows, some_windows};

@@ -213,7 +213,7 @@ impl Index {
         for lane in 0..LANES {
             runs[lane] = self.start_bound(runs[lane], qs[lane], count);
         }
-        bounds_in_step(file, qs, runs, count as u32);
+        bounds_in_step(file, qs, runs, count);
     }
 
     /// Where `count` places begin that hold the position in the file.

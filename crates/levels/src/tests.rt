@@ -3,7 +3,7 @@ ghost use Rattle.std.specs.Prelude.{◌≡◌, ◌+◌, ◌<◌, ◌≤◌};
 ghost use Rattle.std.specs.Prelude.{◌^◌, length, vec_len, IsTrue};
 ghost use Rattle.std.specs.List.Sorted.{IsNonDecreasing};
 
-use crate::{Index, Keys};
+use crate::{Index, Keys, positions_among};
 use budget::{NoMemory, Steps};
 use edge::OpenGate;
 use exact_cross::MAX_EPSILON;
@@ -215,7 +215,7 @@ fn windows_along_lookups(rt: HostRuntime) -> Result<(), Fail> {
 }
 
 // More questions than go in step, of which the last ones go one by one: the numbers 0, 1, 2 and so
-// on, whose positions are counted one key at a time.
+// on, whose positions are counted one key at a time. By an index and without one.
 #[test]
 fn questions_in_step(rt: HostRuntime) -> Result<(), Fail> {
     let squares: &[u64] = &[0, 1, 4, 9, 16, 25];
@@ -230,6 +230,11 @@ fn questions_in_step(rt: HostRuntime) -> Result<(), Fail> {
         let mut found = Vec::with_capacity(rt.alloc(), qs.len())?;
         index.positions(&qs, &mut found);
         assert_eq!(rt; found.len(), qs.len());
+        assert!(rt; is_ordered(keys));
+        assert!(rt; keys.len() < 1000);
+        let mut among = Vec::with_capacity(rt.alloc(), qs.len())?;
+        positions_among(keys, &qs, &mut among);
+        assert_eq!(rt; among.as_slice(), found.as_slice(), "without an index");
         for (q, position) in qs.iter().zip(&found) {
             let below = keys.iter().filter(|key| **key < *q).count();
             assert_eq!(rt; *position as usize, below, "question {q} of {keys:?}");

@@ -86,7 +86,7 @@ words-line asked (word ∷ words) line good is =
     let command = find (λ command. bytes_eq word command.word) (commands_of asked) in
     command-line asked command words line (commands-make asked word good) (unless-comment (eqb (get_or word 0 0) 35) (command_reading command words) line is)
 
-line-of-kind : (asked : ScriptKind) (bytes : List ℕ) (line : ScriptLine) → IsKind asked → line_reading asked bytes ≡ Ok (Some line) → IsLineOf asked line
+pub line-of-kind : (asked : ScriptKind) (bytes : List ℕ) (line : ScriptLine) → IsKind asked → line_reading asked bytes ≡ Ok (Some line) → IsLineOf asked line
 line-of-kind asked bytes line good is =
     let words = words_of (strip_carriage_return bytes) in
     words-line asked words line good (where-text (is_utf8 bytes) (words_reading asked words) NotUtf8 line is)

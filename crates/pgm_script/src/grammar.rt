@@ -1,16 +1,17 @@
 // Texts as scripts.
-ghost use Rattle.std.specs.Prelude.{◌≡◌, ◌⊎◌, ◌++◌, ◌∷◌, ◌≤◌, [], ℕ, List, Option, All, Ok, Err};
-ghost use Rattle.std.specs.Prelude.{Result, IfOk, IfErr, OnOk, OnErr, MatchResult};
+ghost use Rattle.std.specs.Prelude.{◌≡◌, ◌⊎◌, ◌≤◌, ℕ, List, Option, All, Ok, Err};
+ghost use Rattle.std.specs.Prelude.{Result, IfOk, IfErr, OnErr, MatchResult};
 ghost use Rattle.pgm_script.specs.declared.script.ScriptLine.{ScriptLine};
 ghost use Rattle.pgm_script.specs.declared.script.ScriptKind.{ScriptKind};
 ghost use Rattle.pgm_script.specs.declared.fault.ScriptFault.{ScriptFault};
 ghost use Rattle.pgm_script.specs.Scripts.{ReadsAs, HasOneReading, IsKind, IsLineOf};
 
 use crate::line::read_line;
+use crate::list::LineList;
 use crate::plain::plain_line;
 use crate::words::cut_line;
 use crate::{ScriptFault, ScriptKind, ScriptLine};
-use std::alloc::{AllocError, Global};
+use std::alloc::Global;
 
 /// Any text has exactly one reading as a script of a kind. It does nothing.
 pub fn readings_are_one()
@@ -44,31 +45,43 @@ pub fn parse(alloc: Global, kind: ScriptKind, text: &[u8]) -> Result<Vec<ScriptL
         (λ fault. (fault ≡ ScriptFault.NoMemory) ⊎ (reading ≡ Err fault)) }
     ensures kind { IfOk result (λ lines. All (IsLineOf kind) lines.items) }
 {
-    let mut lines = Vec::new(alloc);
+    parse_as(alloc, kind, text)
+}
+
+/// The same, the lines kept as a list of the caller's choice that takes those of the kind.
+///
+/// # Errors
+///
+/// Those of [`parse`].
+pub fn parse_as<L: LineList>(alloc: Global, kind: ScriptKind, text: &[u8]) -> Result<L, ScriptFault>
+    requires kind { IsKind kind }
+    requires takes { L.takes kind }
+    ensures script { IfOk result (λ list. ReadsAs kind text.now (Ok (L.lines list))) }
+    ensures fault { IfErr result
+        (λ fault. (fault ≡ ScriptFault.NoMemory) ⊎ ReadsAs kind text.now (Err fault)) }
+    ensures wherever { (reading : Result (List ScriptLine) ScriptFault) →
+        ReadsAs kind text.now reading →
+        MatchResult result (λ list. reading ≡ Ok (L.lines list))
+        (λ fault. (fault ≡ ScriptFault.NoMemory) ⊎ (reading ≡ Err fault)) }
+    ensures kind { IfOk result (λ list. All (IsLineOf kind) (L.lines list)) }
+{
+    let mut list = L::empty(alloc);
     let mut rest = text;
     let mut number = 0;
     while !rest.is_empty() {
         number += 1;
         if let Some((line, after)) = plain_line(kind, rest) {
-            push(&mut lines, line)?;
+            list.put(line)?;
             rest = after;
             continue;
         }
         let (line, after) = cut_line(rest);
         match read_line(kind, line) {
-            Ok(Some(line)) => push(&mut lines, line)?,
+            Ok(Some(line)) => list.put(line)?,
             Ok(None) => {}
             Err(why) => return Err(ScriptFault::At { line: number, why }),
         }
         rest = after;
     }
-    Ok(lines)
-}
-
-#[inline]
-fn push(lines: &mut Vec<ScriptLine>, line: ScriptLine) -> Result<(), AllocError>
-    ensures { OnOk result (lines.new.items ≡ lines.old.items ++ line ∷ []) }
-{
-    lines.push(line)?;
-    Ok(())
+    Ok(list)
 }

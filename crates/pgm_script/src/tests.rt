@@ -1,7 +1,7 @@
 // Worked scripts.
 ghost use Rattle.std.specs.Prelude.{◌≤◌};
 
-use crate::{ScriptFault, ScriptKind, ScriptLine, Why, parse, read_text};
+use crate::{Finds, ScriptFault, ScriptKind, ScriptLine, Why, parse, parse_as, read_text};
 use edge::{MemShelf, Shelf};
 use std::test::Fail;
 use zorder::Region;
@@ -56,6 +56,8 @@ fn finds(rt: HostRuntime) -> Result<(), Fail> {
         for (line, key) in lines.iter().zip(keys) {
             assert_eq!(rt; *line, ScriptLine::Find(*key));
         }
+        let finds: Finds = parse_as(rt.alloc(), ScriptKind::Find, text)?;
+        assert_eq!(rt; finds.numbers.as_slice(), keys);
     }
     Ok(())
 }

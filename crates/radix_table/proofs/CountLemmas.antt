@@ -8,7 +8,7 @@ use Rattle.std.specs.List.Sorted.{IsNonDecreasing}
 use Rattle.window_search.specs.Searches.{lb}
 use Rattle.window_search.proofs.CallerLemmas.{lb-is, IsLowerBound-lb}
 use Rattle.radix_table.specs.declared.scale.Scale.{Scale}
-use Rattle.radix_table.specs.Tables.{step_of, IsScale, AreCounts, IsBetween, IsLedTo}
+use Rattle.radix_table.specs.Tables.{step_of, IsScale, AreCounts, IsBetween, IsFilledTo, IsLedTo}
 use Rattle.radix_table.proofs.ScaleLemmas.{distance_rises}
 
 -- a greater number stands in no lower step
@@ -64,13 +64,6 @@ IsEntry-at step xs h r up order is =
 pub record IsFilled (step : ℕ → ℕ) (xs : List ℕ) (done : ℕ) (entries : List ℕ) : Type 0 where
   pub passed : (k : ℕ) → k < done → step (slice_index xs k) < length entries
   pub each : (h : ℕ) → h < length entries → slice_index entries h ≡ lb (map step xs) h
-
--- a list made longer to so many entries, all of them the same number
-pub record IsFilledTo (to number : ℕ) (entries more : List ℕ) : Type 0 where
-  pub before : (k : ℕ) → k < length entries → slice_index more k ≡ slice_index entries k
-  pub added : (k : ℕ) → length entries ≤ k → k < to → slice_index more k ≡ number
-  pub grown : length entries ≤ to → length more ≡ to
-  pub full : to ≤ length entries → length more ≡ length entries
 
 -- entries added up to that of the next number's step, or up to the end
 pub filled_more : (step : ℕ → ℕ) (xs : List ℕ) (done to : ℕ) (entries more : List ℕ) → done ≤ length xs → IsFilled step xs done entries →

@@ -1,3 +1,3 @@
-pub mod Cuts
+pub mod Candidates
 pub mod Tables
 pub use Rattle.window_search.specs.Searches

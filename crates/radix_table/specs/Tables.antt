@@ -13,7 +13,7 @@ places_of d = 64 - count_leading_zeros 64 d
 abbrev pub dropped_of : ℕ → ℕ → ℕ → ℕ
 dropped_of shift kept d = max shift (places_of d - kept)
 
--- the step of a distance, where so many places are dropped: those with fewer dropped come before, 2 ^ (kept - 1) steps for each number of them
+-- the step of a distance that loses so many places: 2 ^ (kept - 1) steps come before for each place more than `shift`
 abbrev pub step_with : ℕ → ℕ → ℕ → ℕ → ℕ
 step_with shift kept d dropped = (dropped - shift) * 2 ^ (kept - 1) + d / 2 ^ dropped
 
@@ -36,6 +36,13 @@ pub record RadixEntries : Type 0 where
 pub record AreCounts (step : ℕ → ℕ) (xs entries : List ℕ) : Type 0 where
   pub each : (h : ℕ) → h < length entries → slice_index entries h ≡ lb (map step xs) h
   pub all : (h : ℕ) → h + 1 ≡ length entries → slice_index entries h ≡ length xs
+
+-- a list made longer to so many entries, the new ones all the same number; one that has as many stays
+pub record IsFilledTo (to number : ℕ) (entries more : List ℕ) : Type 0 where
+  pub before : (k : ℕ) → k < length entries → slice_index more k ≡ slice_index entries k
+  pub added : (k : ℕ) → length entries ≤ k → k < to → slice_index more k ≡ number
+  pub grown : length entries ≤ to → length more ≡ to
+  pub full : to ≤ length entries → length more ≡ length entries
 
 -- no step has more than so many numbers
 abbrev pub HasAtMost : ℕ → List ℕ → Type 0

@@ -1,9 +1,9 @@
 // The entries, in one pass over the numbers.
-ghost use Rattle.std.specs.Prelude.{◌≡◌, ◌+◌, ◌-◌, ◌<◌, ◌≤◌, ◌^◌, ℕ};
-ghost use Rattle.std.specs.Prelude.{IfOk, length, slice_index, vec_len};
+ghost use Rattle.std.specs.Prelude.{◌+◌, ◌-◌, ◌<◌, ◌≤◌, ◌^◌, ℕ};
+ghost use Rattle.std.specs.Prelude.{IfOk, OnOk, length};
 ghost use Rattle.std.specs.List.Sorted.{IsNonDecreasing};
-ghost use Rattle.radix_table.specs.Cuts.{AreFew};
-ghost use Rattle.radix_table.specs.Tables.{AreCounts, HasAtMost, IsScale, step_of};
+ghost use Rattle.radix_table.specs.Candidates.{AreFew};
+ghost use Rattle.radix_table.specs.Tables.{AreCounts, HasAtMost, IsFilledTo, IsScale, step_of};
 
 use crate::scale::Scale;
 use budget::NoMemory;
@@ -21,23 +21,19 @@ pub fn entries_of(alloc: Global, xs: &[u64], scale: &Scale) -> Result<Vec<u32>, 
     let mut entries = Vec::new(alloc);
     for place in 0..xs.len() {
         let step = scale.step(xs[place]);
-        fill(&mut entries, step as usize + 1, place as u32)?;
+        fill_to(&mut entries, step as usize + 1, place as u32)?;
     }
     entries.push(xs.len() as u32)?;
     Ok(entries)
 }
 
-/// Appends a number until the list has so many.
-fn fill(entries: &mut Vec<u32>, to: usize, number: u32) -> Result<(), NoMemory>
-    ensures before { IfOk result (λ _. (k : ℕ) → k < vec_len entries.old →
-        slice_index entries.new.items k ≡ slice_index entries.old.items k) }
-    ensures added { IfOk result (λ _. (k : ℕ) → vec_len entries.old ≤ k → k < to →
-        slice_index entries.new.items k ≡ number) }
-    ensures at_least { IfOk result (λ _. to ≤ vec_len entries.new) }
-    ensures at_most { IfOk result
-        (λ _. vec_len entries.old ≤ to → vec_len entries.new ≡ to) }
-    ensures full { IfOk result
-        (λ _. to ≤ vec_len entries.old → vec_len entries.new ≡ vec_len entries.old) }
+/// Appends a number until the list has `to` of them; a list that has as many stays as it is.
+///
+/// # Errors
+///
+/// `NoMemory` alone; then some may have been appended.
+pub fn fill_to(entries: &mut Vec<u32>, to: usize, number: u32) -> Result<(), NoMemory>
+    ensures { OnOk result (IsFilledTo to number entries.old.items entries.new.items) }
 {
     for _entry in entries.len()..to {
         entries.push(number)?;

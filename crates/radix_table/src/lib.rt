@@ -9,15 +9,15 @@
 //! from it, as the steps of floating-point numbers are.
 //!
 //! Main clauses: `table` of [`RadixTable::over`], and those of [`RadixTable::counts`] and
-//! [`RadixTable::places`]. The words of
-//! the clauses are in `specs/`.
+//! [`RadixTable::places`]. The words of the clauses are in `specs/`.
 #![tactic(auto)]
 
-mod cut;
+mod candidate;
 mod entries;
 mod scale;
 mod table;
 
+pub use entries::fill_to;
 pub use table::RadixTable;
 
 #[cfg(test)]

@@ -1,8 +1,17 @@
 // The steps that a range of numbers is cut into.
 ghost use Rattle.std.specs.Prelude.{◌≡◌, ◌<◌, ◌≤◌, ◌^◌, IfSome, IsTrue, length};
 ghost use Rattle.std.specs.List.Sorted.{IsNonDecreasing};
-ghost use Rattle.radix_table.specs.Cuts.{AreFew};
+ghost use Rattle.radix_table.specs.Candidates.{AreFew};
 ghost use Rattle.radix_table.specs.Tables.{IsScale, step_of};
+
+/// How steps grow with the distance from the first number.
+#[derive(Clone, Copy)]
+pub enum Growth {
+    /// All are equal.
+    None,
+    /// They get twice as long where distances do.
+    Doubling,
+}
 
 /// How the numbers from `first` on are cut into steps.
 ///
@@ -38,7 +47,7 @@ impl Scale {
     }
 
     /// Whether the numbers stand in fewer than `most` steps.
-    fn cuts_below(&self, xs: &[u64], most: u64) -> bool
+    fn has_fewer_than(&self, most: u64, xs: &[u64]) -> bool
         requires scale { IsScale self.now }
         requires order { IsNonDecreasing xs.now }
         requires most { most ≤ 2 ^ 36 }
@@ -47,39 +56,37 @@ impl Scale {
         xs.is_empty() || self.step(xs[xs.len() - 1]) < most
     }
 
-    /// The finest scale of equal steps that cuts the numbers into fewer than `most`.
-    pub fn even(xs: &[u64], most: u64) -> Option<Scale>
-        requires some { 0 < length xs.now }
-        requires order { IsNonDecreasing xs.now }
-        requires most { most ≤ 2 ^ 36 }
-        ensures scale { IfSome result IsScale }
-        ensures few { IfSome result (AreFew xs.now) }
+    /// The scale from a first number on that is the finest of its growth, or so much coarser: its
+    /// equal steps twice as long for each, or its steps with a binary place less kept.
+    fn of(growth: Growth, first: u64, coarser: u32) -> Scale
+        requires { coarser < 64 }
+        ensures { IsScale result }
     {
-        let first = xs[0];
-        for shift in 0..64 {
-            let kept = 64;
-            let scale = Scale { first, shift, kept };
-            if scale.cuts_below(xs, most) {
-                return Some(scale);
-            }
+        match growth {
+            Growth::None => Scale {
+                first,
+                shift: coarser,
+                kept: 64,
+            },
+            Growth::Doubling => Scale {
+                first,
+                shift: 0,
+                kept: 64 - coarser,
+            },
         }
-        None
     }
 
-    /// The finest scale of steps that get longer with the distance that cuts the numbers into fewer
-    /// than `most`.
-    pub fn relative(xs: &[u64], most: u64) -> Option<Scale>
+    /// The finest scale of a growth by which the numbers stand in fewer than `most` steps.
+    pub fn finest(growth: Growth, xs: &[u64], most: u64) -> Option<Scale>
         requires some { 0 < length xs.now }
         requires order { IsNonDecreasing xs.now }
         requires most { most ≤ 2 ^ 36 }
         ensures scale { IfSome result IsScale }
         ensures few { IfSome result (AreFew xs.now) }
     {
-        let (first, shift) = (xs[0], 0);
-        for coarse in 0..64 {
-            let kept = 64 - coarse;
-            let scale = Scale { first, shift, kept };
-            if scale.cuts_below(xs, most) {
+        for coarser in 0..64 {
+            let scale = Scale::of(growth, xs[0], coarser);
+            if scale.has_fewer_than(most, xs) {
                 return Some(scale);
             }
         }

@@ -2,11 +2,11 @@
 ghost use Rattle.std.specs.Prelude.{◌+◌, ◌-◌, ◌*◌, ◌<◌, ◌≤◌, ◌^◌, ℕ, List, IfOk, IfSome};
 ghost use Rattle.std.specs.Prelude.{length};
 ghost use Rattle.std.specs.List.Sorted.{IsNonDecreasing};
-ghost use Rattle.radix_table.specs.Cuts.{IsCutOf};
+ghost use Rattle.radix_table.specs.Candidates.{IsCandidateOf};
 ghost use Rattle.radix_table.specs.Tables.{IsBetween, IsLedTo, IsScale, IsTableOf};
 
-use crate::cut::Cut;
-use crate::scale::Scale;
+use crate::candidate::Candidate;
+use crate::scale::{Growth, Scale};
 use budget::NoMemory;
 use std::alloc::Global;
 use std::marker::Model;
@@ -69,12 +69,12 @@ impl RadixTable {
             return Ok(RadixTable::empty(alloc));
         }
         let entries = most_entries(xs.len());
-        let even = Cut::of(alloc, xs, Scale::even(xs, entries))?;
+        let even = Candidate::of(alloc, xs, Scale::finest(Growth::None, xs, entries))?;
         if even.fullest <= FEW {
             return Ok(narrow_table(alloc, even, most));
         }
-        let relative = Cut::of(alloc, xs, Scale::relative(xs, entries))?;
-        Ok(narrow_table(alloc, even.or_narrower(relative), most))
+        let growing = Candidate::of(alloc, xs, Scale::finest(Growth::Doubling, xs, entries))?;
+        Ok(narrow_table(alloc, even.or_narrower(growing), most))
     }
 
     /// How many of the numbers are at most `q`, from below and from above: those in lower steps,
@@ -121,16 +121,16 @@ fn most_entries(count: usize) -> u64
     (8 * count).min(MANY).max(2 * count)
 }
 
-/// The table of a cut, or the empty one where a step leaves open too many places.
-fn narrow_table(alloc: Global, cut: Cut, most: u64) -> RadixTable
-    requires { IsScale cut.scale }
-    ensures { (xs : List ℕ) → IsCutOf xs cut → IsTableOf xs most result }
+/// The table of a candidate, or the empty one where a step leaves open too many places.
+fn narrow_table(alloc: Global, candidate: Candidate, most: u64) -> RadixTable
+    requires { IsScale candidate.scale }
+    ensures { (xs : List ℕ) → IsCandidateOf xs candidate → IsTableOf xs most result }
 {
-    let Cut {
+    let Candidate {
         scale,
         entries,
         fullest,
-    } = cut;
+    } = candidate;
     if 2 * (u64::from(fullest) + 1) > most {
         return RadixTable::empty(alloc);
     }

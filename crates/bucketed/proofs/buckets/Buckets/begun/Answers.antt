@@ -58,6 +58,7 @@ returns-clause-runs g c =
     let order = order_of index value c.index-index.ensures (first_x-order value.keys value.eps value.eps_rec value.levels runs.never_falls runs.index) in
     let inv = c.loop-left.invariant in
     record {
+      begins = omega (arith, inv.within);
       within = omega (arith, inv.within);
       before = inv.before;
       from = λ k past inside. inv.from k (omega (arith, c.loop-left-test.false)) inside;

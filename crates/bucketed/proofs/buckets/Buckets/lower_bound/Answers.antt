@@ -4,7 +4,8 @@ use Rattle.window_search.specs.Searches.{lb}
 use Rattle.levels.specs.Costs.{TakesAtMost}
 use Rattle.levels.specs.Indexes.{PgmIndex, xs_at}
 use Rattle.levels.proofs.CallerLemmas.{lb-before_runs, TakesAtMost-more, TakesAtMost-raise}
-use Rattle.bucketed.specs.Tables.{runs_beside, lookup_bound, AreBegun}
+use Rattle.radix_table.specs.Tables.{IsBetween}
+use Rattle.bucketed.specs.Tables.{runs_beside, lookup_bound}
 use Rattle.bucketed.proofs.buckets.Buckets.lower_bound.Goals as goal
 
 pub returns-then-begun-eq0-clause-found : goal.returns-then-begun-eq0-clause-found
@@ -12,7 +13,7 @@ returns-then-begun-eq0-clause-found g c =
     let value = c.index-index.result.now in
     let same = c.index-index.ensures in
     let runs = c.runs-runs.ensures in
-    let begun = subst (λ (i : PgmIndex). AreBegun (xs_at i.keys i.levels 1) c.args.q c.begun-begun.result) (sym same) c.begun-begun.ensures.runs in
+    let begun = subst (λ (i : PgmIndex). IsBetween (xs_at i.keys i.levels 1) c.args.q c.begun-begun.result c.begun-begun.result) (sym same) c.begun-begun.ensures.runs in
     lb-before_runs value.keys value.eps value.eps_rec value.levels c.args.q runs.never_falls runs.index (λ k inside. begun.from k (omega (arith, c.if-begun-eq0.true)) inside)
     ∙ ap (λ (i : PgmIndex). lb i.keys c.args.q) same
 

@@ -1,6 +1,6 @@
--- Numbers cut by a scale.
+-- Numbers counted by the steps of a scale.
 use Rattle.std.specs.Prelude.{ℕ, ◌<◌, ◌^◌, List, length, slice_index}
-use Rattle.radix_table.specs.declared.cut.Cut.{Cut}
+use Rattle.radix_table.specs.declared.candidate.Candidate.{Candidate}
 use Rattle.radix_table.specs.declared.scale.Scale.{Scale}
 use Rattle.radix_table.specs.Tables.{step_of, IsScale, AreCounts, HasAtMost}
 
@@ -8,8 +8,8 @@ use Rattle.radix_table.specs.Tables.{step_of, IsScale, AreCounts, HasAtMost}
 abbrev pub AreFew : List ℕ → Scale → Type 0
 AreFew xs scale = (k : ℕ) → k < length xs → step_of scale (slice_index xs k) < 2 ^ 36
 
--- a cut of these numbers
-pub record IsCutOf (xs : List ℕ) (cut : Cut) : Type 0 where
-  pub scale : IsScale cut.scale
-  pub counts : AreCounts (step_of cut.scale) xs cut.entries.items
-  pub fullest : HasAtMost cut.fullest cut.entries.items
+-- a candidate for the table of these numbers
+pub record IsCandidateOf (xs : List ℕ) (candidate : Candidate) : Type 0 where
+  pub scale : IsScale candidate.scale
+  pub counts : AreCounts (step_of candidate.scale) xs candidate.entries.items
+  pub fullest : HasAtMost candidate.fullest candidate.entries.items

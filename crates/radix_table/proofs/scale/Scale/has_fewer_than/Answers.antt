@@ -2,7 +2,7 @@
 use Rattle.std.proofs.Common.{◌-◌, length, slice_index, arith}
 use Rattle.std.proofs.lemmas.Bool.{ltb-true}
 use Rattle.radix_table.proofs.CountLemmas.{Rises-scale}
-use Rattle.radix_table.proofs.scale.Scale.cuts_below.Goals as goal
+use Rattle.radix_table.proofs.scale.Scale.has_fewer_than.Goals as goal
 
 pub returns-else-is_empty : goal.returns-else-is_empty
 returns-else-is_empty c = λ less k inside.
