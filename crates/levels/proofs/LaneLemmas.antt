@@ -59,7 +59,7 @@ HasBound-lower list q base count half order some most bound read = record {
 
 -- ---- questions raised to the first key
 
-lb-raised : (keys : List ℕ) (q first : ℕ) → IsNonDecreasing keys → first ≡ slice_index keys 0 → lb keys (max q first) ≡ lb keys q
+pub lb-raised : (keys : List ℕ) (q first : ℕ) → IsNonDecreasing keys → first ≡ slice_index keys 0 → lb keys (max q first) ≡ lb keys q
 lb-raised keys q first order is = elim (cases_lt q first) [
   | inl below ↦ none (max q first) (omega (arith, is)) ∙ sym (none q (omega (arith, is)))
   | inr from ↦ let same : max q first ≡ q = omega arith in ap (lb keys) same
@@ -67,6 +67,11 @@ lb-raised keys q first order is = elim (cases_lt q first) [
   where
     none : (q : ℕ) → q ≤ slice_index keys 0 → lb keys q ≡ 0
     none q low = lb-is keys q 0 (omega arith) (λ k less. absurd (omega arith)) (λ k from inside. omega (arith, low, order 0 k 0 from inside))
+
+pub HasBound-raised : (keys : List ℕ) (q first base count : ℕ) → IsNonDecreasing keys → first ≡ slice_index keys 0 → HasBound keys (max q first) base count → HasBound keys q base count
+HasBound-raised keys q first base count order is bound =
+    let same = lb-raised keys q first order is in
+    record { within = bound.within; from = omega (arith, bound.from, same); to = omega (arith, bound.to, same) }
 
 pub block_positions : (keys qs asked places : List ℕ) (first : ℕ) → IsNonDecreasing keys → first ≡ slice_index keys 0 → length qs ≡ 16 → length places ≡ 16 →
     ((k : ℕ) → k < 16 → slice_index asked k ≡ max (slice_index qs k) first) → ((k : ℕ) → k < 16 → slice_index places k ≡ lb keys (slice_index asked k)) → places ≡ map (lb keys) qs

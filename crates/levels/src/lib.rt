@@ -17,6 +17,7 @@ mod index;
 mod level;
 mod lookup;
 mod model;
+mod near;
 mod positions;
 mod runs;
 mod windows;

@@ -64,7 +64,7 @@ impl Index {
     /// The run of level 0 that begins last at or before `q`, where the first key does: among those
     /// that the table leads to, or by the levels above.
     #[inline(always)]
-    fn run_of<L: Ledger>(&self, q: u64, steps: &mut Steps<L>) -> u32
+    pub(crate) fn run_of<L: Ledger>(&self, q: u64, steps: &mut Steps<L>) -> u32
         requires never_falls { IsNonDecreasing self.now.keys }
         requires few { length self.now.keys < 2 ^ 32 }
         requires index { IsIndex self.now.keys self.now.eps self.now.eps_rec self.now.levels }

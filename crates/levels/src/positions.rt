@@ -218,7 +218,7 @@ impl Index {
 
     /// Where `count` places begin that hold the position in the file.
     #[inline(always)]
-    fn start_bound(&self, run: u32, q: u64, count: u64) -> u32
+    pub(crate) fn start_bound(&self, run: u32, q: u64, count: u64) -> u32
         requires never_falls { IsNonDecreasing self.now.keys }
         requires few { length self.now.keys < 2 ^ 32 }
         requires index { IsIndex self.now.keys self.now.eps self.now.eps_rec self.now.levels }

@@ -10,7 +10,7 @@ use Rattle.log_levels.specs.Shapes.{from_bit}
 pub quotient-more : (i f : ℕ) → f / 2 ^ (i + 1) ≡ f / 2 ^ i / 2
 quotient-more i f = ap (λ k. f / k) (ap (λ k. 2 ^ k) (add-one i) ∙ pow-suc 2 i) ∙ sym (div-div-eq-div-mul f (2 ^ i) 2)
 
-power-more : (i : ℕ) → 2 ^ (i + 1) ≡ 2 * 2 ^ i
+pub power-more : (i : ℕ) → 2 ^ (i + 1) ≡ 2 * 2 ^ i
 power-more i = ap (λ k. 2 ^ k) (add-one i) ∙ omega (arith, pow-suc 2 i)
 
 pub from_bit-zero : (f : ℕ) → from_bit 0 f ≡ f

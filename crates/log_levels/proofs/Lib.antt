@@ -14,3 +14,4 @@ pub mod MapLemmas
 pub mod ValueLemmas
 pub mod SearchLemmas
 pub mod WalkLemmas
+pub mod PlaceLemmas

@@ -1,5 +1,5 @@
 -- How levels and maps are kept. No public clause cites it.
-use Rattle.std.specs.Prelude.{◌≡◌, ℕ, ◌+◌, ◌*◌, ◌/◌, ◌≤◌, ◌<◌, ◌^◌, ◌==◌, List, ◌++◌, length, map, drop, Option, Some, None, slice_index, ⊤}
+use Rattle.std.specs.Prelude.{◌≡◌, ◌⊎◌, ℕ, ◌+◌, ◌*◌, ◌/◌, ◌≤◌, ◌<◌, ◌^◌, ◌==◌, List, ◌++◌, length, map, drop, Option, Some, None, slice_index, ⊤}
 use Rattle.window_search.specs.Searches.{lb}
 use Rattle.std.specs.Int.{bit_at}
 use Rattle.std.specs.Option.{option_map}
@@ -8,6 +8,7 @@ use Rattle.std.specs.Arc.{arc_value}
 use Rattle.tombstones.specs.declared.entry.Entry.{Entry}
 use Rattle.tombstones.specs.Entries.{IsAscending, entry_at, kept}
 use Rattle.levels.specs.Indexes.{PgmIndex}
+use Rattle.levels.specs.InStep.{HasBound}
 use Rattle.log_levels.specs.declared.fault.MapFault.{MapFault}
 use Rattle.log_levels.specs.declared.fault.MapFault.TheVariants.{Full, NoMemory}
 use Rattle.log_levels.specs.declared.update.Update.{Update}
@@ -67,6 +68,16 @@ pub record IsAbsent (held : Held) (key : ℕ) : Type 0 where
 pub record ArePlaces (held : Held) (places : List ℕ) (key : ℕ) : Type 0 where
   pub count : length places ≡ 26
   pub each : (i : ℕ) (level : List Entry) → i < length held.levels → level_of held i ≡ Some level → slice_index places i ≡ lb (level_keys level) key
+
+-- the place of a key in level i, or in a long level, which is searched in step with others, the first of `count` places with it
+pub record IsPlaceNear (i : ℕ) (level : List Entry) (key place count : ℕ) : Type 0 where
+  pub short : (i < 7) ⊎ (length level ≤ 4096) → place ≡ lb (level_keys level) key
+  pub long : 7 ≤ i → 4096 < length level → HasBound (level_keys level) key place count
+
+-- so is each level's
+pub record ArePlacesNear (held : Held) (places : List ℕ) (key count : ℕ) : Type 0 where
+  pub room : length places ≡ 26
+  pub each : (i : ℕ) (level : List Entry) → i < length held.levels → level_of held i ≡ Some level → IsPlaceNear i level key (slice_index places i) count
 
 -- the key is below the least one, if there is one
 abbrev pub IsBelow : ℕ → Option ℕ → Type 0

@@ -1,6 +1,7 @@
 // The search in a short list of keys.
-ghost use Rattle.std.specs.Prelude.{◌≡◌, ◌+◌, ◌*◌, ◌^◌, ◌<◌, ◌≤◌, length};
+ghost use Rattle.std.specs.Prelude.{◌≡◌, ◌+◌, ◌-◌, ◌*◌, ◌^◌, ◌<◌, ◌≤◌, length};
 ghost use Rattle.std.specs.List.Sorted.{IsNonDecreasing};
+ghost use Rattle.levels.specs.InStep.{HasBound};
 ghost use Rattle.window_search.specs.Searches.{lb};
 
 /// How many of the keys, which never fall, are below `q`.
@@ -27,7 +28,7 @@ pub fn lower_of(keys: &[u64], q: u64) -> usize
 }
 
 /// The highest bit of a number.
-fn highest_bit(number: usize) -> u32
+pub fn highest_bit(number: usize) -> u32
     requires some { 0 < number }
     ensures at_most { 2 ^ result ≤ number }
     ensures above { number < 2 * 2 ^ result }
@@ -51,4 +52,18 @@ fn halved(keys: &[u64], place: usize, shift: u32, q: u64) -> usize
 {
     let is_below = keys[place + (1 << shift) - 1] < q;
     place + (usize::from(is_below) << shift)
+}
+
+/// The first of the places that are left for the lower bound, where it is one of `count` from
+/// `place` on and `half` of them are left out.
+#[inline(always)]
+pub fn narrowed(keys: &[u64], place: usize, q: u64, half: usize, count: usize) -> usize
+    requires never_falls { IsNonDecreasing keys.now }
+    requires some { 1 ≤ half }
+    requires most { half + half ≤ count }
+    requires bound { HasBound keys.now q place count }
+    ensures { HasBound keys.now q result (count - half) }
+{
+    let middle = place + half;
+    if keys[middle - 1] < q { middle } else { place }
 }

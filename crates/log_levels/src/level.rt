@@ -1,18 +1,18 @@
 // A level as it is kept.
-ghost use Rattle.std.specs.Prelude.{◌≡◌, ◌+◌, ◌^◌, ◌<◌, ◌≤◌, ℕ};
+ghost use Rattle.std.specs.Prelude.{◌≡◌, ◌+◌, ◌-◌, ◌^◌, ◌<◌, ◌≤◌, ℕ};
 ghost use Rattle.std.specs.Prelude.{None, IfSome, length, vec_len, IfOk};
 ghost use Rattle.std.specs.List.Sorted.{IsNonDecreasing};
 ghost use Rattle.std.specs.Option.{option_copied};
 ghost use Rattle.levels.specs.Indexes.{IsIndex};
 ghost use Rattle.tombstones.specs.Entries.{IsAscending, entry_at};
-ghost use Rattle.log_levels.specs.Kept.{IsBelow};
+ghost use Rattle.log_levels.specs.Kept.{IsBelow, IsPlaceNear};
 ghost use Rattle.log_levels.specs.Filters.{hash_of};
 ghost use Rattle.window_search.specs.Searches.{lb};
 ghost use Rattle.log_levels.specs.Shapes.{level_keys};
 
 use crate::builder::Builder;
 use crate::filter::Filter;
-use crate::halving::lower_of;
+use crate::halving::{lower_of, narrowed};
 use budget::NoMemory;
 use levels::{Index, Keys};
 use std::alloc::Global;
@@ -27,6 +27,12 @@ pub const EPS_REC: u32 = 4;
 /// A list of so many keys or fewer is searched by halving. The keys of longer ones aren't all in a
 /// near cache, and then a search whose branches are foretold is faster, since it reads ahead.
 const SHORT: usize = 4096;
+
+/// The levels before this one have short lists alone: no more than 64 keys, by two to the level.
+pub const FIRST_LONG: usize = 7;
+
+/// How many places of a long level its index leaves for a key: `2ε + 3`.
+pub const WINDOW: usize = 131;
 
 /// The entries of a level, by rising key, with the index of their keys and a filter of them. Seen
 /// as the entries. It is never changed.
@@ -106,6 +112,37 @@ impl Level {
             return lower_of(keys, q);
         }
         self.index.position(q) as usize
+    }
+
+    /// Where the places begin among which that of `q` is in level `i`: `WINDOW` of them in a long
+    /// level, one in another.
+    #[inline]
+    pub fn start_in(&self, i: usize, q: u64) -> usize
+        ensures { IsPlaceNear i self.now q result WINDOW }
+    {
+        let keys = self.keys();
+        if i < FIRST_LONG || keys.len() <= SHORT {
+            return lower_of(keys, q);
+        }
+        self.index.start_near(q) as usize
+    }
+
+    /// The first of the places that are left for `q` in level `i`, where in a long one it is among
+    /// `count` from `place` on and `half` of them are left out.
+    #[inline(always)]
+    pub fn narrowed(&self, i: usize, place: usize, q: u64, half: usize, count: usize) -> usize
+        requires some { 1 ≤ half }
+        requires most { half + half ≤ count }
+        requires long { FIRST_LONG ≤ i }
+        requires near { IsPlaceNear i self.now q place count }
+        ensures { IsPlaceNear i self.now q result (count - half) }
+    {
+        let keys = self.keys();
+        if keys.len() <= SHORT {
+            return place;
+        }
+        let _ = i;
+        narrowed(keys, place, q, half, count)
     }
 
     /// The entry with a key, of which this is the hash, if there is one.

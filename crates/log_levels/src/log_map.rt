@@ -12,6 +12,7 @@ ghost use Rattle.log_levels.specs.Shapes.{Held, StandsFor, capacity_of, level_of
 ghost use Rattle.log_levels.specs.Maps.{map_after};
 ghost use Rattle.log_levels.specs.Accepted.{entries_of};
 
+use crate::halving::highest_bit;
 use crate::level::{EPS, EPS_REC, Level};
 use budget::NoMemory;
 use levels::Index;
@@ -170,12 +171,20 @@ impl LogMap {
         }
     }
 
-    /// How many levels there are, occupied or not.
-    pub(crate) fn level_count(&self) -> usize
-        ensures count { result ≡ length self.now.levels }
-        ensures few { result ≤ 26 }
+    /// One more than the deepest level that is occupied, or 0 where none is.
+    #[inline]
+    pub(crate) fn depth(&self) -> usize
+        ensures within { result ≤ length self.now.levels }
+        ensures few { length self.now.levels ≤ 26 }
+        ensures below { self.now.accepted / BLOCK < 2 ^ result }
+        ensures none { (i : ℕ) → result ≤ i → i < length self.now.levels →
+            level_of self.now i ≡ None }
     {
-        self.stored.len()
+        let blocks = self.accepted / BLOCK;
+        if blocks == 0 {
+            return 0;
+        }
+        highest_bit(blocks as usize) as usize + 1
     }
 
     /// A level, if it is occupied.

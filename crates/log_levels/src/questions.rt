@@ -73,7 +73,7 @@ impl LogMap {
             result ≡ value_of (last_at entries key) }
     {
         let hash = hash(key);
-        for i in 0..self.level_count() {
+        for i in 0..self.depth() {
             if let Some(level) = self.level(i) {
                 if let Some(entry) = level.entry(key, hash) {
                     return entry.value;

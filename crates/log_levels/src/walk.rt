@@ -1,5 +1,5 @@
 // A walk over the keys of a map in rising order.
-ghost use Rattle.std.specs.Prelude.{◌≡◌, ◌+◌, ◌<◌, ◌≤◌, ◌^◌, ◌⊎◌};
+ghost use Rattle.std.specs.Prelude.{◌≡◌, ◌+◌, ◌-◌, ◌<◌, ◌≤◌, ◌^◌, ◌⊎◌};
 ghost use Rattle.std.specs.Prelude.{◌++◌, ℕ, List, length, All};
 ghost use Rattle.std.specs.Prelude.{Option, Some, None, IfSome, MatchOption, slice_index};
 ghost use Rattle.std.specs.Option.{option_copied};
@@ -7,9 +7,10 @@ ghost use Rattle.tombstones.specs.declared.entry.Entry.{Entry};
 ghost use Rattle.log_levels.specs.Shapes.{IsCutOf, last_at, level_of, level_keys};
 ghost use Rattle.window_search.specs.Searches.{lb};
 ghost use Rattle.tombstones.specs.Entries.{entry_at};
-ghost use Rattle.log_levels.specs.Kept.{ArePlaces, IsAbsent, IsBelow};
+ghost use Rattle.log_levels.specs.Kept.{ArePlaces, ArePlacesNear, IsAbsent, IsBelow};
 ghost use Rattle.log_levels.specs.Kept.{IsNextLive, entry_in, value_of};
 
+use crate::level::{FIRST_LONG, WINDOW};
 use crate::log_map::LogMap;
 use crate::questions::last_of;
 use tombstones::Entry;
@@ -19,16 +20,48 @@ pub type Places = [usize; 26];
 
 impl LogMap {
     /// The places of a key.
+    ///
+    /// Long levels are searched in step: each step halves the places that are left in all of them,
+    /// so that their reads of memory don't wait for one another.
     pub(crate) fn places(&self, key: u64) -> Places
         ensures { ArePlaces self.now result key }
     {
+        let mut places = self.places_near(key);
+        let mut count = WINDOW;
+        while count > 1 {
+            let half = count / 2;
+            self.narrow(&mut places, key, half, count);
+            count -= half;
+        }
+        places
+    }
+
+    /// The same, but that in each long level the place is one of `WINDOW` from the given one on.
+    fn places_near(&self, key: u64) -> Places
+        ensures { ArePlacesNear self.now result key WINDOW }
+    {
         let mut places = [0; 26];
-        for i in 0..self.level_count() {
+        for i in 0..self.depth() {
             if let Some(level) = self.level(i) {
-                places[i] = level.place(key);
+                places[i] = level.start_in(i, key);
             }
         }
         places
+    }
+
+    /// A step of the search: of the places that are left in each long level `half` are left out.
+    #[inline(always)]
+    fn narrow(&self, places: &mut Places, key: u64, half: usize, count: usize)
+        requires some { 1 ≤ half }
+        requires most { half + half ≤ count }
+        requires near { ArePlacesNear self.now places.old key count }
+        ensures { ArePlacesNear self.now places.new key (count - half) }
+    {
+        for i in FIRST_LONG..self.depth() {
+            if let Some(level) = self.level(i) {
+                places[i] = level.narrowed(i, places[i], key, half, count);
+            }
+        }
     }
 
     /// The least key from `from` on that the map has, with its value, if there is one, by the
@@ -61,7 +94,7 @@ impl LogMap {
         ensures places { IfSome result (λ key. ArePlaces self.now places.now key) }
     {
         let mut least = least_from(&self.buffer, from);
-        for i in 0..self.level_count() {
+        for i in 0..self.depth() {
             least = lesser(least, self.key_in_level(i, places[i], from));
         }
         least
@@ -76,7 +109,7 @@ impl LogMap {
         if let Some(entry) = last_of(&self.buffer, key) {
             return entry.value;
         }
-        for i in 0..self.level_count() {
+        for i in 0..self.depth() {
             if let Some(entry) = self.entry_in_level(i, places[i], key) {
                 return entry.value;
             }
@@ -99,7 +132,7 @@ impl LogMap {
         requires { ArePlaces self.now places.old key }
         ensures { ArePlaces self.now places.new (key + 1) }
     {
-        for i in 0..self.level_count() {
+        for i in 0..self.depth() {
             if let Some(level) = self.level(i) {
                 places[i] = level.place_past(places[i], key);
             }

@@ -1,4 +1,4 @@
-use Rattle.std.proofs.Common.{◌≡◌, ◌≤◌, IfSome, subst, sym, ap, ◌∙◌, inl, inr, arith}
+use Rattle.std.proofs.Common.{◌≡◌, ◌≤◌, Some, None, IfSome, subst, sym, ap, ◌∙◌, inl, inr, arith}
 use Rattle.std.proofs.lemmas.Bool.{cases_lt}
 use Rattle.log_levels.specs.Shapes.{level_of, IsCutOf}
 use Rattle.log_levels.proofs.WalkLemmas.{places-stay}
@@ -25,5 +25,8 @@ returns-clause-places c =
     places-stay c.args.self.now entries c.args.places.now c.args.from c.loop-i.least (subst (λ held. IsCutOf held entries) c.self.view_is cut) c.requires c.loop-i.invariant.from
     (λ key above below. record {
       buffer = c.loop-i.invariant.buffer key above below;
-      levels = λ i level inside is. c.loop-i.invariant.levels key i level above below (omega arith) is;
+      levels = λ i level inside is. elim (cases_lt i c.loop-i.i) [
+        | inl before ↦ c.loop-i.invariant.levels key i level above below before is
+        | inr past ↦ let apart : None ≡ Some level = sym (c.depth-i-end.ensures.none i (omega arith) inside) ∙ is in cc
+      ];
     })

@@ -1,11 +1,9 @@
-use Rattle.std.proofs.Common.{◌≡◌, ◌<◌, ℕ, List, Some, length, slice_index}
-use Rattle.tombstones.specs.declared.entry.Entry.{Entry}
-use Rattle.window_search.specs.Searches.{lb}
-use Rattle.log_levels.specs.Shapes.{level_of, level_keys}
+use Rattle.std.proofs.Common.{◌≤◌}
+use Rattle.log_levels.specs.Kept.{ArePlacesNear}
 use Rattle.log_levels.proofs.log_map.LogMap.places.Given as goal
 
-abbrev pub invariant-loop-i : goal.invariant-loop-i
-invariant-loop-i l = record {
-  count : length l.places ≡ 26;
-  each : (i : ℕ) (level : List Entry) → i < l.i → level_of l.self i ≡ Some level → slice_index l.places i ≡ lb (level_keys level) l.key;
-}
+abbrev pub invariant-loop-count : goal.invariant-loop-count
+invariant-loop-count l = record { some : 1 ≤ l.count; near : ArePlacesNear l.self l.places l.key l.count }
+
+abbrev pub decreases-loop-count : goal.decreases-loop-count
+decreases-loop-count l = l.count

@@ -1,7 +1,7 @@
 use Rattle.std.proofs.Common.{◌≡◌, ◌/◌, ◌^◌, ◌<◌, length, subst, sym, ap, ◌∙◌, arith}
 use Rattle.log_levels.specs.Shapes.{IsLevelFor}
 use Rattle.log_levels.specs.Kept.{value_of}
-use Rattle.log_levels.proofs.SearchLemmas.{search-none, search-found, search-missed, search-clear, search-end, blocks-few}
+use Rattle.log_levels.proofs.SearchLemmas.{search-none, search-found, search-missed, search-clear, search-end}
 use Rattle.log_levels.proofs.log_map.LogMap.value_in_levels.Goals as goal
 use Rattle.log_levels.proofs.log_map.LogMap.value_in_levels.Goals.{in-Some+in_default-entry, in_default}
 
@@ -26,6 +26,6 @@ loop-i-preserved c = λ entries cut.
 pub returns : goal.returns
 returns c = λ entries cut.
     let f = length entries / 64 in
-    let count : length c.args.self.now.levels ≡ c.loop-i.i = omega arith in
-    let small : f < 2 ^ c.loop-i.i = subst (λ k. f < 2 ^ k) count (blocks-few c.args.self.now entries cut) in
+    let end : c.depth-i-end.result ≡ c.loop-i.i = omega arith in
+    let small : f < 2 ^ c.loop-i.i = subst (λ k. f < 2 ^ k) end (omega (arith, c.depth-i-end.ensures.below, ap (λ n. n / 64) cut.accepted)) in
     sym (c.loop-i.invariant entries cut ∙ ap value_of (search-end entries f c.loop-i.i c.args.key small))
