@@ -1,5 +1,5 @@
 -- The cell's least and greatest numbers are on either side, and all between begin like them.
-use Rattle.std.proofs.Common.{◌≡◌, ◌^◌, ◌<◌, ◌≤◌, arith, w64}
+use Rattle.std.proofs.Common.{arith, w64}
 use Rattle.std.specs.Int.{bit_not}
 use Rattle.std.proofs.lemmas.Nat.{and_le_l, or_lt}
 use Rattle.boxes.proofs.CellLemmas.{within_cell}

@@ -1,5 +1,5 @@
 -- The codes of one more cell lie between.
-use Rattle.std.proofs.Common.{◌+◌, ◌<◌, ◌≤◌, length, slice_index, inl, inr, arith}
+use Rattle.std.proofs.Common.{◌+◌, slice_index, inl, inr, arith}
 use Rattle.std.proofs.lemmas.Bool.{cases_lt}
 use Rattle.boxes.proofs.cells.over_cells.Goals as goal
 
