@@ -94,7 +94,7 @@ impl Hulls {
     /// line fits is answered with the run's witness, after at most two steps: the steep pair and
     /// the point, where it lies above every line that fits the run, and else the flat pair and the
     /// point, below every such line. A point that is taken in takes at most 12 steps, and as many
-    /// more as fewer points are [spare](Self) afterwards. Takes no memory.
+    /// more as fewer are [spare](Self) afterwards. Takes no memory.
     ///
     /// Source: O'Rourke, CACM 24(9), 1981.
     pub fn offer<L: Ledger>(&mut self, x: u64, y: u32, steps: &mut Steps<L>) -> Offer
