@@ -7,7 +7,7 @@ use crate::level::{EPS, EPS_REC};
 use budget::{NoMemory, Steps};
 use edge::Gate;
 use levels::{Index, Keys};
-use piece_join::uneven_cuts;
+use piece_join::even_cuts;
 use std::alloc::Global;
 use std::marker::Brand;
 use std::sync::ledger::{Blank, Ledger};
@@ -94,7 +94,13 @@ fn index_here<L: Ledger>(alloc: Global, keys: Keys, blank: Blank) -> Built
     Index::build_here(alloc, keys, EPS, EPS_REC, &mut steps)
 }
 
-/// The index of keys, built in pieces by several workers.
+/// How many points a piece of an index has at least. A run of scattered keys has some ten
+/// thousand, and the last one of a piece is fitted anew; and a thread takes as long to start as a
+/// thousand points to segment.
+const PIECE: u32 = 131_072;
+
+/// The index of keys, built by several workers: in as many pieces, but in fewer where these would
+/// be short.
 pub fn index_in_pieces<R: Threads + Sync, G: Gate>(
     rt: &R,
     alloc: Global,
@@ -110,6 +116,7 @@ pub fn index_in_pieces<R: Threads + Sync, G: Gate>(
 {
     let _ = keys.file();
     let points = keys.xs().len() as u32;
-    let cuts = uneven_cuts(alloc, points, workers)?;
+    let pieces = (points / PIECE).clamp(1, workers);
+    let cuts = even_cuts(alloc, points, pieces)?;
     Index::build(rt, alloc, keys, EPS, EPS_REC, &cuts, workers, gate)
 }

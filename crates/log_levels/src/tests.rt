@@ -220,8 +220,8 @@ impl Gate for Counting {
     }
 }
 
-// 330 entries have five blocks: level 2 of 256 keys and level 0 of 64. Two workers have 16 pieces
-// in each, without those that would be empty: 16 and 15.
+// 330 entries have five blocks: level 2 of 256 keys and level 0 of 64. Each is too short for more
+// than one piece.
 #[test]
 fn pieces_pass_the_gate(rt: HostRuntime) -> Result<(), Fail> {
     let gate = Counting {
@@ -235,8 +235,8 @@ fn pieces_pass_the_gate(rt: HostRuntime) -> Result<(), Fail> {
     let mut map = LogMap::new(rt.alloc(), 4)?;
     let applied = map.apply(&rt, rt.alloc(), &updates, 2, &gate);
     assert_eq!(rt; applied, Ok(()));
-    assert_eq!(rt; gate.begun.load(Ordering::SeqCst), 31);
-    assert_eq!(rt; gate.done.load(Ordering::SeqCst), 31);
+    assert_eq!(rt; gate.begun.load(Ordering::SeqCst), 2);
+    assert_eq!(rt; gate.done.load(Ordering::SeqCst), 2);
     Ok(())
 }
 
