@@ -1,12 +1,14 @@
-// What finds positions: the levels of an index, or a table in place of those above level 0.
+// What finds positions: the levels of an index, a table in place of those above level 0, or the
+// sorted keys alone.
 ghost use Rattle.std.specs.Prelude.{◌≡◌, ◌+◌, ◌++◌, ◌≤◌, length, map};
 ghost use Rattle.std.specs.Prelude.{vec_capacity, vec_len, IfOk};
 ghost use Rattle.window_search.specs.Searches.{lb};
 ghost use Rattle.commands.specs.Finders.{keys_of};
 
+use crate::task::SortedKeys;
 use bucketed::Buckets;
 use budget::NoMemory;
-use levels::Index;
+use levels::{Index, positions_among};
 use std::alloc::Global;
 
 /// Finds how many keys are below a question.
@@ -16,6 +18,8 @@ pub enum Finder<'a> {
     Levels(&'a Index),
     /// By a table over level 0.
     Table(Buckets<'a>),
+    /// By halving the keys, without an index.
+    Sorted(&'a SortedKeys),
 }
 
 impl<'a> Finder<'a> {
@@ -42,6 +46,7 @@ impl<'a> Finder<'a> {
         match self {
             Finder::Levels(index) => index.positions(questions, into),
             Finder::Table(buckets) => buckets.positions(questions, into),
+            Finder::Sorted(sorted) => positions_among(&sorted.keys, questions, into),
         }
     }
 }

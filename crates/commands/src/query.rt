@@ -1,14 +1,13 @@
 // The command `query`.
-ghost use Rattle.std.specs.Prelude.{◌≡◌, ◌∷◌, ◌≤◌, [], ℕ, List};
-ghost use Rattle.std.specs.Prelude.{length, map, OnOk, OnErr};
+ghost use Rattle.std.specs.Prelude.{◌≡◌, ◌∷◌, ◌≤◌, [], ℕ, List, Option};
+ghost use Rattle.std.specs.Prelude.{false, is_some, length, map, IfSome, OnOk, OnErr};
 ghost use Rattle.std.specs.Prelude.{vec_capacity};
-ghost use Rattle.std.specs.List.Sorted.{IsNonDecreasing};
 ghost use Rattle.window_search.specs.Searches.{lb};
-ghost use Rattle.levels.specs.Indexes.{IsIndex};
 ghost use Rattle.written.specs.Writing.{Writes, BreaksOff, WritesText};
+ghost use Rattle.commands.specs.Finders.{IsIndexOf};
 ghost use Rattle.commands.specs.Tasks.{bounds_of};
-ghost use Rattle.commands.specs.Texts.Query.{IsAnswered, TellsAnswer, TellsAnswers, find_line};
-ghost use Rattle.commands.specs.Texts.Query.{TellsWindows, window_line, window_lines};
+ghost use Rattle.commands.specs.Texts.Query.{IsAnswered, TellsAnswer, TellsWindows};
+ghost use Rattle.commands.specs.Texts.Query.{find_line, window_line, window_lines};
 
 use crate::finder::Finder;
 use crate::indexing::index_of;
@@ -25,8 +24,10 @@ type Window = (u32, u32, u32);
 
 /// Writes how many keys are below each question, and the windows where they are asked for.
 ///
-/// All memory is taken before the first byte: for the index, the table, the positions, and the
-/// windows of one question.
+/// An index is built where windows or a table are asked for, or the questions are many enough to
+/// pay for it; else the keys themselves are halved, as fast a search for few questions. All memory
+/// is taken before the first byte: for the index, the table, the positions, and the windows of one
+/// question.
 pub fn write<R: Threads + Sync, S: Sink, G: Gate>(
     rt: &R,
     alloc: Global,
@@ -42,45 +43,79 @@ pub fn write<R: Threads + Sync, S: Sink, G: Gate>(
     ensures { WritesText S.Sink out.old result out.new
         (IsAnswered sorted.keys.items (bounds_of bounds) questions.now windows) }
 {
+    if !windows && table.bits == 0 && !is_paid_for(questions.len(), sorted.keys.len()) {
+        return write_by_keys(rt, alloc, &sorted, bounds, questions, out);
+    }
     let index = index_of(rt, alloc, sorted, bounds, workers, gate)?;
     let finder = Finder::of(alloc, &index, table.bits)?;
     let positions = positions_of(rt, alloc, &finder, questions)?;
     let mut room = Vec::with_capacity(alloc, index.levels() as usize)?;
-    match write_answers(
-        out, &index, bounds, questions, &positions, windows, &mut room,
-    ) {
+    let told = if windows { Some(&index) } else { None };
+    let keys = index.keys().file();
+    let written = write_answers(out, keys, bounds, questions, &positions, told, &mut room);
+    match written {
         Ok(()) => Ok(()),
         Err(_) => Err(Unfinished::WriteFault),
     }
 }
 
-// Writes the text lines of each question.
+// Whether so many questions pay for the index of so many keys: building costs a key some 10 to 30
+// nanoseconds, and a question gains up to 80 by it.
+fn is_paid_for(questions: usize, keys: usize) -> bool {
+    questions >= keys
+}
+
+// The same without an index, where no windows are asked for.
+fn write_by_keys<R: Threads + Sync, S: Sink>(
+    rt: &R,
+    alloc: Global,
+    sorted: &SortedKeys,
+    bounds: Bounds,
+    questions: &[u64],
+    out: &mut S,
+) -> Result<(), Unfinished>
+    ensures { WritesText S.Sink out.old result out.new
+        (IsAnswered sorted.now.keys.items (bounds_of bounds) questions.now false) }
+{
+    let positions = positions_of(rt, alloc, &Finder::Sorted(sorted), questions)?;
+    let mut room = Vec::new(alloc);
+    let written = write_answers(
+        out,
+        &sorted.keys,
+        bounds,
+        questions,
+        &positions,
+        None,
+        &mut room,
+    );
+    match written {
+        Ok(()) => Ok(()),
+        Err(_) => Err(Unfinished::WriteFault),
+    }
+}
+
+// Writes the text lines of each question. `told` is the index whose windows are told, if they are.
 fn write_answers<S: Sink>(
     out: &mut S,
-    index: &Index,
+    keys: &[u64],
     bounds: Bounds,
     questions: &[u64],
     positions: &[u32],
-    windows: bool,
+    told: Option<&Index>,
     room: &mut Vec<Window>,
 ) -> Result<(), Failed>
-    requires never_falls { IsNonDecreasing index.now.keys }
-    requires index { IsIndex index.now.keys bounds.eps bounds.eps_rec index.now.levels }
-    requires eps { index.now.eps ≡ bounds.eps }
-    requires eps_rec { index.now.eps_rec ≡ bounds.eps_rec }
-    requires positions { positions.now ≡ map (lb index.now.keys) questions.now }
-    requires room { length index.now.levels ≤ vec_capacity room.old }
-    ensures ok { OnOk result ((pieces : List (List ℕ)) × TellsAnswers index.now.keys
-        (bounds_of bounds) index.now.levels windows questions.now pieces
-        × Writes S.Sink out.old out.new pieces) }
-    ensures err { OnErr result ((pieces : List (List ℕ)) × TellsAnswers index.now.keys
-        (bounds_of bounds) index.now.levels windows questions.now pieces
-        × BreaksOff S.Sink out.old out.new pieces) }
+    requires positions { positions.now ≡ map (lb keys.now) questions.now }
+    requires index { IfSome told (λ index. IsIndexOf keys.now (bounds_of bounds) index.now) }
+    requires room { IfSome told (λ index. length index.now.levels ≤ vec_capacity room.old) }
+    ensures ok { OnOk result ((pieces : List (List ℕ)) × IsAnswered keys.now (bounds_of bounds)
+        questions.now (is_some told.entry) pieces × Writes S.Sink out.old out.new pieces) }
+    ensures err { OnErr result ((pieces : List (List ℕ)) × IsAnswered keys.now (bounds_of bounds)
+        questions.now (is_some told.entry) pieces × BreaksOff S.Sink out.old out.new pieces) }
 {
     let mut line = TextLine::new();
     for i in 0..questions.len() {
         let asked = (questions[i], positions[i]);
-        write_answer(out, &mut line, index, bounds, asked, windows, room)?;
+        write_answer(out, &mut line, keys, bounds, asked, told, room)?;
     }
     Ok(())
 }
@@ -89,42 +124,44 @@ fn write_answers<S: Sink>(
 fn write_answer<S: Sink>(
     out: &mut S,
     line: &mut TextLine,
-    index: &Index,
+    keys: &[u64],
     bounds: Bounds,
     asked: (u64, u32),
-    windows: bool,
+    told: Option<&Index>,
     room: &mut Vec<Window>,
 ) -> Result<(), Failed>
-    requires eps { index.now.eps ≡ bounds.eps }
-    requires eps_rec { index.now.eps_rec ≡ bounds.eps_rec }
-    requires position { asked.1 ≡ lb index.now.keys asked.0 }
-    requires room { length index.now.levels ≤ vec_capacity room.old }
-    ensures ok { OnOk result ((pieces : List (List ℕ)) × TellsAnswer index.now.keys
-        (bounds_of bounds) index.now.levels windows asked.0 pieces
-        × Writes S.Sink out.old out.new pieces) }
-    ensures err { OnErr result ((pieces : List (List ℕ)) × TellsAnswer index.now.keys
-        (bounds_of bounds) index.now.levels windows asked.0 pieces
-        × BreaksOff S.Sink out.old out.new pieces) }
-    ensures capacity { length index.now.levels ≤ vec_capacity room.new }
+    requires position { asked.1 ≡ lb keys.now asked.0 }
+    requires index { IfSome told (λ index. IsIndexOf keys.now (bounds_of bounds) index.now) }
+    requires room { IfSome told (λ index. length index.now.levels ≤ vec_capacity room.old) }
+    ensures ok { OnOk result ((pieces : List (List ℕ)) × TellsAnswer keys.now (bounds_of bounds)
+        (is_some told.entry) asked.0 pieces × Writes S.Sink out.old out.new pieces) }
+    ensures err { OnErr result ((pieces : List (List ℕ)) × TellsAnswer keys.now (bounds_of bounds)
+        (is_some told.entry) asked.0 pieces × BreaksOff S.Sink out.old out.new pieces) }
+    ensures capacity { vec_capacity room.old ≤ vec_capacity room.new }
 {
     let (question, position) = asked;
     fill_find_line(line, question, position);
-    fill_windows(index, bounds, question, windows, room);
+    fill_windows(keys, bounds, question, told, room);
     hand_over(out, line.as_bytes())?;
     write_windows(out, line, room)
 }
 
-// Puts the windows of a question into the list, where they are asked for, and else none.
-fn fill_windows(index: &Index, bounds: Bounds, question: u64, windows: bool, into: &mut Vec<Window>)
-    requires eps { index.now.eps ≡ bounds.eps }
-    requires eps_rec { index.now.eps_rec ≡ bounds.eps_rec }
-    requires room { length index.now.levels ≤ vec_capacity into.old }
-    ensures tells { TellsWindows index.now.keys (bounds_of bounds) index.now.levels windows question
+// Puts the windows of a question into the list, where they are told, and else none.
+fn fill_windows(
+    keys: &[u64],
+    bounds: Bounds,
+    question: u64,
+    told: Option<&Index>,
+    into: &mut Vec<Window>,
+)
+    requires index { IfSome told (λ index. IsIndexOf keys.now (bounds_of bounds) index.now) }
+    requires room { IfSome told (λ index. length index.now.levels ≤ vec_capacity into.old) }
+    ensures tells { TellsWindows keys.now (bounds_of bounds) (is_some told.entry) question
         (window_lines into.new.items) }
-    ensures capacity { length index.now.levels ≤ vec_capacity into.new }
+    ensures capacity { vec_capacity into.old ≤ vec_capacity into.new }
 {
     into.clear();
-    if windows {
+    if let Some(index) = told {
         index.windows_into(question, into);
     }
 }

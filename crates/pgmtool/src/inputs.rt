@@ -7,7 +7,7 @@ ghost use Rattle.command_line.specs.Requests.{asked_of, first_file, built_of, dr
 ghost use Rattle.pgmtool.specs.Files.{IsFirstMissing, IsMissing};
 ghost use Rattle.commands.specs.Tasks.{bounds_of, task_of};
 ghost use Rattle.pgmtool.specs.Inputs.{reads, reads_index, reads_keys, reads_script, bounds_in};
-ghost use Rattle.pgmtool.specs.Inputs.{drill_of, questions_in, reads_points, regions_in};
+ghost use Rattle.pgmtool.specs.Inputs.{drill_of, reads_points, regions_in};
 ghost use Rattle.pgmtool.specs.Stops.{Answers};
 
 use crate::history::history_in;
@@ -15,7 +15,7 @@ use crate::refusal::{Refusal, Stopped};
 use command_line::{Building, Drilling, Request};
 use commands::{Bounds, Drill, Search, SortedKeys, Table, Task, Workers};
 use edge::Shelf;
-use pgm_script::{ScriptKind, ScriptLine, parse, read_text};
+use pgm_script::{Finds, LineList, ScriptKind, ScriptLine, parse_as, read_text};
 use sosd_reader::{read_keys, read_points};
 use std::alloc::{AllocError, Global};
 use zorder::Region;
@@ -64,15 +64,14 @@ pub fn read<F: Shelf>(alloc: Global, files: &mut F, request: Request<'_>) -> Res
             table,
         } => {
             let keys = index_keys(alloc, files, building)?;
-            let lines = script_lines(alloc, files, script, ScriptKind::Find)?;
-            let questions = questions_in(alloc, &lines)?;
+            let finds: Finds = script_lines(alloc, files, script, ScriptKind::Find)?;
             let bounds = bounds_in(building);
             let workers = workers_in(building);
             Ok(Task::Query {
                 keys,
                 bounds,
                 workers,
-                questions,
+                questions: finds.numbers,
                 windows,
                 table: table_in(table),
             })
@@ -80,7 +79,12 @@ pub fn read<F: Shelf>(alloc: Global, files: &mut F, request: Request<'_>) -> Res
         Request::Box { searching } => {
             let dims = searching.dims;
             let coords = coordinates(alloc, files, searching.file, dims)?;
-            let lines = script_lines(alloc, files, searching.script, ScriptKind::Region(dims))?;
+            let lines: Vec<ScriptLine> = script_lines(
+                alloc,
+                files,
+                searching.script,
+                ScriptKind::Region(dims),
+            )?;
             let regions = regions_in(alloc, dims, &lines)?;
             let search = Search {
                 dims,
@@ -90,7 +94,12 @@ pub fn read<F: Shelf>(alloc: Global, files: &mut F, request: Request<'_>) -> Res
             Ok(Task::Box { search })
         }
         Request::Replay { replaying } => {
-            let lines = script_lines(alloc, files, replaying.script, ScriptKind::Replay)?;
+            let lines: Vec<ScriptLine> = script_lines(
+                alloc,
+                files,
+                replaying.script,
+                ScriptKind::Replay,
+            )?;
             let history = history_in(alloc, replaying, &lines)?;
             Ok(Task::Replay { history })
         }
@@ -199,15 +208,16 @@ fn coordinates<F: Shelf>(
 }
 
 // The lines of the script of this name.
-fn script_lines<F: Shelf>(
+fn script_lines<F: Shelf, L: LineList>(
     alloc: Global,
     files: &mut F,
     name: &str,
     kind: ScriptKind,
-) -> Result<Vec<ScriptLine>, Stopped>
-    requires { IsKind kind }
+) -> Result<L, Stopped>
+    requires kind { IsKind kind }
+    requires takes { L.takes kind }
     ensures answer { Answers (reads_script kind (F.files files.old) name.now)
-        (λ lines. lines.items) (F.faults files.old) (F.faults files.new) result }
+        (λ lines. L.lines lines) (F.faults files.old) (F.faults files.new) result }
     ensures missing { IsMissing (F.files files.old) name.now
         → result ≡ Err (Stopped.Refused Refusal.ReadFault) }
     ensures files { F.files files.new ≡ F.files files.old }
@@ -220,31 +230,10 @@ fn script_lines<F: Shelf>(
         Ok(text) => text,
         Err(fault) => return Err(Stopped::from(fault)),
     };
-    match parse(alloc, kind, &text) {
+    match parse_as(alloc, kind, &text) {
         Ok(lines) => Ok(lines),
         Err(fault) => Err(Stopped::from(fault)),
     }
-}
-
-// The questions of a script.
-fn questions_in(alloc: Global, lines: &[ScriptLine]) -> Result<Vec<u64>, AllocError>
-    ensures { IfOk result (λ questions. questions.items ≡ questions_in lines.now) }
-{
-    let mut questions = Vec::with_capacity(alloc, lines.len())?;
-    for i in 0..lines.len() {
-        push_question(&mut questions, &lines[i])?;
-    }
-    Ok(questions)
-}
-
-fn push_question(questions: &mut Vec<u64>, line: &ScriptLine) -> Result<(), AllocError>
-    ensures { OnOk result
-        (questions.new.items ≡ questions.old.items ++ questions_in (line.now ∷ [])) }
-{
-    if let ScriptLine::Find(question) = line {
-        questions.push(*question)?;
-    }
-    Ok(())
 }
 
 // The regions of a script, each of points of `d` coordinates.

@@ -118,7 +118,35 @@ fn rows_have_their_text(rt: HostRuntime) -> Result<(), Fail> {
     Ok(())
 }
 
-// Without the flag there are no windows; keys of 32 bits are read by theirs.
+// Without the flag there are no windows. Rows with fewer questions than keys go by the keys alone,
+// the others by an index.
+#[test]
+fn rows_have_no_windows_without_the_flag(rt: HostRuntime) -> Result<(), Fail> {
+    for row in ROWS {
+        let keys = key_file(&rt, row.keys)?;
+        let mut text = Vec::new(rt.alloc());
+        for line in row.text {
+            if line.starts_with("find") {
+                text.push(*line)?;
+            }
+        }
+        for buckets in BUCKETS {
+            let words = [
+                "query",
+                "keys",
+                "script",
+                "--eps",
+                row.eps,
+                "--buckets",
+                buckets,
+            ];
+            check_text(&rt, row.name, &words, &keys, row.script, &text)?;
+        }
+    }
+    Ok(())
+}
+
+// Keys of 32 bits are read by theirs.
 #[test]
 fn narrow_keys_are_found(rt: HostRuntime) -> Result<(), Fail> {
     let keys = b"\x02\0\0\0\0\0\0\0\x05\0\0\0\x09\0\0\0";

@@ -8,7 +8,7 @@ use Rattle.commands.proofs.query.write_answer.Goals as goal
 
 pub returns-in_err-hand_over-clause-err : goal.returns-in_err-hand_over-clause-err
 returns-in_err-hand_over-clause-err g c =
-    let head = find_line c.args.asked.0 (lb c.args.index.now.keys c.args.asked.0) in
+    let head = find_line c.args.asked.0 (lb c.args.keys.now c.args.asked.0) in
     let lines = window_lines c.fill_windows.new.into.items in
     let head_is = c.as_bytes.ensures ∙ c.fill_find_line.ensures ∙ ap (find_line c.args.asked.0) c.requires.position in
     on_err c.from_residual.result _ (
@@ -19,7 +19,7 @@ returns-in_err-hand_over-clause-err g c =
 
 pub returns-clause-ok : goal.returns-clause-ok
 returns-clause-ok g c =
-    let head = find_line c.args.asked.0 (lb c.args.index.now.keys c.args.asked.0) in
+    let head = find_line c.args.asked.0 (lb c.args.keys.now c.args.asked.0) in
     let lines = window_lines c.fill_windows.new.into.items in
     let head_is = c.as_bytes.ensures ∙ c.fill_find_line.ensures ∙ ap (find_line c.args.asked.0) c.requires.position in
     let lines_are = ap window_lines c.deref.ensures.value in
@@ -30,7 +30,7 @@ returns-clause-ok g c =
 
 pub returns-clause-err : goal.returns-clause-err
 returns-clause-err g c =
-    let head = find_line c.args.asked.0 (lb c.args.index.now.keys c.args.asked.0) in
+    let head = find_line c.args.asked.0 (lb c.args.keys.now c.args.asked.0) in
     let lines = window_lines c.fill_windows.new.into.items in
     let head_is = c.as_bytes.ensures ∙ c.fill_find_line.ensures ∙ ap (find_line c.args.asked.0) c.requires.position in
     let lines_are = ap window_lines c.deref.ensures.value in

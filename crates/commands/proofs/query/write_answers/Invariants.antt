@@ -1,12 +1,12 @@
 use Rattle.std.proofs.Common.{◌≤◌, take, length, List, ℕ}
-use Rattle.std.specs.Prelude.{vec_capacity}
+use Rattle.std.specs.Prelude.{is_some, vec_capacity}
 use Rattle.written.specs.Writing.{Writes}
 use Rattle.commands.specs.Tasks.{bounds_of}
-use Rattle.commands.specs.Texts.Query.{TellsAnswers}
+use Rattle.commands.specs.Texts.Query.{IsAnswered}
 use Rattle.commands.proofs.query.write_answers.Given as goal
 
 -- the answers of the questions before this place were written, and the room is there
 abbrev pub invariant-loop-i : goal.invariant-loop-i
 invariant-loop-i g l = ((pieces : List (List ℕ))
-    × TellsAnswers l.index.keys (bounds_of l.bounds) l.index.levels l.windows (take l.i l.questions) pieces × Writes g.S.Sink l.fn.out l.out pieces)
-    × (length l.index.levels ≤ vec_capacity l.room)
+    × IsAnswered l.keys (bounds_of l.bounds) (take l.i l.questions) (is_some l.told) pieces × Writes g.S.Sink l.fn.out l.out pieces)
+    × (vec_capacity l.fn.room ≤ vec_capacity l.room)

@@ -1,9 +1,11 @@
-use Rattle.std.proofs.Common.{◌≡◌, ◌∙◌, ◌*◌, ◌<◌, ℕ, List, Vec, Global, Ok, Err, ap, sym, subst, arith}
+use Rattle.std.proofs.Common.{◌≡◌, ◌∙◌, ◌*◌, ◌<◌, ℕ, Bool, List, [], ◌∷◌, map, Vec, Global, Ok, Err, ap, sym, subst, refl, arith}
 use Rattle.zorder.specs.declared.regions.Region.{Region}
 use Rattle.zorder.specs.Codes.{IsDimension}
 use Rattle.pgm_script.specs.declared.script.ScriptKind.{ScriptKind}
 use Rattle.pgm_script.specs.declared.script.ScriptLine.{ScriptLine}
-use Rattle.command_line.specs.Requests.{Searching, built_of, searched_of, replayed_of}
+use Rattle.pgm_script.specs.declared.script.ScriptLine.TheVariants.{Find}
+use Rattle.pgm_script.specs.declared.list.Finds.{Finds}
+use Rattle.command_line.specs.Requests.{Building, Searching, built_of, searched_of, replayed_of}
 use Rattle.command_line.specs.Requests.Request.{box as search, query, replay}
 use Rattle.commands.specs.declared.task.History.{History}
 use Rattle.commands.specs.declared.task.Task.TheVariants as declared_task
@@ -52,7 +54,43 @@ returns-in_ok-regions-in-Box-clause-answer g c =
     record {
       ok = rw c.in-Box.is (searched _ (searched_of searching) coords lines _ one.answer.ok
           (subst (λ (files : Files). reads_script (ScriptKind.Region searching.dims) files searching.script.now (Ok lines)) one.files two.answer.ok)
-          (c.in_ok-regions-in-Box.ensures.regions ∙ ap regions_in c.deref-in-Box.ensures.value));
+          (c.in_ok-regions-in-Box.ensures.regions ∙ ap regions_in c.deref.ensures.value));
+      unfaulted = quiet;
+      stopped = tt;
+      faulted = λ rose. absurd (omega (arith, rose, quiet));
+      never_falls = omega (arith, quiet);
+    }
+
+-- the task of keys and the questions of a script that were read
+questions_in-finds : (questions : List ℕ) → questions_in (map Find questions) ≡ questions
+questions_in-finds [] = refl
+questions_in-finds (question ∷ questions) = ap (λ (q : List ℕ). question ∷ q) (questions_in-finds questions)
+
+asked : (files : Files) (building : Building) (name keys questions : List ℕ) (windows : Bool) (bounds : tasks.Bounds) → bounds ≡ bounds_in building →
+    reads_index files building (Ok keys) → reads_script ScriptKind.Find files name (Ok (map Find questions)) →
+    reads files (query building name windows) (Ok (tasks.Task.query keys bounds questions windows))
+asked files building name keys questions windows bounds is index script = (
+  keys,
+  index,
+  (
+    map Find questions,
+    script,
+    ap (λ (b : tasks.Bounds). Ok (tasks.Task.query keys b questions windows)) is
+        ∙ ap (λ (q : List ℕ). Ok (tasks.Task.query keys (bounds_in building) q windows)) (sym (questions_in-finds questions)),
+  ),
+)
+
+pub returns-in_ok-finds-in-Query-clause-answer : goal.returns-in_ok-finds-in-Query-clause-answer
+returns-in_ok-finds-in-Query-clause-answer g c =
+    let building = built_of c.in-Query.building in
+    let name = c.in-Query.script.now in
+    let questions = c.in_ok-finds-in-Query.finds.numbers.items in
+    let one = c.in_ok-keys-in-Query.ensures in
+    let two = c.in_ok-finds-in-Query.ensures in
+    let quiet = two.answer.unfaulted ∙ one.answer.unfaulted in
+    record {
+      ok = rw c.in-Query.is (asked _ building name _ questions c.in-Query.windows _ c.bounds_in-bounds-in-Query.ensures one.answer.ok
+          (subst (λ (files : Files). reads_script ScriptKind.Find files name (Ok (map Find questions))) one.files two.answer.ok));
       unfaulted = quiet;
       stopped = tt;
       faulted = λ rose. absurd (omega (arith, rose, quiet));
@@ -60,22 +98,22 @@ returns-in_ok-regions-in-Box-clause-answer g c =
     }
 
 -- a script that stopped, behind what was read first
-pub returns-in_err-lines-in-Query-clause-answer : goal.returns-in_err-lines-in-Query-clause-answer
-returns-in_err-lines-in-Query-clause-answer g c =
+pub returns-in_err-finds-in-Query-clause-answer : goal.returns-in_err-finds-in-Query-clause-answer
+returns-in_err-finds-in-Query-clause-answer g c =
     let before = g.F.Shelf.faults c.args.files.now in
     let middle = g.F.Shelf.faults c.index_keys-in-Query.new.files in
     let after = g.F.Shelf.faults c.script_lines.new.files in
     let files = g.F.Shelf.files c.args.files.now in
     let building = built_of c.in-Query.building in
     let name = c.in-Query.script.now in
-    let stopped = c.in_err-lines-in-Query.field-0.0 in
+    let stopped = c.in_err-finds-in-Query.field-0.0 in
     let one = c.in_ok-keys-in-Query.ensures in
-    let two = subst (λ (f : Files). Answers {B = Vec ScriptLine Global} (reads_script ScriptKind.Find f name) (λ lines. lines.items) middle after (Err stopped)) one.files c.in_err-lines-in-Query.ensures.answer in
+    let two = subst (λ (f : Files). Answers {B = Finds} (reads_script ScriptKind.Find f name) (λ finds. map Find finds.numbers.items) middle after (Err stopped)) one.files c.in_err-finds-in-Query.ensures.answer in
     rw c.in-Query.is (subst (Answers (reads files (query building name c.in-Query.windows)) task_of before after)
-    (sym (handed_on _ stopped c.from_residual-in_err-lines-in-Query.ensures.1))
+    (sym (handed_on _ stopped c.from_residual-in_err-finds-in-Query.ensures.1))
     (second_stops (reads_index files building) (λ keys. reads_script ScriptKind.Find files name)
     (λ keys lines. gives (tasks.Task.query keys (bounds_in building) (questions_in lines) c.in-Query.windows)) (λ sorted. sorted.keys.items)
-    (λ (lines : Vec ScriptLine Global). lines.items) task_of before middle after c.in_ok-keys-in-Query.keys stopped one.answer two))
+    (λ (finds : Finds). map Find finds.numbers.items) task_of before middle after c.in_ok-keys-in-Query.keys stopped one.answer two))
 
 pub returns-in_err-lines-in-Box-clause-answer : goal.returns-in_err-lines-in-Box-clause-answer
 returns-in_err-lines-in-Box-clause-answer g c =
