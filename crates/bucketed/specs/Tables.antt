@@ -1,6 +1,6 @@
 -- A table in place of the levels above level 0: how many runs of level 0 begin before each step of equal size.
 -- Source: P. Ferragina and G. Vinciguerra, the bucketing form of the PGM-index library, 2020.
-use Rattle.std.specs.Prelude.{◌≡◌, ℕ, ◌+◌, ◌-◌, ◌*◌, ◌/◌, ◌^◌, ◌<◌, ◌≤◌, List, length, map, slice_index}
+use Rattle.std.specs.Prelude.{◌≡◌, ℕ, ◌+◌, ◌-◌, ◌*◌, ◌/◌, ◌^◌, ◌≤◌, List, length, map, slice_index}
 use Rattle.window_search.specs.Searches.{lb}
 use Rattle.levels.specs.Indexes.{PgmIndex, xs_at}
 

@@ -1,7 +1,6 @@
 -- That any questions have text lines that answer them.
 use Rattle.std.proofs.Common.{ℕ, List, Option, Some, None, [], ◌∷◌, get_or, refl}
 use Rattle.std.specs.Prelude.{is_some, IfSome}
-use Rattle.std.specs.List.Sorted.{IsNonDecreasing}
 use Rattle.std.proofs.lemmas.List.Elements.{All-from_get_or}
 use Rattle.window_search.specs.Searches.{lb}
 use Rattle.levels.specs.Indexes.{PgmIndex}

@@ -1,6 +1,6 @@
 -- The lines of `replay`, one after the other, and what they stand for.
-use Rattle.std.proofs.Common.{◌≡◌, ◌≤◌, ◌<◌, ◌+◌, ◌++◌, ◌∷◌, [], ℕ, List, length, get_or, take, drop, drop-cons, add-one, zero, suc, map, ap, sym, refl, ◌∙◌, subst, arith}
-use Rattle.std.specs.Prelude.{All, ⊤}
+use Rattle.std.proofs.Common.{◌≡◌, ◌<◌, ◌+◌, ◌++◌, ◌∷◌, [], ℕ, List, length, get_or, take, drop, drop-cons, add-one, zero, suc, map, ap, sym, refl, ◌∙◌, subst, arith}
+use Rattle.std.specs.Prelude.{All}
 use Rattle.std.specs.List.{range_with_len}
 use Rattle.std.proofs.lemmas.List.FromFn.{length-range_with_len, get_or-range_with_len}
 use Rattle.std.proofs.lemmas.List.Elements.{All-head, All-tail}
@@ -10,9 +10,9 @@ use Rattle.map_replay.specs.declared.question.Question.{Question}
 use Rattle.map_replay.specs.declared.reading.Sighting.{Sighting}
 use Rattle.map_replay.specs.declared.reading.Reading.{Reading}
 use Rattle.map_replay.specs.Questions.{answer_of}
-use Rattle.map_replay.specs.Readings.{AreAnswers, IsReading, IsWholeReading}
+use Rattle.map_replay.specs.Readings.{AreAnswers, IsWholeReading}
 use Rattle.commands.specs.Texts.InTurn.{TellsEach}
-use Rattle.commands.specs.Texts.Replay.{IsRead, IsReplayed, closing_lines, end_line, last_line, reader_line, reader_lines, updates_line}
+use Rattle.commands.specs.Texts.Replay.{IsRead, IsReplayed, closing_lines, last_line, reader_line, reader_lines, updates_line}
 use Rattle.commands.specs.ReplayLines.{read_lines, replayed_lines}
 
 -- as many answers as questions, and the answer at a place

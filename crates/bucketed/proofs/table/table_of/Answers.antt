@@ -3,7 +3,6 @@ use Rattle.std.proofs.Common.{◌≡◌, ◌+◌, ◌^◌, ℕ, length, subst, a
 use Rattle.levels.specs.Indexes.{xs_at}
 use Rattle.levels.proofs.CallerLemmas.{first_x-order}
 use Rattle.radix_table.specs.Tables.{IsFilledTo}
-use Rattle.bucketed.specs.Tables.{bucket_of}
 use Rattle.bucketed.proofs.TableLemmas.{bucket-few, buckets-few, IsFilledUpTo, IsFilledUpTo-more, entries_all}
 use Rattle.bucketed.proofs.table.table_of.Goals as goal
 

@@ -1,4 +1,4 @@
-use Rattle.std.proofs.Common.{◌≤◌, take, length, List, ℕ}
+use Rattle.std.proofs.Common.{◌≤◌, take, List, ℕ}
 use Rattle.std.specs.Prelude.{is_some, vec_capacity}
 use Rattle.written.specs.Writing.{Writes}
 use Rattle.commands.specs.Tasks.{bounds_of}

@@ -1,4 +1,4 @@
-use Rattle.std.proofs.Common.{List, ℕ, length, map}
+use Rattle.std.proofs.Common.{length, map}
 use Rattle.std.specs.List.{range_with_len}
 use Rattle.log_levels.specs.Maps.{map_after}
 use Rattle.written.proofs.CallerLemmas.{BreaksOff-more}

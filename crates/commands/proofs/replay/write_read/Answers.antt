@@ -1,13 +1,10 @@
-use Rattle.std.proofs.Common.{◌≡◌, ◌+◌, ◌<◌, [], ◌∷◌, ◌++◌, ◌∙◌, ap, sym, drop, get_or, length, arith, ℕ, List}
-use Rattle.std.specs.Prelude.{All, OnOk, OnErr}
+use Rattle.std.proofs.Common.{◌≡◌, ◌+◌, ◌<◌, ◌++◌, ◌∙◌, ap, sym, drop, get_or, length, arith, ℕ, List}
 use Rattle.std.proofs.lemmas.List.{drop_all}
-use Rattle.std.proofs.lemmas.List.Elements.{All-get_or}
 use Rattle.written.proofs.CallerLemmas.{written_none, written_more, written_all, breaks_off_there}
 use Rattle.log_levels.specs.declared.update.Update.{Update}
 use Rattle.map_replay.specs.declared.question.Question.{Question}
 use Rattle.map_replay.specs.declared.reading.Reading.{Reading}
 use Rattle.map_replay.specs.declared.reading.Sighting.{Sighting}
-use Rattle.map_replay.specs.Readings.{IsWholeReading}
 use Rattle.commands.specs.Texts.Replay.{reader_lines}
 use Rattle.commands.specs.ReplayLines.{read_lines}
 use Rattle.commands.proofs.ReplayLemmas.{read_begins}

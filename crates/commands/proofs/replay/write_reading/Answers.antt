@@ -1,4 +1,4 @@
-use Rattle.std.proofs.Common.{◌≡◌, ◌+◌, ◌<◌, [], ◌∷◌, ◌++◌, ◌∙◌, refl, ap, sym, drop, get_or, length, arith, ℕ, List, None}
+use Rattle.std.proofs.Common.{◌<◌, [], ◌∷◌, ◌∙◌, ap, drop, length, arith, List, None}
 use Rattle.std.proofs.lemmas.List.{drop_all}
 use Rattle.written.proofs.CallerLemmas.{written_none, written_more, written_all, breaks_off_there}
 use Rattle.map_replay.specs.declared.question.Question.{Question}
