@@ -1,5 +1,5 @@
 -- The level at which a lookup starts.
-use Rattle.std.specs.Prelude.{◌≡◌, ℕ, ◌+◌, ◌-◌, ◌*◌, ◌^◌, ◌<◌, ◌≤◌, List, length}
+use Rattle.std.specs.Prelude.{ℕ, ◌+◌, ◌-◌, ◌*◌, ◌^◌, ◌<◌, ◌≤◌, List, length}
 use Rattle.exact_cross.specs.declared.segment.Segment.{Segment}
 use Rattle.levels.specs.declared.level.Level.{Level}
 use Rattle.levels.specs.Indexes.{xs_at}

@@ -1,5 +1,5 @@
 -- The first x of the runs one level down are few enough.
-use Rattle.std.proofs.Common.{◌≡◌, ◌+◌, ◌*◌, ◌≤◌, ℕ, length, ap, arith}
+use Rattle.std.proofs.Common.{◌+◌, ◌*◌, ℕ, length, ap, arith}
 use Rattle.levels.proofs.StoredLemmas.{levels_few}
 use Rattle.levels.proofs.EntryLemmas.{IsEntry-down, share-down}
 use Rattle.levels.proofs.entry.entry_of.Goals as goal

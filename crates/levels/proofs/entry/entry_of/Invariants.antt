@@ -1,5 +1,5 @@
 -- A lookup may start at this level, and the levels above it have their share of steps.
-use Rattle.std.proofs.Common.{◌+◌, ◌-◌, ◌*◌, ◌^◌, ◌<◌, ◌≤◌, length}
+use Rattle.std.proofs.Common.{◌+◌, ◌-◌, ◌*◌, ◌^◌, ◌≤◌, length}
 use Rattle.levels.specs.Entries.{IsEntry}
 use Rattle.levels.specs.Stored.{segments_of}
 use Rattle.levels.proofs.entry.entry_of.Given as goal

@@ -1,5 +1,5 @@
 -- The first x of the runs of level 0 rise, and are no more than keys. The empty table is one of any numbers.
-use Rattle.std.proofs.Common.{◌≡◌, ◌<◌, ◌≤◌, length, sym, ap, subst, arith}
+use Rattle.std.proofs.Common.{length, sym, ap, subst, arith}
 use Rattle.std.specs.List.Sorted.{IsNonDecreasing}
 use Rattle.levels.specs.Entries.{share_of}
 use Rattle.levels.specs.Indexes.{xs_at}

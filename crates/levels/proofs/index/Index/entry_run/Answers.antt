@@ -1,8 +1,6 @@
 -- The last level has one run, and above each other one the first x are few.
-use Rattle.std.proofs.Common.{◌≡◌, ◌+◌, ◌<◌, ◌≤◌, ◌-◌, ℕ, List, length, sym, ap, subst, inl, inr, arith}
-use Rattle.std.proofs.lemmas.Bool.{cases_lt}
+use Rattle.std.proofs.Common.{◌+◌, ℕ, List, length, sym, ap, subst, arith}
 use Rattle.std.specs.List.Sorted.{IsNonDecreasing}
-use Rattle.exact_cross.specs.declared.segment.Segment.{Segment}
 use Rattle.window_search.specs.Searches.{IsPredecessor}
 use Rattle.levels.specs.Indexes.{xs_at}
 use Rattle.levels.proofs.LookupLemmas.{no_segment, ascends, top_run, IsNonDecreasing-from_rising}

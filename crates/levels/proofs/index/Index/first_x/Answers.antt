@@ -1,5 +1,5 @@
 -- The model of a run begins at the run's first x.
-use Rattle.std.proofs.Common.{◌≡◌, ◌+◌, ℕ, List, length, slice_index, sym, ap, ◌∙◌, arith}
+use Rattle.std.proofs.Common.{ℕ, List, length, slice_index, sym, ap, ◌∙◌}
 use Rattle.levels.specs.Indexes.{level_at, xs_at}
 use Rattle.levels.proofs.LevelLemmas.{xs_at-above}
 use Rattle.levels.proofs.LookupLemmas.{no_segment}

@@ -1,5 +1,4 @@
 -- Where level 0 has a run, there is a level.
-use Rattle.std.proofs.Common.{arith}
 use Rattle.levels.proofs.RunLemmas.{level_of-run}
 use Rattle.levels.proofs.index.Index.lower_bound_in.Goals as goal
 

@@ -1,6 +1,5 @@
 -- The levels' shares of steps multiply.
-use Rattle.std.proofs.Common.{◌≡◌, ◌+◌, ◌-◌, ◌*◌, ◌<◌, length, subst, ap, arith}
-use Rattle.levels.specs.Costs.{TakesAtMost}
+use Rattle.std.proofs.Common.{◌≡◌, ◌+◌, ◌-◌, length, arith}
 use Rattle.levels.proofs.CostLemmas.{level-more}
 use Rattle.levels.proofs.index.Index.run_by_levels.Goals as goal
 

@@ -1,5 +1,5 @@
 -- The first x of the runs rise, and the table leads to the predecessor among them.
-use Rattle.std.proofs.Common.{◌≡◌, ◌+◌, ◌<◌, ◌≤◌, ℕ, List, length, sym, ap, subst, arith}
+use Rattle.std.proofs.Common.{ℕ, List, length, sym, ap, subst, arith}
 use Rattle.std.specs.List.Sorted.{IsNonDecreasing}
 use Rattle.window_search.specs.Searches.{IsPredecessor}
 use Rattle.levels.proofs.RunLemmas.{first_x-order}

@@ -1,7 +1,6 @@
 -- The first x of the runs are one for each run.
-use Rattle.std.proofs.Common.{◌≡◌, ℕ, List, length, sym, ap, ◌∙◌, subst, arith}
+use Rattle.std.proofs.Common.{◌≡◌, length, sym, ap, ◌∙◌, subst, arith}
 use Rattle.std.specs.List.Sorted.{IsNonDecreasing}
-use Rattle.exact_cross.specs.declared.segment.Segment.{Segment}
 use Rattle.levels.proofs.LookupLemmas.{ascends}
 use Rattle.levels.proofs.RunLemmas.{runs-are, no_runs}
 use Rattle.levels.proofs.index.Index.runs.Goals as goal

@@ -1,5 +1,5 @@
 -- Each lane's places hold its predecessor, and one is left.
-use Rattle.std.proofs.Common.{◌≡◌, ◌+◌, ◌<◌, ◌≤◌, ℕ, List, length, slice_index, sym, ap, subst, arith}
+use Rattle.std.proofs.Common.{ℕ, List, length, slice_index, sym, ap, subst, arith}
 use Rattle.std.specs.List.Sorted.{IsNonDecreasing}
 use Rattle.levels.specs.Indexes.{xs_at}
 use Rattle.levels.specs.InStep.{AreAmong}

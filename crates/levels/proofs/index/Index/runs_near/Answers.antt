@@ -1,5 +1,5 @@
 -- The table is one over the first x of the runs of level 0.
-use Rattle.std.proofs.Common.{◌≡◌, length}
+use Rattle.std.proofs.Common.{length}
 use Rattle.levels.specs.Entries.{share_of}
 use Rattle.levels.specs.Indexes.{xs_at}
 use Rattle.levels.specs.Stored.{segments_of}

@@ -1,8 +1,7 @@
 -- The table's places hold the predecessor of each question, which there is.
-use Rattle.std.proofs.Common.{◌≡◌, ◌+◌, ◌-◌, ◌^◌, ◌<◌, ◌≤◌, ℕ, List, length, slice_index, arith}
+use Rattle.std.proofs.Common.{◌^◌, ◌<◌, ◌≤◌, ℕ, List, length, slice_index, arith}
 use Rattle.std.specs.List.Sorted.{IsNonDecreasing}
 use Rattle.exact_cross.specs.declared.segment.Segment.{Segment}
-use Rattle.window_search.specs.Searches.{IsPredecessor}
 use Rattle.radix_table.specs.Tables.{IsLedTo}
 use Rattle.levels.specs.Indexes.{IsIndex, xs_at}
 use Rattle.levels.proofs.LookupLemmas.{ascends}
