@@ -1,7 +1,9 @@
 -- One lane of questions in step, and a write to one lane.
-use Rattle.std.proofs.Common.{◌≡◌, ℕ, ◌+◌, ◌-◌, ◌<◌, ◌≤◌, List, ◌++◌, map, take, append_assoc, length, slice_index, refl, sym, ap, ◌∙◌, subst, inl, inr, arith}
+use Rattle.std.proofs.Common.{◌≡◌, ℕ, ◌+◌, ◌-◌, ◌*◌, ◌%◌, ◌<◌, ◌≤◌, Bool, true, false, nat_lt, List, ◌++◌, map, take, append_assoc, length, slice_index, refl, sym, ap, ◌∙◌, subst, inl, inr, arith}
 use Rattle.std.specs.Prelude.{slice_set, max}
 use Rattle.std.proofs.lemmas.Bool.{cases_lt}
+use Rattle.std.proofs.lemmas.Bool.Decides.{nat_tests}
+use Rattle.std.specs.Int.{from_bool}
 use Rattle.std.proofs.lemmas.List.{get_or-set_same, get_or-set_other, get_or-map, get_or-take, length-map, length-take-le, map-append, ext_get_or}
 use Rattle.std.specs.List.Sorted.{IsNonDecreasing}
 use Rattle.window_search.specs.Searches.{lb, IsPredecessor}
@@ -56,6 +58,31 @@ HasBound-lower list q base count half order some most bound read = record {
   from = bound.from;
   to = omega (arith, lb_not_after list q (base + half - 1) (slice_index list (base + half - 1)) order refl read);
 }
+
+-- half of the places by the answer at the last place of the lower half, which moves the base by no place or by a half
+pub HasBound-evenly : (list : List ℕ) (q base half probe moved : ℕ) → IsNonDecreasing list → 0 < half → half < 4294967296 → HasBound list q base (2 * half) →
+    probe ≡ base + half - 1 → moved ≡ from_bool (nat_lt (slice_index list probe) q) → HasBound list q (base + moved * half % 4294967296) half
+HasBound-evenly list q base half probe moved order some few bound is answer = go (nat_lt (slice_index list probe) q) refl
+  where
+    go : (below : Bool) → nat_lt (slice_index list probe) q ≡ below → HasBound list q (base + moved * half % 4294967296) half
+    go true holds =
+        let one : moved ≡ 1 = answer ∙ ap from_bool holds in
+        let less : slice_index list probe < q = grind (arith, nat_tests, holds) in
+        let past = lb_after list q probe (slice_index list probe) order (omega (arith, bound.within)) refl less in
+        subst (λ (k : ℕ). HasBound list q (base + k * half % 4294967296) half) (sym one) (record {
+          within = omega (arith, bound.within);
+          from = omega (arith, past);
+          to = omega (arith, bound.to);
+        })
+    go false fails =
+        let none : moved ≡ 0 = answer ∙ ap from_bool fails in
+        let at_least : q ≤ slice_index list probe = grind (arith, nat_tests, fails) in
+        let before = lb_not_after list q probe (slice_index list probe) order refl at_least in
+        subst (λ (k : ℕ). HasBound list q (base + k * half % 4294967296) half) (sym none) (record {
+          within = omega (arith, bound.within);
+          from = omega (arith, bound.from);
+          to = omega (arith, before);
+        })
 
 -- ---- questions raised to the first key
 

@@ -1,7 +1,7 @@
 // Searches of sixteen questions in step.
-ghost use Rattle.std.specs.Prelude.{◌≡◌, ◌+◌, ◌-◌, ◌<◌, ◌≤◌, ◌^◌, ℕ, length, slice_index};
+ghost use Rattle.std.specs.Prelude.{◌≡◌, ◌+◌, ◌-◌, ◌*◌, ◌<◌, ◌≤◌, ◌^◌, ℕ, length, slice_index};
 ghost use Rattle.std.specs.List.Sorted.{IsNonDecreasing};
-ghost use Rattle.levels.specs.InStep.{AreAmong, HaveBounds};
+ghost use Rattle.levels.specs.InStep.{AreAmong, HasBound, HaveBounds};
 
 /// How many questions are searched in step. Their reads of memory don't wait for one another.
 pub const LANES: usize = 16;
@@ -58,15 +58,48 @@ pub fn bounds_in_step(list: &[u64], qs: &[u64; 16], bases: &mut [u32; 16], count
     requires bounds { HaveBounds list.now qs.now bases.old count }
     ensures { HaveBounds list.now qs.now bases.new 1 }
 {
-    let mut count = count;
-    while count > 1 {
-        let half = count / 2;
-        halve_bounds(list, qs, bases, half as u32, count);
-        count -= half;
+    if count < 2 {
+        return;
+    }
+    let mut shift = (count - 1).ilog2();
+    halve_bounds(list, qs, bases, (count - (1 << shift)) as u32, count);
+    while shift > 0 {
+        shift -= 1;
+        halve_bounds_evenly(list, qs, bases, shift);
     }
 }
 
-/// One step of it: `half` of the places are left out.
+/// One step of it, which leaves `2^shift` places of twice as many.
+#[inline(always)]
+fn halve_bounds_evenly(list: &[u64], qs: &[u64; 16], bases: &mut [u32; 16], shift: u32)
+    requires order { IsNonDecreasing list.now }
+    requires few { length list.now < 2 ^ 32 }
+    requires short { shift < 32 }
+    requires bounds { HaveBounds list.now qs.now bases.old (2 * 2 ^ shift) }
+    ensures { HaveBounds list.now qs.now bases.new (2 ^ shift) }
+{
+    for lane in 0..LANES {
+        bases[lane] = halved_evenly(list, qs[lane], bases[lane], shift);
+    }
+}
+
+/// The first of the `2^shift` places that are left of twice as many from `base` on.
+///
+/// The answer of the comparison, shifted, is added to the place: of a selection the compiler makes
+/// a branch, half of such branches are foretold wrongly, and then the lanes wait for one another.
+#[inline(always)]
+fn halved_evenly(list: &[u64], q: u64, base: u32, shift: u32) -> u32
+    requires order { IsNonDecreasing list.now }
+    requires few { length list.now < 2 ^ 32 }
+    requires short { shift < 32 }
+    requires bound { HasBound list.now q base (2 * 2 ^ shift) }
+    ensures { HasBound list.now q result (2 ^ shift) }
+{
+    let is_below = list[base as usize + (1 << shift) - 1] < q;
+    base + (u32::from(is_below) << shift)
+}
+
+/// The first step of it: `half` of the places are left out.
 #[inline(always)]
 fn halve_bounds(list: &[u64], qs: &[u64; 16], bases: &mut [u32; 16], half: u32, count: u64)
     requires order { IsNonDecreasing list.now }
