@@ -49,6 +49,7 @@ def rows():
         (["explain", "data/four.keys", "--eps", "0", "--rec", "0"], None),
         (["query", "data/primes.keys", "SCRIPT", "--eps", "4", "--workers", "2", "--windows"], "find 7\nfind 99991\n"),
         (["query", "data/primes.keys", "SCRIPT", "--eps", "4", "--buckets", "8"], "find 7\nfind 99991\n"),
+        (["query", "data/primes.keys", "SCRIPT"], "find 7\nfind 99991\n"),
         (["box", "data/gaussian.points", "data/gaussian.boxes"], None),
         (["replay", "SCRIPT", "--levels", "4", "--workers", "2"], puts + "sweep 100 200\nget 7\nnext 100\ncount 0 999\n"),
         (["replay", "SCRIPT", "--levels", "4", "--workers", "2", "--batch", "99", "--readers", "2"], puts + "get 7\nnext 100\n"),
