@@ -1,7 +1,6 @@
 // The search in a short list of keys.
 ghost use Rattle.std.specs.Prelude.{◌≡◌, ◌+◌, ◌-◌, ◌*◌, ◌^◌, ◌<◌, ◌≤◌, length};
 ghost use Rattle.std.specs.List.Sorted.{IsNonDecreasing};
-ghost use Rattle.levels.specs.InStep.{HasBound};
 ghost use Rattle.window_search.specs.Searches.{lb};
 
 /// How many of the keys, which never fall, are below `q`.
@@ -40,7 +39,7 @@ pub fn highest_bit(number: usize) -> u32
 /// The first of `2^shift` places among which the lower bound is, where it is among twice as many
 /// from `place` on.
 #[inline(always)]
-fn halved(keys: &[u64], place: usize, shift: u32, q: u64) -> usize
+pub fn halved(keys: &[u64], place: usize, shift: u32, q: u64) -> usize
     requires never_falls { IsNonDecreasing keys.now }
     requires few { shift < 64 }
     requires from { place ≤ lb keys.now q }
@@ -52,18 +51,4 @@ fn halved(keys: &[u64], place: usize, shift: u32, q: u64) -> usize
 {
     let is_below = keys[place + (1 << shift) - 1] < q;
     place + (usize::from(is_below) << shift)
-}
-
-/// The first of the places that are left for the lower bound, where it is one of `count` from
-/// `place` on and `half` of them are left out.
-#[inline(always)]
-pub fn narrowed(keys: &[u64], place: usize, q: u64, half: usize, count: usize) -> usize
-    requires never_falls { IsNonDecreasing keys.now }
-    requires some { 1 ≤ half }
-    requires most { half + half ≤ count }
-    requires bound { HasBound keys.now q place count }
-    ensures { HasBound keys.now q result (count - half) }
-{
-    let middle = place + half;
-    if keys[middle - 1] < q { middle } else { place }
 }

@@ -1,5 +1,5 @@
 // A level as it is kept.
-ghost use Rattle.std.specs.Prelude.{◌≡◌, ◌+◌, ◌-◌, ◌^◌, ◌<◌, ◌≤◌, ℕ};
+ghost use Rattle.std.specs.Prelude.{◌≡◌, ◌+◌, ◌*◌, ◌-◌, ◌^◌, ◌<◌, ◌≤◌, ℕ};
 ghost use Rattle.std.specs.Prelude.{None, IfSome, length, vec_len, IfOk};
 ghost use Rattle.std.specs.List.Sorted.{IsNonDecreasing};
 ghost use Rattle.std.specs.Option.{option_copied};
@@ -12,7 +12,7 @@ ghost use Rattle.log_levels.specs.Shapes.{level_keys};
 
 use crate::builder::Builder;
 use crate::filter::Filter;
-use crate::halving::{lower_of, narrowed};
+use crate::halving::{halved, lower_of};
 use budget::NoMemory;
 use levels::{Index, Keys};
 use std::alloc::Global;
@@ -31,8 +31,12 @@ const SHORT: usize = 4096;
 /// The levels before this one have short lists alone: no more than 64 keys, by two to the level.
 pub const FIRST_LONG: usize = 7;
 
-/// How many places of a long level its index leaves for a key: `2ε + 3`.
-pub const WINDOW: usize = 131;
+/// Two to this number of places of a long level are halved for a key: the `2ε + 3` that its index
+/// leaves, and as many more that each step leaves a power of two.
+pub const WINDOW_SHIFT: u32 = 8;
+
+/// These places.
+const WINDOW: usize = 256;
 
 /// The entries of a level, by rising key, with the index of their keys and a filter of them. Seen
 /// as the entries. It is never changed.
@@ -114,35 +118,34 @@ impl Level {
         self.index.position(q) as usize
     }
 
-    /// Where the places begin among which that of `q` is in level `i`: `WINDOW` of them in a long
-    /// level, one in another.
+    /// Where the places begin among which that of `q` is in level `i`: 256 of them in a long level,
+    /// one in another.
     #[inline]
     pub fn start_in(&self, i: usize, q: u64) -> usize
-        ensures { IsPlaceNear i self.now q result WINDOW }
+        ensures { IsPlaceNear i self.now q result (2 ^ WINDOW_SHIFT) }
     {
         let keys = self.keys();
         if i < FIRST_LONG || keys.len() <= SHORT {
             return lower_of(keys, q);
         }
-        self.index.start_near(q) as usize
+        (self.index.start_near(q) as usize).min(keys.len() + 1 - WINDOW)
     }
 
-    /// The first of the places that are left for `q` in level `i`, where in a long one it is among
-    /// `count` from `place` on and `half` of them are left out.
+    /// The first of the places that are left for `q` in level `i`: in a long one `2^shift` of twice as
+    /// many from `place` on.
     #[inline(always)]
-    pub fn narrowed(&self, i: usize, place: usize, q: u64, half: usize, count: usize) -> usize
-        requires some { 1 ≤ half }
-        requires most { half + half ≤ count }
+    pub fn narrowed(&self, i: usize, place: usize, q: u64, shift: u32) -> usize
+        requires few { shift < 64 }
         requires long { FIRST_LONG ≤ i }
-        requires near { IsPlaceNear i self.now q place count }
-        ensures { IsPlaceNear i self.now q result (count - half) }
+        requires near { IsPlaceNear i self.now q place (2 * 2 ^ shift) }
+        ensures { IsPlaceNear i self.now q result (2 ^ shift) }
     {
         let keys = self.keys();
         if keys.len() <= SHORT {
             return place;
         }
         let _ = i;
-        narrowed(keys, place, q, half, count)
+        halved(keys, place, shift, q)
     }
 
     /// The entry with a key, of which this is the hash, if there is one.

@@ -1,5 +1,5 @@
 // A walk over the keys of a map in rising order.
-ghost use Rattle.std.specs.Prelude.{◌≡◌, ◌+◌, ◌-◌, ◌<◌, ◌≤◌, ◌^◌, ◌⊎◌};
+ghost use Rattle.std.specs.Prelude.{◌≡◌, ◌+◌, ◌*◌, ◌<◌, ◌≤◌, ◌^◌, ◌⊎◌};
 ghost use Rattle.std.specs.Prelude.{◌++◌, ℕ, List, length, All};
 ghost use Rattle.std.specs.Prelude.{Option, Some, None, IfSome, MatchOption, slice_index};
 ghost use Rattle.std.specs.Option.{option_copied};
@@ -10,7 +10,7 @@ ghost use Rattle.tombstones.specs.Entries.{entry_at};
 ghost use Rattle.log_levels.specs.Kept.{ArePlaces, ArePlacesNear, IsAbsent, IsBelow};
 ghost use Rattle.log_levels.specs.Kept.{IsNextLive, entry_in, value_of};
 
-use crate::level::{FIRST_LONG, WINDOW};
+use crate::level::{FIRST_LONG, WINDOW_SHIFT};
 use crate::log_map::LogMap;
 use crate::questions::last_of;
 use tombstones::Entry;
@@ -27,18 +27,17 @@ impl LogMap {
         ensures { ArePlaces self.now result key }
     {
         let mut places = self.places_near(key);
-        let mut count = WINDOW;
-        while count > 1 {
-            let half = count / 2;
-            self.narrow(&mut places, key, half, count);
-            count -= half;
+        let mut shift = WINDOW_SHIFT;
+        while shift > 0 {
+            shift -= 1;
+            self.narrow(&mut places, key, shift);
         }
         places
     }
 
-    /// The same, but that in each long level the place is one of `WINDOW` from the given one on.
+    /// The same, but that in each long level the place is one of 256 from the given one on.
     fn places_near(&self, key: u64) -> Places
-        ensures { ArePlacesNear self.now result key WINDOW }
+        ensures { ArePlacesNear self.now result key (2 ^ WINDOW_SHIFT) }
     {
         let mut places = [0; 26];
         for i in 0..self.depth() {
@@ -49,17 +48,16 @@ impl LogMap {
         places
     }
 
-    /// A step of the search: of the places that are left in each long level `half` are left out.
+    /// A step of the search, which leaves `2^shift` places in each long level of twice as many.
     #[inline(always)]
-    fn narrow(&self, places: &mut Places, key: u64, half: usize, count: usize)
-        requires some { 1 ≤ half }
-        requires most { half + half ≤ count }
-        requires near { ArePlacesNear self.now places.old key count }
-        ensures { ArePlacesNear self.now places.new key (count - half) }
+    fn narrow(&self, places: &mut Places, key: u64, shift: u32)
+        requires few { shift < 64 }
+        requires near { ArePlacesNear self.now places.old key (2 * 2 ^ shift) }
+        ensures { ArePlacesNear self.now places.new key (2 ^ shift) }
     {
         for i in FIRST_LONG..self.depth() {
             if let Some(level) = self.level(i) {
-                places[i] = level.narrowed(i, places[i], key, half, count);
+                places[i] = level.narrowed(i, places[i], key, shift);
             }
         }
     }

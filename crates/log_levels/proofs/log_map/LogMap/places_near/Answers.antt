@@ -12,14 +12,14 @@ loop-i-preserved c =
     elim c.match-level.branch [
       | in-Some w ↦ rw w.places-is (record {
         room = length-set c.loop-i.places i w.start_in.result ∙ inv.room;
-        done = places-done c.args.self.now c.loop-i.places c.args.key 131 i w.start_in.result w.in-Some.level.now inside (sym w.in-Some.ensures) w.start_in.ensures inv.done;
+        done = places-done c.args.self.now c.loop-i.places c.args.key 256 i w.start_in.result w.in-Some.level.now inside (sym w.in-Some.ensures) w.start_in.ensures inv.done;
       })
       | in_default w ↦ rw w.places-is (record {
         room = inv.room;
-        done = places-none c.args.self.now c.loop-i.places c.args.key 131 i (sym w.in_default.ensures) inv.done;
+        done = places-none c.args.self.now c.loop-i.places c.args.key 256 i (sym w.in_default.ensures) inv.done;
       })
     ]
 
 pub returns : goal.returns
 returns c =
-    places-all c.args.self.now c.loop-i.places c.args.key 131 c.depth-i-end.result c.loop-i.i c.loop-i.invariant.room (omega arith) c.depth-i-end.ensures.none c.loop-i.invariant.done
+    places-all c.args.self.now c.loop-i.places c.args.key 256 c.depth-i-end.result c.loop-i.i c.loop-i.invariant.room (omega arith) c.depth-i-end.ensures.none c.loop-i.invariant.done

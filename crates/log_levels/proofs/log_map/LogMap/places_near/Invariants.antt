@@ -7,5 +7,5 @@ use Rattle.log_levels.proofs.log_map.LogMap.places_near.Given as goal
 abbrev pub invariant-loop-i : goal.invariant-loop-i
 invariant-loop-i l = record {
   room : length l.places ≡ 26;
-  done : (i : ℕ) (level : List Entry) → i < l.i → i < length l.self.levels → level_of l.self i ≡ Some level → IsPlaceNear i level l.key (slice_index l.places i) 131;
+  done : (i : ℕ) (level : List Entry) → i < l.i → i < length l.self.levels → level_of l.self i ≡ Some level → IsPlaceNear i level l.key (slice_index l.places i) 256;
 }
