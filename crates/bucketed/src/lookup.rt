@@ -49,7 +49,8 @@ impl<'a> Buckets<'a> {
     /// How many runs of level 0 begin at or before `q`.
     #[inline(always)]
     fn begun<L: Ledger>(&self, q: u64, steps: &mut Steps<L>) -> u32
-        ensures runs { IsBetween (xs_at self.now.index.keys self.now.index.levels 1) q result result }
+        ensures runs { IsBetween (xs_at self.now.index.keys self.now.index.levels 1) q result
+            result }
         ensures cost { TakesAtMost (8 * (runs_beside self.now.index self.now.bits q + 1)) steps.old
             steps.new }
     {

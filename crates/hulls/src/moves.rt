@@ -1,13 +1,13 @@
-// The pair's lower place moves: the points that waited come on the hull, and the tangent to the next
-// point is found on it.
+// The pair's lower place moves: the points that waited come on the hull, and the tangent to the
+// next point is found on it.
 ghost use Rattle.std.specs.Prelude.{◌≡◌, ℕ, ◌+◌, ◌*◌, ◌-◌, ◌^◌, ◌<◌, ◌≤◌, length, []};
 ghost use Rattle.std.specs.Prelude.{vec_len, vec_capacity};
 ghost use Rattle.std.specs.Bool.{OnTrue, OnFalse};
 ghost use Rattle.exact_cross.specs.Points.{Points};
 ghost use Rattle.exact_cross.specs.Slopes.{IsAtMost, steep_slope};
 ghost use Rattle.hulls.specs.Vertices.{vertex_at, lifted_slope, AreLeftOf};
-ghost use Rattle.hulls.specs.Hull.{IsHullOf, IsHullWith, IsHullUpTo, IsFittable, IsShadowed, GoesOn};
-ghost use Rattle.hulls.specs.Hull.{IsNextVertex, RiseRight, lower_of, room_in, spare_of};
+ghost use Rattle.hulls.specs.Hull.{IsHullOf, IsHullWith, IsHullUpTo, IsFittable, IsShadowed};
+ghost use Rattle.hulls.specs.Hull.{GoesOn, IsNextVertex, RiseRight, lower_of, room_in, spare_of};
 
 use crate::hull::Hull;
 use crate::search::{kept_before, tangent_to};
@@ -34,13 +34,14 @@ impl Hull {
         steps: &mut Steps<L>,
     )
         requires next { (q : Points) × (eps : ℕ) × (s : ℕ) × (e : ℕ) × IsHullOf q eps s e self.old ×
-            IsNextVertex q e (record { x = x; height = height; place = place }) × (lift ≡ 2 * eps) × (eps ≤ MAX_EPSILON) ×
-            (e < s + room_in self.old) × IsFittable q eps s e ×
+            IsNextVertex q e (record { x = x; height = height; place = place }) ×
+            (lift ≡ 2 * eps) × (eps ≤ MAX_EPSILON) × (e < s + room_in self.old) × IsFittable q eps s e ×
             (IsAtMost self.old.slope.slope (steep_slope q eps (lower_of self.old) e) → ⊥) ×
             OnFalse stands_out (IsShadowed q eps s e) }
         ensures hull { (q : Points) (eps s e : ℕ) → IsHullOf q eps s e self.old →
-            IsNextVertex q e (record { x = x; height = height; place = place }) → lift ≡ 2 * eps → eps ≤ MAX_EPSILON → IsFittable q eps s e
-            → (IsAtMost self.old.slope.slope (steep_slope q eps (lower_of self.old) e) → ⊥) →
+            IsNextVertex q e (record { x = x; height = height; place = place }) →
+            lift ≡ 2 * eps → eps ≤ MAX_EPSILON → IsFittable q eps s e →
+            (IsAtMost self.old.slope.slope (steep_slope q eps (lower_of self.old) e) → ⊥) →
             OnFalse stands_out (IsShadowed q eps s e) → IsHullOf q eps s (e + 1) self.new }
         ensures cost { steps.new + spare_of self.new ≤ steps.old + spare_of self.old + 3 }
         ensures capacity { room_in self.old ≤ room_in self.new }

@@ -30,8 +30,8 @@ impl CountedSlope {
         }
     }
 
-    /// The slope of the edge of a hull of one vertex, which has no edge: flatter than any two points
-    /// are.
+    /// The slope of the edge of a hull of one vertex, which has no edge: flatter than any two
+    /// points are.
     pub fn flattest() -> CountedSlope
         ensures { result.slope ≡ flattest }
     {

@@ -10,4 +10,4 @@ pub use Rattle.levels.proofs.WindowLists.{AreWindows-unique}
 pub use Rattle.levels.proofs.WindowsExist.{AreWindows-some}
 pub use Rattle.levels.proofs.RunLemmas.{first_x-order, first_run, lb-before_runs}
 pub use Rattle.levels.proofs.CostLemmas.{TakesAtMost-more, TakesAtMost-raise}
-pub use Rattle.levels.proofs.LaneLemmas.{block_positions, blocks_more, lane_done, HasBound-upper, HasBound-lower}
+pub use Rattle.levels.proofs.LaneLemmas.{block_positions, blocks_more, lane_done}

@@ -131,8 +131,8 @@ impl Level {
         (self.index.start_near(q) as usize).min(keys.len() + 1 - WINDOW)
     }
 
-    /// The first of the places that are left for `q` in level `i`: in a long one `2^shift` of twice as
-    /// many from `place` on.
+    /// The first of the places that are left for `q` in level `i`: in a long one `2^shift` of twice
+    /// as many from `place` on.
     #[inline(always)]
     pub fn narrowed(&self, i: usize, place: usize, q: u64, shift: u32) -> usize
         requires few { shift < 64 }
