@@ -1,7 +1,6 @@
 -- Lists of questions, cut into pieces.
 use Rattle.std.specs.Prelude.{ℕ, ◌*◌, List, drop, take}
-use Rattle.commands.specs.declared.positions.TheConstants.{PIECE}
 
--- the questions of piece i; behind the last there are none
-abbrev pub piece_of : List ℕ → ℕ → List ℕ
-piece_of questions i = take PIECE (drop (i * PIECE) questions)
+-- the questions of piece i, where a piece has `size` of them; behind the last there are none
+abbrev pub piece_of : List ℕ → ℕ → ℕ → List ℕ
+piece_of questions size i = take size (drop (i * size) questions)

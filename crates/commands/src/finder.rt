@@ -1,15 +1,19 @@
 // What finds positions: the levels of an index, a table in place of those above level 0, or the
 // sorted keys alone.
-ghost use Rattle.std.specs.Prelude.{◌≡◌, ◌+◌, ◌++◌, ◌≤◌, length, map};
+ghost use Rattle.std.specs.Prelude.{◌≡◌, ◌+◌, ◌++◌, ◌<◌, ◌≤◌, ◌^◌, length, map};
 ghost use Rattle.std.specs.Prelude.{vec_capacity, vec_len, IfOk};
+ghost use Rattle.std.specs.List.Sorted.{IsNonDecreasing};
 ghost use Rattle.window_search.specs.Searches.{lb};
 ghost use Rattle.commands.specs.Finders.{keys_of};
 
 use crate::task::SortedKeys;
 use bucketed::Buckets;
 use budget::NoMemory;
-use levels::{Index, positions_among};
+use levels::{Index, positions_among, positions_grouped};
 use std::alloc::Global;
+
+/// So many questions are grouped by where they fall among the sorted keys: fewer gain little by it.
+const MANY: usize = 65_536;
 
 /// Finds how many keys are below a question.
 #[derive(Drop)]
@@ -36,8 +40,15 @@ impl<'a> Finder<'a> {
         }
     }
 
+    /// Whether it gains by many questions at once: it groups them by where they fall.
+    pub fn is_grouping(&self) -> bool {
+        matches!(self, Finder::Sorted(_))
+    }
+
     /// The positions of questions, behind what the list has, which has room for them.
-    pub fn positions(&self, questions: &[u64], into: &mut Vec<u32>)
+    ///
+    /// Memory that it asks for is given up again, and where there is none it goes without.
+    pub fn positions(&self, alloc: Global, questions: &[u64], into: &mut Vec<u32>)
         requires room { vec_len into.old + length questions.now ≤ vec_capacity into.old }
         ensures positions { into.new.items
             ≡ into.old.items ++ map (lb (keys_of self.now)) questions.now }
@@ -46,7 +57,22 @@ impl<'a> Finder<'a> {
         match self {
             Finder::Levels(index) => index.positions(questions, into),
             Finder::Table(buckets) => buckets.positions(questions, into),
-            Finder::Sorted(sorted) => positions_among(&sorted.keys, questions, into),
+            Finder::Sorted(sorted) => positions_of_keys(alloc, &sorted.keys, questions, into),
         }
+    }
+}
+
+// The same by halving the keys, many questions grouped by where they fall.
+fn positions_of_keys(alloc: Global, keys: &[u64], questions: &[u64], into: &mut Vec<u32>)
+    requires never_falls { IsNonDecreasing keys.now }
+    requires few { length keys.now < 2 ^ 32 }
+    requires room { vec_len into.old + length questions.now ≤ vec_capacity into.old }
+    ensures positions { into.new.items ≡ into.old.items ++ map (lb keys.now) questions.now }
+    ensures capacity { vec_capacity into.old ≤ vec_capacity into.new }
+{
+    if questions.len() < MANY || questions.len() > u32::MAX as usize {
+        positions_among(keys, questions, into);
+    } else {
+        positions_grouped(alloc, keys, questions, into);
     }
 }

@@ -12,6 +12,7 @@
 mod among;
 mod build;
 mod entry;
+mod grouped;
 mod in_step;
 mod index;
 mod level;
@@ -23,6 +24,7 @@ mod runs;
 mod windows;
 
 pub use among::positions_among;
+pub use grouped::positions_grouped;
 pub use index::{Index, one_index};
 pub use key_points::Keys;
 pub use windows::{one_list_of_windows, some_windows};

@@ -3,7 +3,7 @@ ghost use Rattle.std.specs.Prelude.{◌≡◌, ◌+◌, ◌<◌, ◌≤◌};
 ghost use Rattle.std.specs.Prelude.{◌^◌, length, vec_len, IsTrue};
 ghost use Rattle.std.specs.List.Sorted.{IsNonDecreasing};
 
-use crate::{Index, Keys, positions_among};
+use crate::{Index, Keys, positions_among, positions_grouped};
 use budget::{NoMemory, Steps};
 use edge::OpenGate;
 use exact_cross::MAX_EPSILON;
@@ -235,10 +235,40 @@ fn questions_in_step(rt: HostRuntime) -> Result<(), Fail> {
         let mut among = Vec::with_capacity(rt.alloc(), qs.len())?;
         positions_among(keys, &qs, &mut among);
         assert_eq!(rt; among.as_slice(), found.as_slice(), "without an index");
+        let mut grouped = Vec::with_capacity(rt.alloc(), qs.len())?;
+        positions_grouped(rt.alloc(), keys, &qs, &mut grouped);
+        assert_eq!(rt;
+            grouped.as_slice(),
+            found.as_slice(),
+            "without an index, grouped"
+        );
         for (q, position) in qs.iter().zip(&found) {
             let below = keys.iter().filter(|key| **key < *q).count();
             assert_eq!(rt; *position as usize, below, "question {q} of {keys:?}");
         }
+    }
+    Ok(())
+}
+
+// Scattered questions, several in each part of the keys: of the multiples of 10 from 0 on, as many
+// are below a number as it has tens, a begun one too.
+#[test]
+fn groups_questions(rt: HostRuntime) -> Result<(), NoMemory> {
+    let mut keys = Vec::with_capacity(rt.alloc(), 900)?;
+    for i in 0..900 {
+        keys.push(i * 10)?;
+    }
+    let mut qs = Vec::with_capacity(rt.alloc(), 700)?;
+    for i in 0..700 {
+        qs.push(i * 7919 % 8991)?;
+    }
+    let mut found = Vec::with_capacity(rt.alloc(), qs.len())?;
+    assert!(rt; is_ordered(&keys));
+    assert!(rt; keys.len() == 900 && qs.len() == 700);
+    positions_grouped(rt.alloc(), &keys, &qs, &mut found);
+    assert_eq!(rt; found.len(), qs.len());
+    for (q, position) in qs.iter().zip(&found) {
+        assert_eq!(rt; u64::from(*position), (*q + 9) / 10, "question {q}");
     }
     Ok(())
 }
