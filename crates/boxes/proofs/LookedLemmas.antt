@@ -3,11 +3,11 @@
 -- Main results: a place is looked at after a code inside (`looked_behind`) and at the lower bound of a code inside (`looked_at_bound`);
 -- none is behind a code above the high corner's (`none_past`), behind the last code inside (`none_left`) or before the next one
 -- (`none_between`). A code inside stands at a place that is looked at (`looked_here`), so what lies between are codes outside.
-use Rattle.std.proofs.Common.{◌≡◌, ℕ, zero, suc, ◌+◌, ◌-◌, ◌<◌, ◌≤◌, ⊎_elim, List, ◌∷◌, ◌++◌, length, take, drop, slice_index, sym, ap, ◌∙◌, subst, arith}
+use Rattle.std.proofs.Common.{◌≡◌, ℕ, zero, suc, ◌+◌, ◌-◌, ◌<◌, ◌≤◌, ⊎_elim, inl, inr, List, ◌∷◌, ◌++◌, length, take, drop, slice_index, sym, ap, ◌∙◌, subst, arith}
 use Rattle.std.specs.Prelude.{All}
 use Rattle.std.specs.List.Sorted.{IsNonDecreasing}
 use Rattle.std.proofs.lemmas.Bool.{cases_lt, cases_eq, cond-true, cond-false}
-use Rattle.std.proofs.lemmas.List.{drop_more}
+use Rattle.std.proofs.lemmas.List.{drop_more, get_or-take, get_or-drop, length-take-le, length-drop}
 use Rattle.zorder.specs.declared.regions.Region.{Region}
 use Rattle.zorder.specs.Codes.{IsCode, code}
 use Rattle.zorder.specs.Regions.{IsEmpty, IsRegion, IsInside}
@@ -242,3 +242,35 @@ pub bound_at_end : (shown codes : List ℕ) (z : ℕ) → shown ≡ codes → Is
 bound_at_end shown codes z same order below =
     sym (lb-is shown z (length shown) (omega arith) (λ k before. omega (arith, order k (length shown - 1) 0 (omega arith) (omega arith), below))
     (λ k from inside. absurd (omega arith))) ∙ ap (λ (xs : List ℕ). lb xs z) same
+
+-- and where the codes behind one below it, up to one that isn't, are looked through from the front
+pub bound_among : (shown codes : List ℕ) (z at end front : ℕ) → shown ≡ codes → IsNonDecreasing shown → at < end → end ≤ length shown → slice_index codes at < z → z ≤ slice_index shown (end - 1) →
+    ((k : ℕ) → k < front → slice_index (take (end - (at + 1)) (drop (at + 1) shown)) k < z) →
+    (front < length (take (end - (at + 1)) (drop (at + 1) shown)) → z ≤ slice_index (take (end - (at + 1)) (drop (at + 1) shown)) front) →
+    front ≤ length (take (end - (at + 1)) (drop (at + 1) shown)) → at + 1 + front ≡ lb codes z
+bound_among shown codes z at end front same order less fits here there below above within =
+    bound_between shown codes z (at + 1 + front) same order (omega (arith, inside, fits)) before (omega (arith, above (omega (arith, inside, count)), read front inside))
+  where
+    near : List ℕ
+    near = take (end - (at + 1)) (drop (at + 1) shown)
+    count : length near ≡ end - (at + 1)
+    count = length-take-le (end - (at + 1)) (drop (at + 1) shown) (omega (arith, length-drop (at + 1) shown, fits))
+    read : (k : ℕ) → k < end - (at + 1) → slice_index near k ≡ slice_index shown (at + 1 + k)
+    read k few = get_or-take (end - (at + 1)) (drop (at + 1) shown) k 0 few ∙ get_or-drop (at + 1) shown k 0
+    before : slice_index shown (at + 1 + front - 1) < z
+    before = elim (cases_lt 0 front) [
+      | inl some ↦
+          let last = below (front - 1) (omega (arith, some)) in
+          let place : at + 1 + (front - 1) ≡ at + 1 + front - 1 = omega (arith, some) in
+          subst (λ (k : ℕ). slice_index shown k < z) place (omega (arith, last, read (front - 1) (omega (arith, some, within, count))))
+      | inr none ↦
+          let place : at ≡ at + 1 + front - 1 = omega (arith, none) in
+          subst (λ (k : ℕ). slice_index shown k < z) place (omega (arith, here, ap (λ (xs : List ℕ). slice_index xs at) same))
+    ]
+    inside : front < end - (at + 1)
+    inside = elim (cases_lt front (end - (at + 1))) [
+      | inl few ↦ few
+      | inr all ↦
+          let place : at + 1 + front - 1 ≡ end - 1 = omega (arith, all, within, count, less) in
+          absurd (omega (arith, there, subst (λ (k : ℕ). slice_index shown k < z) place before))
+    ]

@@ -135,16 +135,29 @@ impl Boxes {
     {
         let codes = self.codes();
         let end = codes.len().min(at + 1 + NEAR);
-        for place in at + 1..end {
-            if code <= codes[place] {
-                return place;
-            }
+        if code <= codes[end - 1] {
+            return at + 1 + front_below(&codes[at + 1..end], code);
         }
         if end == codes.len() {
             return end;
         }
         self.lower_bound(code)
     }
+}
+
+/// How many numbers from the front on are below another one.
+#[inline(always)]
+fn front_below(numbers: &[u64], least: u64) -> usize
+    ensures within { result ≤ length numbers.now }
+    ensures below { (k : ℕ) → k < result → slice_index numbers.now k < least }
+    ensures from { result < length numbers.now → least ≤ slice_index numbers.now result }
+{
+    for i in 0..numbers.len() {
+        if least <= numbers[i] {
+            return i;
+        }
+    }
+    numbers.len()
 }
 
 /// The end of the codes inside a region that stand side by side from a place on.
