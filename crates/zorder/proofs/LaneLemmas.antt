@@ -1,20 +1,20 @@
--- Vectors of sixteen bytes, lane by lane.
+-- Vectors, lane by lane.
 use Rattle.std.proofs.Common.{◌≡◌, ℕ, ◌+◌, ◌*◌, ◌/◌, ◌%◌, ◌^◌, ◌<◌, true, List, length, get_or, replicate, refl, sym, ap, ◌∙◌, arith, eqb, eqb-true}
 use Rattle.std.proofs.lemmas.List.{get_or-map, length-map}
-use Rattle.std.proofs.lemmas.Simd.{get_or-zip2, get_or-replicate, length-zip2, get_or_narrower}
+use Rattle.std.proofs.lemmas.Simd.{get_or-zip2, get_or-replicate, length-replicate, length-zip2, get_or_narrower}
 use lib.Lanes.{zip2, Each1, pick_l, digits_l, number_l}
 use Rattle.zorder.specs.Columns.{HasLanes, byte_of}
 use Rattle.zorder.proofs.BitLemmas.{all_below, all_below-true}
 
-module _ (f : ℕ → ℕ → ℕ) (xs ys : List ℕ) (p : length xs ≡ 16) (q : length ys ≡ 16) where
-  pub long : length (zip2 f xs ys) ≡ 16
+module _ {n : ℕ} (f : ℕ → ℕ → ℕ) (xs ys : List ℕ) (p : length xs ≡ n) (q : length ys ≡ n) where
+  pub long : length (zip2 f xs ys) ≡ n
   long = length-zip2 f xs ys (p ∙ sym q) ∙ p
 
-  pub lane : (l : ℕ) → l < 16 → get_or (zip2 f xs ys) l 0 ≡ f (get_or xs l 0) (get_or ys l 0)
+  pub lane : (l : ℕ) → l < n → get_or (zip2 f xs ys) l 0 ≡ f (get_or xs l 0) (get_or ys l 0)
   lane l h = get_or-zip2 f xs ys l 0 0 0 (omega arith) (omega arith)
 
-pub lane_with : (f : ℕ → ℕ → ℕ) (xs : List ℕ) (y : ℕ) → length xs ≡ 16 → (l : ℕ) → l < 16 → get_or (zip2 f xs (replicate 16 y)) l 0 ≡ f (get_or xs l 0) y
-lane_with f xs y p l h = lane f xs _ p refl l h ∙ ap (f (get_or xs l 0)) (get_or-replicate 16 l y 0 h)
+pub lane_with : {n : ℕ} (f : ℕ → ℕ → ℕ) (xs : List ℕ) (y : ℕ) → length xs ≡ n → (l : ℕ) → l < n → get_or (zip2 f xs (replicate n y)) l 0 ≡ f (get_or xs l 0) y
+lane_with {n} f xs y p l h = lane f xs _ p (length-replicate n y) l h ∙ ap (f (get_or xs l 0)) (get_or-replicate n l y 0 h)
 
 -- bytes of four codes, taken by a table of their places
 pub picked_bytes : (codes ks : List ℕ) (place : ℕ → ℕ) → Each1 (λ z. z < 2 ^ 64) codes → length ks ≡ 16

@@ -11,3 +11,5 @@ pub mod PlaceMasks
 pub mod RegionLemmas
 mod SideLemmas
 pub mod SpreadLemmas
+mod ThirdLemmas
+mod TripleLemmas

@@ -5,3 +5,4 @@ pub mod Dilated
 pub mod Points
 pub mod Regions
 pub mod Spread
+pub mod Triples

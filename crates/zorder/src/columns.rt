@@ -54,7 +54,7 @@ fn change_sides(a: u8x16, b: u8x16, shift: u8, mask: u8) -> (u8x16, u8x16)
 
 /// The numbers of four bytes each, the lowest byte first.
 #[inline(always)]
-fn numbers_of(bytes: u8x16) -> u32x4
+pub fn numbers_of(bytes: u8x16) -> u32x4
     ensures bits { (i m q : ℕ) → i < 4 → m < 4 → q < 8
         → bit_at (slice_index result i) (m * 8 + q) ≡ bit_at (slice_index bytes (4 * i + m)) q }
     ensures range { (i : ℕ) → i < 4 → slice_index result i < 2 ^ 32 }

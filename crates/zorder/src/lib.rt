@@ -20,12 +20,14 @@ mod corner_codes;
 mod dilated;
 mod regions;
 mod spread;
+mod triples;
 
 pub use codes::{decode, encode, fits_range};
 pub use columns::decode_pairs;
 pub use corner_codes::{Corners, is_between};
 pub use dilated::dilated_coordinate;
 pub use regions::{Region, inside, is_empty};
+pub use triples::decode_triples;
 
 #[cfg(test)]
 mod tests;

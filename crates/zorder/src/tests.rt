@@ -1,6 +1,8 @@
 //! Codes that a plain program worked out bit by bit, and each call once.
 
-use crate::{Corners, Region, decode, decode_pairs, encode, fits_range, inside, is_empty};
+use crate::{
+    Corners, Region, decode, decode_pairs, decode_triples, encode, fits_range, inside, is_empty,
+};
 use std::process::Abort;
 
 /// Points and their codes: the least and greatest of each coordinate, and mixed ones.
@@ -92,6 +94,42 @@ fn pairs_at_once(rt: HostRuntime) {
     for i in 0..8 {
         assert_eq!(rt; firsts[i], xs[i]);
         assert_eq!(rt; seconds[i], ys[i]);
+    }
+}
+
+/// The codes of three coordinates above, once more, and the greatest number, which is no code: four
+/// at once twice over, and two by themselves. What stands behind them stays.
+#[test]
+fn triples_at_once(rt: HostRuntime) {
+    let codes: [u64; 10] = [
+        0x4105_59e5_9d5c_65c5,
+        7,
+        0x1249_2492_4924_9249,
+        0x2492_4924_9249_2492,
+        0x4924_9249_2492_4924,
+        0x7fff_ffff_ffff_ffff,
+        0x1000_0000_0000_0004,
+        0xffff_ffff_ffff_ffff,
+        0x4105_59e5_9d5c_65c5,
+        0x1000_0000_0000_0004,
+    ];
+    let mut firsts = [7u32; 11];
+    let mut seconds = [8u32; 11];
+    let mut thirds = [9u32; 11];
+    decode_triples(&codes, &mut firsts, &mut seconds, &mut thirds);
+    let xs: [u32; 11] = [
+        0x1_2345, 1, 0x1f_ffff, 0, 0, 0x1f_ffff, 0x10_0000, 0x3f_ffff, 0x1_2345, 0x10_0000, 7,
+    ];
+    let ys: [u32; 11] = [
+        0xfedc, 1, 0, 0x1f_ffff, 0, 0x1f_ffff, 0, 0x1f_ffff, 0xfedc, 0, 8,
+    ];
+    let zs: [u32; 11] = [
+        0x15_5555, 1, 0, 0, 0x1f_ffff, 0x1f_ffff, 1, 0x1f_ffff, 0x15_5555, 1, 9,
+    ];
+    for i in 0..11 {
+        assert_eq!(rt; firsts[i], xs[i]);
+        assert_eq!(rt; seconds[i], ys[i]);
+        assert_eq!(rt; thirds[i], zs[i]);
     }
 }
 
