@@ -29,7 +29,7 @@ use std::env;
 use std::rt::{Clock, Env, Files};
 use std::thread::Threads;
 use std::time::{Duration, Instant};
-use zorder::{Region, decode, decode_pairs, encode, inside};
+use zorder::{Region, decode, decode_pairs, decode_triples, encode, inside};
 
 /// How often a script is answered in each way.
 const ROUNDS: u32 = 5;
@@ -46,11 +46,22 @@ const JUMPS: usize = 16;
 /// How many codes are decoded at once.
 const BLOCK: usize = 256;
 
+/// Fewer codes than these are decoded one after the other.
+const FEW: usize = 16;
+
 /// What the boxes of a script have together.
 #[derive(Clone, Copy, PartialEq, Eq)]
 struct Answered {
     found: u64,
     looked: u64,
+}
+
+/// The coordinates of a block of codes, the first, the second and the third ones.
+#[derive(Drop)]
+struct Columns {
+    firsts: [u32; BLOCK],
+    seconds: [u32; BLOCK],
+    thirds: [u32; BLOCK],
 }
 
 /// From where a jump is made: the line of its box, and the place of a code.
@@ -126,8 +137,11 @@ fn answer<R: AllocGlobal + Print + Clock>(rt: &R, boxes: &Boxes, lines: &[Script
     requires { All (IsLineOf (ScriptKind.Region boxes.now.dims)) lines.now }
 {
     let mut found = Vec::with_capacity(rt.alloc(), boxes.codes().len())?;
-    let mut firsts = vec![in rt.alloc(); 0u32; BLOCK]?;
-    let mut seconds = vec![in rt.alloc(); 0u32; BLOCK]?;
+    let mut columns = Columns {
+        firsts: [0; BLOCK],
+        seconds: [0; BLOCK],
+        thirds: [0; BLOCK],
+    };
     let mut counting = Duration::MAX;
     let mut filling = Duration::MAX;
     let mut visiting = Duration::MAX;
@@ -136,10 +150,10 @@ fn answer<R: AllocGlobal + Print + Clock>(rt: &R, boxes: &Boxes, lines: &[Script
         let counted = count_all(boxes, lines);
         counting = counting.min(start.elapsed(rt)?);
         let start = Instant::now(rt)?;
-        let (filled, _) = fill_all(boxes, lines, &mut found, false, &mut firsts, &mut seconds);
+        let (filled, _) = fill_all(boxes, lines, &mut found, false, &mut columns);
         filling = filling.min(start.elapsed(rt)?);
         let start = Instant::now(rt)?;
-        let (visited, sum) = fill_all(boxes, lines, &mut found, true, &mut firsts, &mut seconds);
+        let (visited, sum) = fill_all(boxes, lines, &mut found, true, &mut columns);
         visiting = visiting.min(start.elapsed(rt)?);
         ensure!(counted == filled && counted == visited, "the ways differ");
         if round == 0 {
@@ -197,12 +211,9 @@ fn fill_all(
     lines: &[ScriptLine],
     found: &mut Vec<u64>,
     summing: bool,
-    firsts: &mut [u32],
-    seconds: &mut [u32],
+    columns: &mut Columns,
 ) -> (Answered, u64)
     requires each { All (IsLineOf (ScriptKind.Region boxes.now.dims)) lines.now }
-    requires firsts { 256 ≤ length firsts.old }
-    requires seconds { 256 ≤ length seconds.old }
     requires room { length boxes.now.codes ≤ vec_capacity found.old }
     ensures room { length boxes.now.codes ≤ vec_capacity found.new }
 {
@@ -217,7 +228,7 @@ fn fill_all(
             all.found = all.found.wrapping_add(found.len() as u64);
             all.looked = all.looked.wrapping_add(looked);
             if summing {
-                sum = sum.wrapping_add(sum_of(region.d, found, firsts, seconds));
+                sum = sum.wrapping_add(sum_of(region.d, found, columns));
             }
         }
     }
@@ -237,42 +248,66 @@ fn fill_one(boxes: &Boxes, region: &Region, found: &mut Vec<u64>) -> u64
     boxes.fill(region, found)
 }
 
-/// The sum of the coordinates of points. If many are decoded at once, it is to `firsts` and
-/// `seconds`.
-fn sum_of(dims: u32, codes: &[u64], firsts: &mut [u32], seconds: &mut [u32]) -> u64
+/// The sum of the coordinates of points. If many are decoded at once, it is to `columns`. It stands
+/// by itself, so that the machine code of filling alone doesn't depend on it.
+#[inline(never)]
+fn sum_of(dims: u32, codes: &[u64], columns: &mut Columns) -> u64
     requires dimension { IsDimension dims }
     requires codes { All (λ z. IsCode dims z) codes.now }
-    requires firsts { 256 ≤ length firsts.old }
-    requires seconds { 256 ≤ length seconds.old }
 {
     match dims {
-        2 => sum_of_pairs(codes, firsts, seconds),
-        3 => sum_in(3, codes),
+        2 => sum_of_pairs(codes, columns),
+        3 => sum_of_triples(codes, columns),
         _ => sum_in(4, codes),
     }
 }
 
 /// The same of two coordinates, of which a block is decoded at once.
-fn sum_of_pairs(codes: &[u64], firsts: &mut [u32], seconds: &mut [u32]) -> u64
-    requires firsts { 256 ≤ length firsts.old }
-    requires seconds { 256 ≤ length seconds.old }
-{
+fn sum_of_pairs(codes: &[u64], columns: &mut Columns) -> u64 {
     let mut sum = 0u64;
     for block in codes.chunks(BLOCK) {
-        sum = sum.wrapping_add(sum_of_block(block, firsts, seconds));
+        decode_pairs(block, &mut columns.firsts, &mut columns.seconds);
+        sum = sum.wrapping_add(total(&columns.firsts[..block.len()]));
+        sum = sum.wrapping_add(total(&columns.seconds[..block.len()]).wrapping_mul(3));
     }
     sum
 }
 
-/// The same of a block.
-fn sum_of_block(block: &[u64], firsts: &mut [u32], seconds: &mut [u32]) -> u64
-    requires block { length block.now ≤ 256 }
-    requires firsts { 256 ≤ length firsts.old }
-    requires seconds { 256 ≤ length seconds.old }
+/// The same of three coordinates; few points are decoded one after the other.
+fn sum_of_triples(codes: &[u64], columns: &mut Columns) -> u64
+    requires { All (λ z. IsCode 3 z) codes.now }
 {
-    decode_pairs(block, firsts, seconds);
-    let sum = total(&firsts[..block.len()]);
-    sum.wrapping_add(total(&seconds[..block.len()]).wrapping_mul(3))
+    if codes.len() < FEW {
+        return sum_in(3, codes);
+    }
+    let mut sum = 0u64;
+    for block in codes.chunks(BLOCK) {
+        decode_triples(
+            block,
+            &mut columns.firsts,
+            &mut columns.seconds,
+            &mut columns.thirds,
+        );
+        sum = sum.wrapping_add(weighed_total(columns, block.len()));
+    }
+    sum
+}
+
+/// The sum of the coordinates of the first points of a block, the first coordinate taken once, the
+/// second three times, the third five times.
+fn weighed_total(columns: &Columns, many: usize) -> u64
+    requires { many ≤ 256 }
+{
+    let mut first = 0u64;
+    let mut second = 0u64;
+    let mut third = 0u64;
+    for i in 0..many {
+        first = first.wrapping_add(u64::from(columns.firsts[i]));
+        second = second.wrapping_add(u64::from(columns.seconds[i]));
+        third = third.wrapping_add(u64::from(columns.thirds[i]));
+    }
+    let sum = first.wrapping_add(second.wrapping_mul(3));
+    sum.wrapping_add(third.wrapping_mul(5))
 }
 
 /// The sum of numbers, in 64 bits.
