@@ -5,8 +5,8 @@
 //! script how many boxes it has, how many points were found and how many places looked at in all
 //! of them, and a checksum: of all points found the sum of the coordinates, the first taken once,
 //! the second three times, the third five times and so on, in 64 bits. Then nanoseconds a box, the
-//! least of five rounds, of counting (`count`), of filling a list (`fill`), and of filling it and
-//! summing up the coordinates (`visit`); and nanoseconds of a jump (`next_in_box`) from codes
+//! least of five rounds, of counting (`count`), of filling a list (`fill`), and of going over the
+//! points without a list and summing up the coordinates (`visit`); and nanoseconds of a jump (`next_in_box`) from codes
 //! between the corners of a box and outside of it, with the sum of the codes that it gives. With
 //! fewer words it does nothing. No contract says how long anything takes.
 #![tactic(auto)]
@@ -29,7 +29,7 @@ use std::env;
 use std::rt::{Clock, Env, Files};
 use std::thread::Threads;
 use std::time::{Duration, Instant};
-use zorder::{Region, decode, decode_pairs, decode_triples, encode, inside};
+use zorder::{Corners, Region, decode, decode_pairs, decode_triples, encode, inside};
 
 /// How often a script is answered in each way.
 const ROUNDS: u32 = 5;
@@ -46,8 +46,8 @@ const JUMPS: usize = 16;
 /// How many codes are decoded at once.
 const BLOCK: usize = 256;
 
-/// Fewer codes than these are decoded one after the other.
-const FEW: usize = 16;
+/// A stretch of fewer codes waits until a block of them is there.
+const FEW: usize = 64;
 
 /// What the boxes of a script have together.
 #[derive(Clone, Copy, PartialEq, Eq)]
@@ -62,6 +62,14 @@ struct Columns {
     firsts: [u32; BLOCK],
     seconds: [u32; BLOCK],
     thirds: [u32; BLOCK],
+}
+
+/// Points that are gone over: how many wait to be decoded, which ones, and the sum of the others.
+#[derive(Drop)]
+struct Visit {
+    count: usize,
+    waiting: [u64; BLOCK],
+    sum: u64,
 }
 
 /// From where a jump is made: the line of its box, and the place of a code.
@@ -150,10 +158,10 @@ fn answer<R: AllocGlobal + Print + Clock>(rt: &R, boxes: &Boxes, lines: &[Script
         let counted = count_all(boxes, lines);
         counting = counting.min(start.elapsed(rt)?);
         let start = Instant::now(rt)?;
-        let (filled, _) = fill_all(boxes, lines, &mut found, false, &mut columns);
+        let filled = fill_all(boxes, lines, &mut found);
         filling = filling.min(start.elapsed(rt)?);
         let start = Instant::now(rt)?;
-        let (visited, sum) = fill_all(boxes, lines, &mut found, true, &mut columns);
+        let (visited, sum) = visit_all(boxes, lines, &mut columns);
         visiting = visiting.min(start.elapsed(rt)?);
         ensure!(counted == filled && counted == visited, "the ways differ");
         if round == 0 {
@@ -204,15 +212,8 @@ fn count_all(boxes: &Boxes, lines: &[ScriptLine]) -> Answered
     all
 }
 
-/// Fills a list with the points of each box in turn; where it is asked for, sums up their
-/// coordinates.
-fn fill_all(
-    boxes: &Boxes,
-    lines: &[ScriptLine],
-    found: &mut Vec<u64>,
-    summing: bool,
-    columns: &mut Columns,
-) -> (Answered, u64)
+/// Fills a list with the points of each box in turn.
+fn fill_all(boxes: &Boxes, lines: &[ScriptLine], found: &mut Vec<u64>) -> Answered
     requires each { All (IsLineOf (ScriptKind.Region boxes.now.dims)) lines.now }
     requires room { length boxes.now.codes ≤ vec_capacity found.old }
     ensures room { length boxes.now.codes ≤ vec_capacity found.new }
@@ -221,18 +222,14 @@ fn fill_all(
         found: 0,
         looked: 0,
     };
-    let mut sum = 0u64;
     for i in 0..lines.len() {
         if let Some(region) = region_in(boxes.dims(), &lines[i]) {
             let looked = fill_one(boxes, &region, found);
             all.found = all.found.wrapping_add(found.len() as u64);
             all.looked = all.looked.wrapping_add(looked);
-            if summing {
-                sum = sum.wrapping_add(sum_of(region.d, found, columns));
-            }
         }
     }
-    (all, sum)
+    all
 }
 
 /// Fills a list with the points of a box, and gives at how many places was looked.
@@ -248,9 +245,82 @@ fn fill_one(boxes: &Boxes, region: &Region, found: &mut Vec<u64>) -> u64
     boxes.fill(region, found)
 }
 
-/// The sum of the coordinates of points. If many are decoded at once, it is to `columns`. It stands
-/// by itself, so that the machine code of filling alone doesn't depend on it.
-#[inline(never)]
+/// Goes over the points of each box in turn, and sums up their coordinates.
+fn visit_all(boxes: &Boxes, lines: &[ScriptLine], columns: &mut Columns) -> (Answered, u64)
+    requires each { All (IsLineOf (ScriptKind.Region boxes.now.dims)) lines.now }
+{
+    let mut all = Answered {
+        found: 0,
+        looked: 0,
+    };
+    let mut visit = Visit {
+        count: 0,
+        waiting: [0; BLOCK],
+        sum: 0,
+    };
+    for i in 0..lines.len() {
+        if let Some(region) = region_in(boxes.dims(), &lines[i]) {
+            let one = visit_one(boxes, &region, &mut visit, columns);
+            all.found = all.found.wrapping_add(one.found);
+            all.looked = all.looked.wrapping_add(one.looked);
+        }
+    }
+    visit.decode_waiting(boxes.dims(), columns);
+    (all, visit.sum)
+}
+
+/// Goes over the points of a box, by the stretches in which they stand.
+fn visit_one(boxes: &Boxes, region: &Region, visit: &mut Visit, columns: &mut Columns) -> Answered
+    requires region { IsRegion region.now }
+    requires dims { region.now.d ≡ boxes.now.dims }
+{
+    let codes = boxes.codes();
+    let corners = Corners::of(region);
+    let mut walk = boxes.walk(region, &corners);
+    let mut found = 0u64;
+    while walk.at < codes.len() {
+        let stretch = boxes.next_stretch(region, &corners, &mut walk);
+        found = found.wrapping_add(stretch.len() as u64);
+        visit.take(region.d, stretch, columns);
+    }
+    let looked = walk.looked;
+    Answered { found, looked }
+}
+
+impl Visit {
+    /// Takes codes that stand side by side: a few wait.
+    #[inline(always)]
+    fn take(&mut self, dims: u32, codes: &[u64], columns: &mut Columns)
+        requires dimension { IsDimension dims }
+        requires codes { All (λ z. IsCode dims z) codes.now }
+    {
+        if codes.len() >= FEW || dims == 4 {
+            self.sum = self.sum.wrapping_add(sum_of(dims, codes, columns));
+            return;
+        }
+        if self.count > BLOCK - FEW {
+            self.decode_waiting(dims, columns);
+        }
+        let from = self.count.min(BLOCK - FEW);
+        for i in 0..codes.len() {
+            self.waiting[from + i] = codes[i];
+        }
+        self.count = from + codes.len();
+    }
+
+    /// Decodes the codes that wait, of two or of three coordinates.
+    fn decode_waiting(&mut self, dims: u32, columns: &mut Columns) {
+        let waiting = &self.waiting[..self.count.min(BLOCK)];
+        let sum = match dims {
+            2 => sum_of_pairs(waiting, columns),
+            _ => sum_of_triples(waiting, columns),
+        };
+        self.sum = self.sum.wrapping_add(sum);
+        self.count = 0;
+    }
+}
+
+/// The sum of the coordinates of points. If many are decoded at once, it is to `columns`.
 fn sum_of(dims: u32, codes: &[u64], columns: &mut Columns) -> u64
     requires dimension { IsDimension dims }
     requires codes { All (λ z. IsCode dims z) codes.now }
@@ -273,13 +343,8 @@ fn sum_of_pairs(codes: &[u64], columns: &mut Columns) -> u64 {
     sum
 }
 
-/// The same of three coordinates; few points are decoded one after the other.
-fn sum_of_triples(codes: &[u64], columns: &mut Columns) -> u64
-    requires { All (λ z. IsCode 3 z) codes.now }
-{
-    if codes.len() < FEW {
-        return sum_in(3, codes);
-    }
+/// The same of three coordinates.
+fn sum_of_triples(codes: &[u64], columns: &mut Columns) -> u64 {
     let mut sum = 0u64;
     for block in codes.chunks(BLOCK) {
         decode_triples(

@@ -1,4 +1,4 @@
--- How far a walk has come. No public clause cites it.
+-- How far a walk has come.
 use Rattle.std.specs.Prelude.{ℕ, ◌<◌, ◌≤◌, List, length}
 use Rattle.zorder.specs.declared.regions.Region.{Region}
 use Rattle.boxes.specs.Places.{IsCountOf}

@@ -24,6 +24,7 @@ mod walk;
 pub use answer::one_answer;
 pub use boxes::Boxes;
 pub use found::Found;
+pub use walk::Walk;
 
 #[cfg(test)]
 mod tests;

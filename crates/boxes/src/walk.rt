@@ -24,18 +24,24 @@ const NEAR: usize = 32;
 /// How many codes are tested one by one before whole cells of them are tried, and between.
 const ONE_BY_ONE: usize = 16;
 
-/// Where a walk has come to: the next place that is to be looked at, or the end of the codes, and
-/// at how many places it looked before.
+/// Where a walk over the sorted codes has come to.
 #[derive(Clone, Copy)]
 pub struct Walk {
+    /// The next place that is to be looked at, or the number of codes where there is none.
     pub at: usize,
+    /// At how many places before it was looked.
     pub looked: u64,
 }
 
 impl Boxes {
     /// A walk over the codes inside a region, which begins at the lower bound of the low corner's
     /// code. Over an empty region it is at its end.
-    pub(crate) fn walk(&self, region: &Region, corners: &Corners) -> Walk
+    ///
+    /// It is for a caller that needs no list of them: until the walk is at the number of codes,
+    /// [`Boxes::next_stretch`] gives the next ones where they stand. The region has as many
+    /// coordinates as the points, and its corners are those of [`Corners::of`]. Cannot fail and
+    /// takes no memory.
+    pub fn walk(&self, region: &Region, corners: &Corners) -> Walk
         requires region { IsRegion region.now }
         requires dims { region.now.d ≡ self.now.dims }
         requires corners { AreCorners region.now corners.now }
@@ -55,7 +61,9 @@ impl Boxes {
 
     /// The codes inside the region that stand side by side from the walk's place on; there may be
     /// none. The walk goes behind them, and over those outside that follow.
-    pub(crate) fn next_stretch(&self, region: &Region, corners: &Corners, walk: &mut Walk) -> &[u64]
+    ///
+    /// The walk is not at its end, and is one over this region. Cannot fail and takes no memory.
+    pub fn next_stretch(&self, region: &Region, corners: &Corners, walk: &mut Walk) -> &[u64]
         requires region { IsRegion region.now }
         requires dims { region.now.d ≡ self.now.dims }
         requires corners { AreCorners region.now corners.now }
