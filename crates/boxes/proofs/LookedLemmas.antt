@@ -253,10 +253,13 @@ bound_among shown codes z at end front same order less fits here there below abo
   where
     near : List ℕ
     near = take (end - (at + 1)) (drop (at + 1) shown)
+
     count : length near ≡ end - (at + 1)
     count = length-take-le (end - (at + 1)) (drop (at + 1) shown) (omega (arith, length-drop (at + 1) shown, fits))
+
     read : (k : ℕ) → k < end - (at + 1) → slice_index near k ≡ slice_index shown (at + 1 + k)
     read k few = get_or-take (end - (at + 1)) (drop (at + 1) shown) k 0 few ∙ get_or-drop (at + 1) shown k 0
+
     before : slice_index shown (at + 1 + front - 1) < z
     before = elim (cases_lt 0 front) [
       | inl some ↦
@@ -267,6 +270,7 @@ bound_among shown codes z at end front same order less fits here there below abo
           let place : at ≡ at + 1 + front - 1 = omega (arith, none) in
           subst (λ (k : ℕ). slice_index shown k < z) place (omega (arith, here, ap (λ (xs : List ℕ). slice_index xs at) same))
     ]
+
     inside : front < end - (at + 1)
     inside = elim (cases_lt front (end - (at + 1))) [
       | inl few ↦ few
