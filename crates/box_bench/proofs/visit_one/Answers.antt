@@ -19,6 +19,6 @@ take-requires-clause-codes c =
     let later = c.next_stretch-stretch.new.walk.at in
     let of_boxes = All-same (IsCode c.args.boxes.now.dims) sorted c.codes-codes.result.now (sym c.codes-codes.ensures.codes) c.codes-codes.ensures.each in
     let each = subst (λ (d : ℕ). All (IsCode d) sorted) (sym c.requires.dims) of_boxes in
-    let inside = All-filter (is_inside region) (IsCode region.d) (drop at sorted) (All-drop at sorted each) in
+    let inside = All-filter (is_inside region) (IsCode region.d) (drop at sorted) (All-drop (IsCode region.d) at sorted each) in
     front (IsCode region.d) stretch (codes_inside region (drop later sorted))
     (All-same (IsCode region.d) (stretch ++ codes_inside region (drop later sorted)) (codes_inside region (drop at sorted)) (sym c.next_stretch-stretch.ensures.found) inside)
