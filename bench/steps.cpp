@@ -1,4 +1,5 @@
-// The steps that fitting by hulls takes, counted: the algorithm of crates/hulls in plain C++, with a counter.
+// The steps that fitting by hulls takes, counted: the algorithm of crates/hulls in plain C++, with a counter, and the eight
+// places at once of crates/segmenter. The guess that short lists begin with isn't in it: the file is to have more than 8,192 keys.
 //   steps KEYS EPS     a file of 64-bit keys after a 64-bit count; each distinct key is a point at the height of its place
 #include <cstdint>
 #include <cstdio>
@@ -38,6 +39,11 @@ struct Hull {
     }
     bool is_over(const Vertex &next) { return is_below(slope, between(low, next, 0)); }
     bool turns(const Vertex &next, uint32_t lift) { return is_below(between(low, next, lift), slope); }
+    // Whether it is sure that no point between these two turns the pair: beside a line that falls the corner is the first x.
+    bool stays(const Vertex &first, const Vertex &last, uint32_t lift) {
+        Vertex lowest = {slope.rise < 0 ? first.x : last.x, first.height < last.height ? first.height : last.height, 0};
+        return !is_below(between(low, lowest, lift), slope);
+    }
     void go_on(const Vertex &next, bool turns, bool stands_out, uint32_t lift) {
         if (turns && is_below(between(low, next, lift), edge)) {
             move_on(next, stands_out, lift);
@@ -79,6 +85,9 @@ struct Hull {
     }
 };
 
+static Vertex upright(const std::vector<u64> &keys, size_t i) { return {keys[i], (uint32_t)i, (uint32_t)i}; }
+static Vertex turned(const std::vector<u64> &keys, size_t i) { return {keys[i], ~(uint32_t)i, (uint32_t)i}; }
+
 int main(int argc, char **argv) {
     if (argc != 3) return 2;
     FILE *file = fopen(argv[1], "rb");
@@ -97,19 +106,27 @@ int main(int argc, char **argv) {
         ++runs;
         size_t start = i;
         u64 before = steps;
-        for (; i < m; ++i) {
-            Vertex point = {keys[i], (uint32_t)i, (uint32_t)i}, turned = {keys[i], ~(uint32_t)i, (uint32_t)i};
-            if (i == start) {
-                steep.start(point);
-                flat.start(turned);
-            } else if (steep.is_over(point) || flat.is_over(turned)) {
-                break;
-            } else {
-                bool falls = steep.turns(point, lift);
-                bool rises = flat.turns(turned, lift);
-                steep.go_on(point, falls, rises, lift);
-                flat.go_on(turned, rises, falls, lift);
+        int calm = 0;
+        steep.start(upright(keys, i));
+        flat.start(turned(keys, i));
+        for (++i; i < m;) {
+            if (calm >= 4 && m - i >= 8) {
+                if (steep.stays(upright(keys, i), upright(keys, i + 7), lift) && flat.stays(turned(keys, i), turned(keys, i + 7), lift))
+                    i += 8;
+                else
+                    calm = 0;
+                continue;
             }
+            Vertex point = upright(keys, i), mirrored = turned(keys, i);
+            bool falls = steep.turns(point, lift);
+            if (falls ? flat.is_over(mirrored) : steep.is_over(point)) break;
+            bool rises = flat.turns(mirrored, lift);
+            calm = falls || rises ? 0 : calm + 1;
+            if (falls || rises) {
+                steep.go_on(point, falls, rises, lift);
+                flat.go_on(mirrored, rises, falls, lift);
+            }
+            ++i;
         }
         u64 per_point = (steps - before + (i - start) - 1) / (i - start);
         if (per_point > most) most = per_point;

@@ -1,5 +1,5 @@
 -- What two hulls stand for: a run of points, given place by place.
-use Rattle.std.specs.Prelude.{◌≡◌, ℕ, ◌+◌, ◌-◌, ◌^◌, ◌<◌, ◌≤◌, min}
+use Rattle.std.specs.Prelude.{◌≡◌, Bool, true, false, ℕ, ◌+◌, ◌-◌, ◌^◌, ◌<◌, ◌≤◌, min}
 use Rattle.exact_cross.specs.declared.TheConstants.{MAX_EPSILON}
 use Rattle.exact_cross.specs.declared.segment.Witness.{Witness}
 use Rattle.exact_cross.specs.Points.{Points, IsAscending}
@@ -18,6 +18,11 @@ MatchOffer (Cut w) P Q = Q w
 abbrev pub mirrored : Points → Points
 mirrored p = record { count = p.count; x = p.x; y = λ j. 4294967295 - p.y j }
 
+-- the answer tells whether P doesn't hold
+abbrev pub IsOutside : Bool → Type 0 → Type 0
+IsOutside true P = P → ⊥
+IsOutside false P = P
+
 -- how many points of one run fit in
 abbrev pub room_of : Hulls → ℕ
 room_of hulls = min (room_in hulls.steep) (room_in hulls.flat)
@@ -25,6 +30,10 @@ room_of hulls = min (room_in hulls.steep) (room_in hulls.flat)
 -- how many steps later calls may take for points that came before: one for each point on the two hulls past the tangent places, and two for each that waits to come on one
 abbrev pub spare : Hulls → ℕ
 spare hulls = spare_of hulls.steep + spare_of hulls.flat
+
+-- the last point that was offered and taken in turned neither line
+abbrev pub is_calm : Hulls → Bool
+is_calm hulls = hulls.calm
 
 -- the error bound of the lines
 abbrev pub bound_of : Hulls → ℕ
@@ -48,3 +57,13 @@ pub record IsNext (hulls : Hulls) (p : Points) (eps s e x y : ℕ) : Type 0 wher
   pub more : e < p.count
   pub at_x : p.x e ≡ x
   pub at_y : p.y e ≡ y
+
+-- they do, and so many places of the points come next, from (x, y) to (x_last, y_last)
+pub record AreNext (hulls : Hulls) (p : Points) (eps s e count x y x_last y_last : ℕ) : Type 0 where
+  pub stands : StandsFor hulls p eps s e
+  pub some : 1 ≤ count
+  pub more : e + count ≤ p.count
+  pub at_x : p.x e ≡ x
+  pub at_y : p.y e ≡ y
+  pub last_x : p.x (e + count - 1) ≡ x_last
+  pub last_y : p.y (e + count - 1) ≡ y_last

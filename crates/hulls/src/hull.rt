@@ -1,11 +1,12 @@
 // The steep pair of a run, and the points at which the next pair can begin.
-ghost use Rattle.std.specs.Prelude.{◌≡◌, ℕ, ◌+◌, ◌*◌, ◌-◌, ◌^◌, ◌<◌, ◌≤◌, IfOk, IsTrue, length, []};
+ghost use Rattle.std.specs.Prelude.{◌≡◌, ℕ, ◌+◌, ◌*◌, ◌-◌, ◌^◌, ◌<◌, ◌≤◌, IfOk, IsTrue};
+ghost use Rattle.std.specs.Prelude.{length, [], min};
 ghost use Rattle.std.specs.Prelude.{vec_len, vec_capacity};
 ghost use Rattle.std.specs.Bool.{OnTrue, OnFalse};
 ghost use Rattle.exact_cross.specs.Points.{Points};
 ghost use Rattle.exact_cross.specs.Slopes.{IsAtMost, steep_slope};
 ghost use Rattle.hulls.specs.Slopes.{steepest};
-ghost use Rattle.hulls.specs.Vertices.{vertex_at, lifted_slope, AreLeftOf};
+ghost use Rattle.hulls.specs.Vertices.{vertex_at, lifted_slope, AreLeftOf, StaysUnder};
 ghost use Rattle.hulls.specs.Hull.{IsHullOf, IsHullWith, IsShadowed, IsUnderLine, GoesOn};
 ghost use Rattle.hulls.specs.Hull.{IsNextVertex, IsVertexOf, lower_of, room_in, spare_of};
 
@@ -156,6 +157,39 @@ impl Hull {
         ensures step { steps.new ≡ steps.old + 1 }
     {
         CountedSlope::between(self.low, next, lift).is_below(&self.slope, steps)
+    }
+
+    /// Whether it is sure that no point turns the pair which lies from `first` to `last` and no
+    /// lower than both.
+    ///
+    /// Beside a line that rises such a point lies nowhere lower than at the last x, and beside one
+    /// that falls at the first. `lift` is twice the error bound.
+    #[inline(always)]
+    pub fn stays<L: Ledger>(
+        &self,
+        first: Vertex,
+        last: Vertex,
+        lift: u32,
+        steps: &mut Steps<L>,
+    ) -> bool
+        requires right { self.now.low.x < first.x }
+        requires order { first.x ≤ last.x }
+        requires lift { lift ≤ 2097152 }
+        requires slope { 1 ≤ self.now.slope.slope.run }
+        ensures stay { OnTrue result
+            ((x height : ℕ) → first.x ≤ x → x ≤ last.x → min first.height last.height ≤ height →
+            StaysUnder self.now.low self.now.slope.slope x height lift) }
+        ensures step { steps.new ≡ steps.old + 1 }
+    {
+        let x = if self.slope.declines() {
+            first.x
+        } else {
+            last.x
+        };
+        let height = first.height.min(last.height);
+        let place = first.place;
+        let lowest = Vertex { x, height, place };
+        !CountedSlope::between(self.low, lowest, lift).is_below(&self.slope, steps)
     }
 
     /// Takes in the next point, which no pair of the run lies above or below of.

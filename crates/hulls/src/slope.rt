@@ -1,5 +1,5 @@
 // Slopes whose comparison is a step.
-ghost use Rattle.std.specs.Prelude.{◌≡◌, ◌+◌, ◌<◌, ◌≤◌};
+ghost use Rattle.std.specs.Prelude.{◌≡◌, ◌+◌, ◌<◌, ◌≤◌, pos, ◌≤ℤ◌};
 ghost use Rattle.std.specs.Bool.{OnTrue, OnFalse};
 ghost use Rattle.exact_cross.specs.Slopes.{IsAtMost};
 ghost use Rattle.hulls.specs.Slopes.{flattest, steepest};
@@ -66,6 +66,15 @@ impl CountedSlope {
     {
         steps.tick();
         self.slope.cmp(&other.slope).is_lt()
+    }
+
+    /// Whether the slope is below that of a level line.
+    #[inline(always)]
+    pub fn declines(&self) -> bool
+        ensures below { OnTrue result (self.now.slope.rise ≤ℤ pos 0) }
+        ensures not_below { OnFalse result (pos 0 ≤ℤ self.now.slope.rise) }
+    {
+        self.slope.rise < 0
     }
 
     /// The slope itself.

@@ -15,3 +15,4 @@ pub mod ValueLemmas
 pub mod SearchLemmas
 pub mod WalkLemmas
 pub mod PlaceLemmas
+pub mod ManyLemmas

@@ -1,6 +1,7 @@
 // A level as it is kept.
 ghost use Rattle.std.specs.Prelude.{◌≡◌, ◌+◌, ◌*◌, ◌-◌, ◌^◌, ◌<◌, ◌≤◌, ℕ};
-ghost use Rattle.std.specs.Prelude.{None, IfSome, length, vec_len, IfOk};
+ghost use Rattle.std.specs.Prelude.{None, Some, IfSome, length, vec_len, IfOk};
+ghost use Rattle.std.specs.Bool.{OnFalse};
 ghost use Rattle.std.specs.List.Sorted.{IsNonDecreasing};
 ghost use Rattle.std.specs.Option.{option_copied};
 ghost use Rattle.levels.specs.Indexes.{IsIndex};
@@ -148,13 +149,62 @@ impl Level {
         halved(keys, place, shift, q)
     }
 
+    /// Whether the level may have an entry with this key, of which this is the hash.
+    #[inline(always)]
+    pub fn may_have(&self, key: u64, hash: u64) -> bool
+        requires { hash ≡ hash_of key }
+        ensures { OnFalse result (entry_at self.now key ≡ None) }
+    {
+        let _ = key;
+        self.filter.passes(hash)
+    }
+
+    /// Where a search for a key in step with others begins. It tells nothing.
+    #[inline(always)]
+    pub fn hint(&self, q: u64) -> usize {
+        let keys = self.keys();
+        if keys.len() <= SHORT {
+            return lower_of(keys, q);
+        }
+        (self.index.start_near(q) as usize).min(keys.len() + 1 - WINDOW)
+    }
+
+    /// A step of such a search. It tells nothing.
+    #[inline(always)]
+    pub fn nearer(&self, place: usize, q: u64, shift: u32) -> usize
+        requires { shift < 64 }
+    {
+        let keys = self.keys();
+        let probe = place.wrapping_add((1 << shift) - 1);
+        if keys.len() <= SHORT || probe >= keys.len() {
+            return place;
+        }
+        place.wrapping_add(usize::from(keys[probe] < q) << shift)
+    }
+
+    /// The entry with a key, if it stands at this place.
+    #[inline(always)]
+    pub fn entry_at(&self, place: usize, key: u64) -> Option<&Entry>
+        ensures { IfSome result (λ entry. entry_at self.now key ≡ Some entry.now) }
+    {
+        let keys = self.keys();
+        if place >= keys.len() {
+            return None;
+        }
+        if keys[place] != key {
+            return None;
+        }
+        let entries = self.entries();
+        Some(&entries[place])
+    }
+
     /// The entry with a key, of which this is the hash, if there is one.
     #[inline]
     pub fn entry(&self, key: u64, hash: u64) -> Option<&Entry>
         requires { hash ≡ hash_of key }
         ensures { option_copied result ≡ entry_at self.now key }
     {
-        if !self.filter.passes(hash) {
+        if !self.may_have(key, hash) {
             return None;
         }
         self.entry_from(self.place(key), key)
@@ -225,7 +275,7 @@ fn keys_of(alloc: Global, entries: &[Entry]) -> Result<Keys, NoMemory>
 {
     let mut keys = Vec::with_capacity(alloc, entries.len())?;
     for entry in entries {
-        keys.push(entry.key)?;
+        keys.push_reserved(entry.key);
     }
     Keys::of(alloc, keys)
 }

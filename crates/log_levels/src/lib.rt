@@ -21,6 +21,7 @@ mod halving;
 mod latest;
 mod level;
 mod log_map;
+mod many;
 mod questions;
 mod update;
 mod updates;

@@ -67,7 +67,7 @@ impl LogMap {
     }
 
     /// The same, where the buffer has no entry with the key.
-    fn value_in_levels(&self, key: u64) -> Option<u64>
+    pub(crate) fn value_in_levels(&self, key: u64) -> Option<u64>
         requires { last_at self.now.buffer key ≡ None }
         ensures { (entries : List Entry) → IsCutOf self.now entries →
             result ≡ value_of (last_at entries key) }

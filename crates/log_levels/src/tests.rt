@@ -89,6 +89,38 @@ fn keys_that_are_denied_or_deleted(rt: HostRuntime) -> Result<(), Fail> {
     Ok(())
 }
 
+// The even numbers stand in a level that is searched in step, deletions of every 128th of them in
+// another above, and one odd number in the buffer. The list is no multiple of sixteen long.
+#[test]
+fn many_at_once(rt: HostRuntime) -> Result<(), Fail> {
+    let mut map = LogMap::new(rt.alloc(), 10)?;
+    for key in 0..8192 {
+        let put = map.put(rt.alloc(), 2 * key, key);
+        assert_eq!(rt; put, Ok(()));
+    }
+    for i in 0..64 {
+        let del = map.del(rt.alloc(), 256 * i);
+        assert_eq!(rt; del, Ok(()));
+    }
+    let put = map.put(rt.alloc(), 1, 7);
+    assert_eq!(rt; put, Ok(()));
+    assert_eq!(rt; map.buffered(), 1);
+    let mut keys = Vec::new(rt.alloc());
+    for key in 0..16_389u64 {
+        keys.push(key)?;
+    }
+    let mut values = Vec::with_capacity(rt.alloc(), keys.len())?;
+    map.get_many(&keys, &mut values);
+    assert_eq!(rt; values.len(), 16_389);
+    for (i, value) in values.iter().enumerate() {
+        let half = i as u64 / 2;
+        let is_there = i % 2 == 0 && half < 8192 && half % 128 != 0;
+        let other = if i == 1 { Some(7) } else { None };
+        assert_eq!(rt; *value, if is_there { Some(half) } else { other });
+    }
+    Ok(())
+}
+
 /// The answers of a map after a put of 5, puts of 100 to 162, a deletion of 5 and puts of 200 to
 /// 262.
 fn check_two_flushes<R: Abort>(rt: &R, map: &LogMap)

@@ -20,6 +20,7 @@ ghost use Rattle.exact_cross.specs.Checked.{IsLeastCover, AreChecked};
 ghost use Rattle.segmenter.specs.Segmentation.{IsSegmentation};
 
 pub mod run;
+mod whole;
 
 use budget::{NoMemory, Steps};
 use exact_cross::{MAX_EPSILON, Segment};
@@ -28,6 +29,7 @@ use run::longest_run;
 use std::alloc::Global;
 use std::marker::Brand;
 use std::sync::ledger::{Blank, Ledger};
+use whole::whole_run;
 
 /// The greedy segments of the places `from..to` of points, with places as in the whole list.
 ///
@@ -120,6 +122,10 @@ pub fn segment_counted<L: Ledger>(
     ensures cost { steps.new ≤ steps.old + 12 * (to - from) }
 {
     let mut segments = Vec::new(alloc);
+    if let Some(segment) = whole_run(xs, ys, eps, from, to, steps) {
+        segments.push(segment)?;
+        return Ok(segments);
+    }
     let mut hulls = Hulls::new(alloc, eps, to - from)?;
     let mut start = from;
     while start < to {

@@ -82,7 +82,7 @@ pub fn merge(
     let mut remaining = Remaining { newer, older };
     while let Some(entry) = remaining.take_least() {
         if is_kept(&entry, deepest) {
-            push_within_capacity(&mut merged, entry);
+            merged.push_reserved(entry);
         }
     }
     Ok(merged)
@@ -94,18 +94,6 @@ fn is_kept(entry: &Entry, deepest: bool) -> bool
     ensures { kept deepest (Some entry.now) ≡ (if result then Some entry.now else None) }
 {
     !deepest || entry.value.is_some()
-}
-
-/// Appends an entry where there is room for one, so that no memory is asked for.
-fn push_within_capacity(entries: &mut Vec<Entry>, entry: Entry)
-    requires { vec_len entries.old < vec_capacity entries.old }
-    ensures items { entries.new.items ≡ entries.old.items ++ entry ∷ [] }
-    ensures len { vec_len entries.new ≡ vec_len entries.old + 1 }
-    ensures capacity { vec_capacity entries.old ≤ vec_capacity entries.new }
-{
-    if entries.push(entry).is_err() {
-        unreachable!()
-    }
 }
 
 #[cfg(test)]

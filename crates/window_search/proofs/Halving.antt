@@ -1,5 +1,5 @@
 -- Halving n places takes t steps, with 2 ^ t at most twice n: while `count` places are left, 2 ^ t * (count - 1) is at most n - 1, and each step halves count - 1.
-use Rattle.std.proofs.Common.{◌≡◌, ℕ, ◌+◌, ◌-◌, ◌*◌, ◌/◌, ◌^◌, ◌<◌, ◌≤◌, ap, ◌∙◌, add-one, arith}
+use Rattle.std.proofs.Common.{◌≡◌, ℕ, ◌+◌, ◌-◌, ◌*◌, ◌^◌, ◌<◌, ◌≤◌, ap, ◌∙◌, add-one, arith}
 use Rattle.std.proofs.Math.Nat.{pow-suc, mul-le-mul_left}
 
 -- from `before` to `now` the steps so far, with `count` of the places left

@@ -1,5 +1,5 @@
 -- What a sink gains.
-use Rattle.std.specs.Prelude.{◌≡◌, ◌⊎◌, ℕ, List, [], ◌++◌, true, false, Option, Some, IfSome, Result, Ok, Err, ⊤}
+use Rattle.std.specs.Prelude.{◌≡◌, ◌⊎◌, ℕ, List, ◌++◌, true, false, Option, Some, IfSome, Result, Ok, Err, ⊤}
 use Rattle.std.specs.List.{concat}
 use Rattle.edge.specs.Risen.{HasRisen}
 use Rattle.edge.specs.declared.sink.Sink.{Ghosts}

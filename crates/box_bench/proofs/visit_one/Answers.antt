@@ -1,5 +1,5 @@
 -- The codes of a stretch are among all codes, and so of the same dimension.
-use Rattle.std.proofs.Common.{◌≡◌, ◌<◌, ◌++◌, ℕ, List, length, drop, sym, subst, length-append, arith}
+use Rattle.std.proofs.Common.{◌++◌, ℕ, List, drop, sym, subst, length-append, arith}
 use Rattle.std.specs.Prelude.{All}
 use Rattle.std.proofs.lemmas.List.{get_or_append_left}
 use Rattle.std.proofs.lemmas.List.Elements.{All-same, All-filter, All-drop}

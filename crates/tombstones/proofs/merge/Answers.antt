@@ -7,6 +7,6 @@ pub loop-entry-preserved-then-is_kept : goal.loop-entry-preserved-then-is_kept
 loop-entry-preserved-then-is_kept c =
     let taken = c.in-Some.ensures in
     record {
-      under_way = rw c.push_within_capacity.ensures.items (under_way_push _ _ _ _ _ _ _ _ _ c.loop-entry.invariant.under_way taken.newer_ascending taken.older_ascending taken.least taken.taken c.if-is_kept.ensures);
+      under_way = rw c.push_reserved.ensures.items (under_way_push _ _ _ _ _ _ _ _ _ c.loop-entry.invariant.under_way taken.newer_ascending taken.older_ascending taken.least taken.taken c.if-is_kept.ensures);
       room = omega arith;
     }

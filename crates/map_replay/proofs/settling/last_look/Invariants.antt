@@ -1,5 +1,4 @@
 -- what is known begins with what was known, and with what the note tells
-use Rattle.std.proofs.Common.{◌≡◌}
 use mathlib.Core.List.{IsPrefix}
 use Rattle.map_replay.proofs.settling.last_look.Given as goal
 

@@ -1,5 +1,5 @@
 -- each reader saw all, or still has its last look to take
-use Rattle.std.proofs.Common.{◌≡◌, ◌+◌, ◌≤◌, ◌∷◌, [], ◌++◌, List, ℕ, All, vec_len, vec_capacity}
+use Rattle.std.proofs.Common.{◌≡◌, ◌+◌, ◌≤◌, List, ℕ, All, vec_len, vec_capacity}
 use Rattle.log_levels.specs.declared.update.Update.{Update}
 use Rattle.published.specs.Histories.{updates_of}
 use Rattle.map_replay.specs.declared.question.Question.{Question}

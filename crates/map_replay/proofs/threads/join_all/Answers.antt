@@ -1,4 +1,4 @@
-use Rattle.std.proofs.Common.{◌≡◌, ◌+◌, ◌≤◌, Some, All, vec_len, arith}
+use Rattle.std.proofs.Common.{Some, arith}
 use Rattle.std.proofs.lemmas.List.Elements.{All-pop, All-push}
 use Rattle.map_replay.specs.Crews.{HasAsked, IsOf}
 use Rattle.map_replay.proofs.threads.join_all.Goals as goal

@@ -1,7 +1,6 @@
-use Rattle.std.proofs.Common.{◌≡◌, ◌+◌, ◌<◌, ◌++◌, ◌∷◌, [], List, length, take, get_or, refl, sym, ap, subst, ◌∙◌, arith}
+use Rattle.std.proofs.Common.{◌≡◌, ◌+◌, ◌++◌, ◌∷◌, [], List, length, take, get_or, refl, sym, ap, subst, ◌∙◌, arith}
 use Rattle.std.proofs.lemmas.List.{take_more}
 use mathlib.Core.List.{IsPrefix}
-use Rattle.log_levels.specs.declared.update.Update.{Update}
 use Rattle.log_levels.specs.Maps.{map_after}
 use Rattle.published.specs.Histories.{Front, updates_of}
 use Rattle.published.proofs.CallerLemmas.{prefix_self, prefix_trans}

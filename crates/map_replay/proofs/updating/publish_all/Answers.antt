@@ -1,12 +1,11 @@
-use Rattle.std.proofs.Common.{◌≡◌, ◌∙◌, ◌+◌, ◌-◌, ◌*◌, ◌≤◌, ◌<◌, ◌++◌, ◌∷◌, [], ℕ, List, length, take, drop, min, ap, sym, subst, refl, arith}
+use Rattle.std.proofs.Common.{◌≡◌, ◌∙◌, ◌+◌, ◌-◌, ◌*◌, ◌<◌, ◌++◌, ◌∷◌, [], ℕ, List, length, take, drop, min, ap, sym, arith}
 use Rattle.std.proofs.lemmas.List.{length-take, length-drop}
 use Rattle.log_levels.specs.declared.update.Update.{Update}
 use Rattle.log_levels.specs.Accepted.{entries_of}
 use Rattle.published.specs.Histories.{updates_of}
 use Rattle.published.specs.Writers.{Written}
 use Rattle.published.proofs.CallerLemmas.{updates_of-snoc}
-use Rattle.map_replay.specs.Watching.{AreBatches}
-use Rattle.map_replay.proofs.BatchLemmas.{AreFull, around, batch_more, batches_more, fewer_entries, full_more}
+use Rattle.map_replay.proofs.BatchLemmas.{around, batch_more, batches_more, fewer_entries, full_more}
 use Rattle.map_replay.proofs.updating.publish_all.Goals as goal
 
 pub publish_batch-requires-clause-fits : goal.publish_batch-requires-clause-fits

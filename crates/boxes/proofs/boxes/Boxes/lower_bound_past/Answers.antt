@@ -1,5 +1,5 @@
 -- The end of the jump is among the near codes, or all codes are below the one that is looked for.
-use Rattle.std.proofs.Common.{◌≡◌, ◌∙◌, ◌+◌, ◌-◌, ◌<◌, ◌≤◌, ℕ, length, slice_index, ap, subst, arith}
+use Rattle.std.proofs.Common.{◌≡◌, ◌∙◌, ◌-◌, ◌<◌, ℕ, length, slice_index, ap, subst, arith}
 use Rattle.boxes.proofs.LookedLemmas.{bound_among, bound_at_end}
 use Rattle.boxes.proofs.boxes.Boxes.lower_bound_past.Goals as goal
 

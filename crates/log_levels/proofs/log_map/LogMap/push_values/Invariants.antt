@@ -1,0 +1,36 @@
+-- Each key so far has its level, and then its value.
+use Rattle.std.proofs.Common.{◌≡◌, ◌+◌, ◌++◌, ◌<◌, ◌≤◌, ℕ, List, length, map, take, slice_index}
+use Rattle.std.specs.Prelude.{vec_len, vec_capacity}
+use Rattle.tombstones.specs.declared.entry.Entry.{Entry}
+use Rattle.log_levels.specs.Shapes.{IsCutOf, last_at}
+use Rattle.log_levels.specs.Kept.{HasReached, value_of}
+use Rattle.log_levels.proofs.log_map.LogMap.push_values.Given as goal
+
+abbrev pub invariant-loop-lane : goal.invariant-loop-lane
+invariant-loop-lane l = record {
+  lanes : length l.levels ≡ 16;
+  reached : (k : ℕ) → k < l.lane → HasReached l.self (slice_index l.keys k) (slice_index l.levels k);
+}
+
+abbrev pub invariant-loop-lane-2 : goal.invariant-loop-lane-2
+invariant-loop-lane-2 l = length l.places ≡ 16
+
+abbrev pub invariant-loop-lane-3 : goal.invariant-loop-lane-3
+invariant-loop-lane-3 l = length l.places ≡ 16
+
+abbrev pub invariant-loop-shift : goal.invariant-loop-shift
+invariant-loop-shift l = record {
+  lanes : length l.places ≡ 16;
+  few : l.shift ≤ 8;
+}
+
+abbrev pub decreases-loop-shift : goal.decreases-loop-shift
+decreases-loop-shift l = l.shift
+
+abbrev pub invariant-loop-lane-4 : goal.invariant-loop-lane-4
+invariant-loop-lane-4 l = record {
+  values : (entries : List Entry) → IsCutOf l.self entries → l.into.items ≡ l.initial.into.items ++ map (λ key. value_of (last_at entries key)) (take l.lane l.keys);
+  count : vec_len l.into ≡ vec_len l.initial.into + l.lane;
+  room : vec_len l.initial.into + length l.keys ≤ vec_capacity l.into;
+  capacity : vec_capacity l.initial.into ≤ vec_capacity l.into;
+}
