@@ -188,8 +188,8 @@ fn fill_find_line(line: &mut TextLine, question: u64, position: u32)
 {
     line.clear();
     line.push(b"find");
-    line.push_number(question);
-    line.push_number(position);
+    line.push_u64(question);
+    line.push_u64(u64::from(position));
     line.push(b"\n");
 }
 
@@ -198,8 +198,8 @@ fn fill_window_line(line: &mut TextLine, level: u32, low: u32, high: u32)
 {
     line.clear();
     line.push(b"window");
-    line.push_number(level);
-    line.push_number(low);
-    line.push_number(high);
+    line.push_u64(u64::from(level));
+    line.push_u64(u64::from(low));
+    line.push_u64(u64::from(high));
     line.push(b"\n");
 }

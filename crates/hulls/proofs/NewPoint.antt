@@ -447,7 +447,7 @@ StandsFor-one hulls p eps place x y ascends inside low last bound bounded steep 
 
 -- a point that turns neither line is taken in by moving on
 passed : Hulls → ℕ → Hulls
-passed hulls last = record { steep = hulls.steep; flat = hulls.flat; eps = hulls.eps; last = last; calm = hulls.calm }
+passed hulls last = record { steep = hulls.steep; flat = hulls.flat; eps = hulls.eps; last = last }
 
 StandsFor-passes : (hulls : Hulls) (p : Points) (eps s e x y : ℕ) → y < 2 ^ 32 → IsNext hulls p eps s e x y →
     IsAtMost hulls.steep.slope.slope (steep_slope p eps (lower_of hulls.steep) e) →
@@ -509,9 +509,9 @@ between_ends hulls p eps s e count x y x_last y_last j next from to =
       omega (arith, next.last_y, ascends.y_never_falls j last (omega (arith, to)) (omega (arith, next.some, next.more))),
     )
 
-pub ends_in_order : (hulls : Hulls) (p : Points) (eps s e count x y x_last y_last : ℕ) → AreNext hulls p eps s e count x y x_last y_last → x ≤ x_last
+pub ends_in_order : (hulls : Hulls) (p : Points) (eps s e count x y x_last y_last : ℕ) → AreNext hulls p eps s e count x y x_last y_last → (x ≤ x_last) × (y ≤ y_last)
 ends_in_order hulls p eps s e count x y x_last y_last next =
-    let ends = between_ends hulls p eps s e count x y x_last y_last e next (omega arith) (omega (arith, next.some)) in omega (arith, ends.0, ends.1)
+    let ends = between_ends hulls p eps s e count x y x_last y_last e next (omega arith) (omega (arith, next.some)) in (omega (arith, ends.0, ends.1), omega (arith, ends.2, ends.3))
 
 -- none of them turns a line that none turns which lies between the corners
 pub passes_steep : (hulls : Hulls) (p : Points) (eps s e count x y x_last y_last lift : ℕ) → AreNext hulls p eps s e count x y x_last y_last → lift ≡ 2 * eps →
@@ -535,7 +535,7 @@ passes_flat hulls p eps s e count x y x_last y_last lift next lifted stays j fro
 pub StandsFor-block : (hulls : Hulls) (p : Points) (eps s e count x y x_last y_last : ℕ) → y_last < 2 ^ 32 → AreNext hulls p eps s e count x y x_last y_last →
     ((j : ℕ) → e ≤ j → j < e + count → IsAtMost hulls.steep.slope.slope (steep_slope p eps (lower_of hulls.steep) j)) →
     ((j : ℕ) → e ≤ j → j < e + count → IsAtMost hulls.flat.slope.slope (steep_slope (mirrored p) eps (lower_of hulls.flat) j)) →
-    StandsFor (record { steep = hulls.steep; flat = hulls.flat; eps = hulls.eps; last = hulls.last + count; calm = hulls.calm }) p eps s (e + count)
+    StandsFor (record { steep = hulls.steep; flat = hulls.flat; eps = hulls.eps; last = hulls.last + count }) p eps s (e + count)
 unfolding passed
 StandsFor-block hulls p eps s e count x y x_last y_last low next steep flat =
     StandsFor-passes_all hulls p eps s e count next.stands next.more

@@ -4,8 +4,8 @@ ghost use Rattle.exact_cross.specs.Points.{Points, IsAscending};
 ghost use Rattle.exact_cross.specs.Lines.{SomeLineFits};
 ghost use Rattle.exact_cross.specs.Steep.{IsSteepOf, line_of_pair};
 ghost use Rattle.exact_cross.specs.Cuts.{IsCutOf};
-ghost use Rattle.hulls.specs.Hulls.{MatchOffer, mirrored, bound_of, room_of, spare, is_calm};
-ghost use Rattle.hulls.specs.Hulls.{StandsFor, IsNext, AreNext, IsOutside};
+ghost use Rattle.hulls.specs.Hulls.{MatchOffer, MatchTaken, mirrored, bound_of, room_of, spare};
+ghost use Rattle.hulls.specs.Hulls.{StandsFor, IsNext, AreNext, IsOutside, TurnsNeither, NoneTurns};
 ghost use Rattle.hulls.specs.Hull.{IsHullOf, IsUnderLine, IsNextVertex, lower_of};
 ghost use Rattle.std.specs.Bool.{OnTrue, OnFalse};
 ghost use Rattle.exact_cross.specs.declared.segment.Side.TheVariants.{Over, Under};
@@ -20,9 +20,12 @@ use std::sync::ledger::Ledger;
 /// The answer to a point that is offered.
 #[derive(Clone, Copy, Debug, PartialEq, Eq)]
 pub enum Offer {
-    /// Some line fits the run with the point, which belongs to the run from now on.
-    Extended,
-    /// No line does, as the witness shows. The run is as before.
+    /// Some line fits the run with the point, which belongs to the run from now on. Both lines stay
+    /// as they are.
+    Calm,
+    /// The same, but the point turns the steep line or the flat one.
+    Turned,
+    /// No line fits the run with the point, as the witness shows. The run is as before.
     Cut(Witness),
 }
 
@@ -40,8 +43,6 @@ pub struct Hulls {
     eps: u32,
     /// The last place of the run.
     last: u32,
-    /// Whether the last point that was offered and taken in turned neither line.
-    calm: bool,
 }
 
 impl Hulls {
@@ -66,7 +67,6 @@ impl Hulls {
             flat,
             eps,
             last: 0,
-            calm: false,
         })
     }
 
@@ -91,14 +91,6 @@ impl Hulls {
             place,
         });
         self.last = place;
-        self.calm = false;
-    }
-
-    /// Whether the last point that was offered turned neither line.
-    pub fn is_calm(&self) -> bool
-        ensures { result ≡ is_calm self.now }
-    {
-        self.calm
     }
 
     /// Whether some line fits the run with its next point `(x, y)`, exactly, and if so takes the
@@ -129,8 +121,10 @@ impl Hulls {
         ensures cost { MatchOffer result
             (steps.new + spare self.new ≤ steps.old + spare self.old + 11)
             (λ _. steps.new ≤ steps.old + 2) }
-        ensures calm { OnTrue (is_calm self.new) (MatchOffer result
-            (steps.new + spare self.new ≤ steps.old + spare self.old + 3) (λ _. ⊤)) }
+        ensures calm { MatchTaken result
+            (steps.new + spare self.new ≤ steps.old + spare self.old + 3) ⊤ }
+        ensures turned { MatchTaken result (TurnsNeither self.old x y)
+            (TurnsNeither self.old x y → ⊥) }
         ensures room { room_of self.old ≤ room_of self.new }
         ensures bound { bound_of self.new ≡ bound_of self.old }
     {
@@ -155,20 +149,19 @@ impl Hulls {
         // Most points turn neither line, and then nothing else changes.
         if !falls {
             if !rises {
-                self.calm = true;
-                return Offer::Extended;
+                return Offer::Calm;
             }
         }
-        self.calm = false;
         // A point that leaves the flat line as it is can be no lower place of a later steep pair,
         // and the other way round.
         self.steep.go_on(point, falls, rises, lift, steps);
         self.flat.go_on(mirrored, rises, falls, lift, steps);
-        Offer::Extended
+        Offer::Turned
     }
 
-    /// Takes in the next `count` points at once, from `(x, y)` to `(x_last, y_last)`, where it is
-    /// sure that they turn neither line. Else it answers `false`, and the run is as before.
+    /// Takes in the next `count` points at once, from `(x, y)` to `(x_last, y_last)`, where no
+    /// point of the rectangle between these two turns a line. Else, even if none of the points
+    /// themselves does, it answers `false`, and the run is as before.
     ///
     /// It takes at most two steps, which are tests of corners: none of these points lies lower than
     /// the first y at the last x, and none higher than the last y at the first x. Takes no memory.
@@ -188,6 +181,8 @@ impl Hulls {
             AreNext self.old p eps s e count x y x_last y_last →
             StandsFor self.new p eps s (e + count)) }
         ensures same { OnFalse result (self.new ≡ self.old) }
+        ensures calm { OnTrue result (NoneTurns self.old x y x_last y_last) }
+        ensures turned { OnFalse result (NoneTurns self.old x y x_last y_last → ⊥) }
         ensures spare { spare self.new ≡ spare self.old }
         ensures cost { steps.new ≤ steps.old + 2 }
         ensures room { room_of self.new ≡ room_of self.old }

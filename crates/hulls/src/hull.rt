@@ -154,13 +154,16 @@ impl Hull {
             ((q : Points) (eps s e : ℕ) → IsHullOf q eps s e self.now → IsNextVertex q e next →
             lift ≡ 2 * eps
             → IsAtMost self.now.slope.slope (steep_slope q eps (lower_of self.now) e)) }
+        ensures above { OnFalse result
+            (StaysUnder self.now.low self.now.slope.slope next.x next.height lift) }
+        ensures below { OnTrue result
+            (StaysUnder self.now.low self.now.slope.slope next.x next.height lift → ⊥) }
         ensures step { steps.new ≡ steps.old + 1 }
     {
         CountedSlope::between(self.low, next, lift).is_below(&self.slope, steps)
     }
 
-    /// Whether it is sure that no point turns the pair which lies from `first` to `last` and no
-    /// lower than both.
+    /// Whether no point turns the pair which lies from `first` to `last` and no lower than both.
     ///
     /// Beside a line that rises such a point lies nowhere lower than at the last x, and beside one
     /// that falls at the first. `lift` is twice the error bound.
@@ -179,6 +182,8 @@ impl Hull {
         ensures stay { OnTrue result
             ((x height : ℕ) → first.x ≤ x → x ≤ last.x → min first.height last.height ≤ height →
             StaysUnder self.now.low self.now.slope.slope x height lift) }
+        ensures turn { OnFalse result (((x : ℕ) → first.x ≤ x → x ≤ last.x → StaysUnder self.now.low
+            self.now.slope.slope x (min first.height last.height) lift) → ⊥) }
         ensures step { steps.new ≡ steps.old + 1 }
     {
         let x = if self.slope.declines() {

@@ -35,7 +35,8 @@ impl Hull {
     )
         requires next { (q : Points) × (eps : ℕ) × (s : ℕ) × (e : ℕ) × IsHullOf q eps s e self.old ×
             IsNextVertex q e (record { x = x; height = height; place = place }) ×
-            (lift ≡ 2 * eps) × (eps ≤ MAX_EPSILON) × (e < s + room_in self.old) × IsFittable q eps s e ×
+            (lift ≡ 2 * eps) × (eps ≤ MAX_EPSILON) × (e < s + room_in self.old) ×
+            IsFittable q eps s e ×
             (IsAtMost self.old.slope.slope (steep_slope q eps (lower_of self.old) e) → ⊥) ×
             OnFalse stands_out (IsShadowed q eps s e) }
         ensures hull { (q : Points) (eps s e : ℕ) → IsHullOf q eps s e self.old →

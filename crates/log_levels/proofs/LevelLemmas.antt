@@ -73,6 +73,14 @@ read-found keys list entries key place same_keys same ascending inside here =
     let key_is : e.key ≡ key = sym (key-at entries place 0 no_entry fits) ∙ ap (λ (l : List ℕ). slice_index_or l place 0) (sym same_keys) ∙ here in
     ap (λ (l : List Entry). Some (slice_index_or l place no_entry)) same ∙ sym (found-at entries key place e ascending fits is key_is)
 
+pub found-in : (list entries : List Entry) (key place : ℕ) → list ≡ entries → IsAscending entries → place < length list → (slice_index_or list place no_entry).key ≡ key → entry_at entries key ≡ Some (slice_index_or list place no_entry)
+found-in list entries key place same ascending inside here =
+    let e = slice_index_or list place no_entry in
+    let size = ap (λ (l : List Entry). length l) same in
+    let fits : place < length entries = omega (arith, inside, size) in
+    let is : slice_index_or entries place e ≡ e = get_or_default entries place e no_entry fits ∙ ap (λ (l : List Entry). slice_index_or l place no_entry) (sym same) in
+    found-at entries key place e ascending fits is here
+
 pub read-missing : (keys : List ℕ) (entries : List Entry) (key place : ℕ) → keys ≡ level_keys entries → IsAscending entries → place ≡ lb (level_keys entries) key → (slice_index_or keys place 0 ≡ key → ⊥)
     → None ≡ entry_at entries key
 read-missing keys entries key place same ascending at other =

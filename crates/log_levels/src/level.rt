@@ -39,13 +39,25 @@ pub const WINDOW_SHIFT: u32 = 8;
 /// These places.
 const WINDOW: usize = 256;
 
-/// The entries of a level, by rising key, with the index of their keys and a filter of them. Seen
-/// as the entries. It is never changed.
+/// So many entries are a group. The last key of each is its fence.
+const GROUP: usize = 8;
+
+/// Behind so many fences or fewer of those from the first group on stands a key, by its index: it
+/// leaves `2ε + 3` places.
+const FENCES: usize = 17;
+
+/// The entries of a level, by rising key, with the index of their keys, the fences between groups
+/// of them and a filter of them. Seen as the entries. It is never changed.
+///
+/// Fences lie close together and in a near cache, and a group in few lines: so a search reads far
+/// memory once, where one among keys does at each halving, and then for the entry. No clause says
+/// of fences where anything is; what is found by them is looked at.
 #[derive(Drop)]
 pub struct Level {
     entries: Vec<Entry>,
     index: Index,
     filter: Filter,
+    fences: Vec<u64>,
 }
 
 impl Model for Level {
@@ -79,10 +91,12 @@ impl Level {
         let keys = keys_of(alloc, &entries)?;
         let index = builder.index(keys)?;
         let filter = Filter::of(alloc, &entries)?;
+        let fences = fences_of(alloc, &entries)?;
         Ok(Level {
             entries,
             index,
             filter,
+            fences,
         })
     }
 
@@ -159,42 +173,39 @@ impl Level {
         self.filter.passes(hash)
     }
 
-    /// Where a search for a key in step with others begins. It tells nothing.
+    /// The first of the groups among which a key is, by the index. It tells nothing.
     #[inline(always)]
-    pub fn hint(&self, q: u64) -> usize {
-        let keys = self.keys();
-        if keys.len() <= SHORT {
-            return lower_of(keys, q);
+    pub fn first_group(&self, key: u64) -> usize {
+        if self.keys().is_empty() {
+            return 0;
         }
-        (self.index.start_near(q) as usize).min(keys.len() + 1 - WINDOW)
+        self.index.start_near(key) as usize / GROUP
     }
 
-    /// A step of such a search. It tells nothing.
+    /// The group of a key, from the first one on, by the fences. It tells nothing.
     #[inline(always)]
-    pub fn nearer(&self, place: usize, q: u64, shift: u32) -> usize
-        requires { shift < 64 }
-    {
-        let keys = self.keys();
-        let probe = place.wrapping_add((1 << shift) - 1);
-        if keys.len() <= SHORT || probe >= keys.len() {
-            return place;
+    pub fn group_from(&self, first: usize, key: u64) -> usize {
+        let fences = self.fences.as_slice();
+        if fences.len() < FENCES {
+            return below(fences, key);
         }
-        place.wrapping_add(usize::from(keys[probe] < q) << shift)
+        let first = first.min(fences.len() - FENCES);
+        first.wrapping_add(below(&fences[first..first + FENCES], key))
     }
 
-    /// The entry with a key, if it stands at this place.
+    /// The entry with a key, if it stands in this group.
     #[inline(always)]
-    pub fn entry_at(&self, place: usize, key: u64) -> Option<&Entry>
+    pub fn entry_in(&self, group: usize, key: u64) -> Option<&Entry>
         ensures { IfSome result (λ entry. entry_at self.now key ≡ Some entry.now) }
     {
-        let keys = self.keys();
-        if place >= keys.len() {
-            return None;
-        }
-        if keys[place] != key {
-            return None;
-        }
         let entries = self.entries();
+        let place = place_in(entries, group, key);
+        if place >= entries.len() {
+            return None;
+        }
+        if entries[place].key != key {
+            return None;
+        }
         Some(&entries[place])
     }
 
@@ -207,7 +218,11 @@ impl Level {
         if !self.may_have(key, hash) {
             return None;
         }
-        self.entry_from(self.place(key), key)
+        let group = self.group_from(self.first_group(key), key);
+        match self.entry_in(group, key) {
+            Some(entry) => Some(entry),
+            None => self.entry_from(self.place(key), key),
+        }
     }
 
     /// The same, where the place of the key is known.
@@ -278,4 +293,39 @@ fn keys_of(alloc: Global, entries: &[Entry]) -> Result<Keys, NoMemory>
         keys.push_reserved(entry.key);
     }
     Keys::of(alloc, keys)
+}
+
+/// The fences between groups of entries.
+fn fences_of(alloc: Global, entries: &[Entry]) -> Result<Vec<u64>, NoMemory> {
+    let count = entries.len() / GROUP;
+    let mut fences = Vec::with_capacity(alloc, count)?;
+    for i in 0..count {
+        fences.push(entries[i * GROUP + (GROUP - 1)].key)?;
+    }
+    Ok(fences)
+}
+
+/// How many of some keys are below a key.
+#[inline(always)]
+fn below(keys: &[u64], key: u64) -> usize {
+    let mut count = 0usize;
+    for other in keys {
+        count = count.wrapping_add(usize::from(*other < key));
+    }
+    count
+}
+
+/// Where a key stands in a whole group of entries, if it does, or the end of the entries.
+#[inline(always)]
+fn place_in(entries: &[Entry], group: usize, key: u64) -> usize {
+    let len = entries.len();
+    if group >= len / GROUP {
+        return len;
+    }
+    let first = group * GROUP;
+    let mut place = first;
+    for entry in &entries[first..first + GROUP] {
+        place = place.wrapping_add(usize::from(entry.key < key));
+    }
+    place
 }

@@ -9,7 +9,6 @@ ghost use Rattle.log_levels.specs.Shapes.{IsCutOf, StandsFor, last_at};
 ghost use Rattle.log_levels.specs.Kept.{HasReached, value_of};
 
 use crate::filter::hash;
-use crate::level::WINDOW_SHIFT;
 use crate::log_map::LogMap;
 use crate::questions::last_of;
 
@@ -47,22 +46,18 @@ impl LogMap {
         ensures capacity { vec_capacity into.old ≤ vec_capacity into.new }
     {
         let mut levels = [0; LANES];
-        let mut places = [0; LANES];
+        let mut groups = [0; LANES];
         for lane in 0..keys.len() {
             levels[lane] = self.first_that_may(keys[lane]);
         }
         for lane in 0..keys.len() {
-            places[lane] = self.hint(levels[lane], keys[lane]);
-        }
-        let mut shift = WINDOW_SHIFT;
-        while shift > 0 {
-            shift -= 1;
-            for lane in 0..keys.len() {
-                places[lane] = self.nearer(levels[lane], places[lane], keys[lane], shift);
-            }
+            groups[lane] = self.first_group(levels[lane], keys[lane]);
         }
         for lane in 0..keys.len() {
-            into.push_reserved(self.value_by(levels[lane], places[lane], keys[lane]));
+            groups[lane] = self.group_from(levels[lane], groups[lane], keys[lane]);
+        }
+        for lane in 0..keys.len() {
+            into.push_reserved(self.value_by(levels[lane], groups[lane], keys[lane]));
         }
     }
 
@@ -84,30 +79,28 @@ impl LogMap {
         depth
     }
 
-    /// Where the search for a key in a level begins. It tells nothing.
+    /// The first of the groups among which a key is in a level. It tells nothing.
     #[inline(always)]
-    fn hint(&self, i: usize, key: u64) -> usize {
+    fn first_group(&self, i: usize, key: u64) -> usize {
         match self.level(i) {
-            Some(level) => level.hint(key),
+            Some(level) => level.first_group(key),
             None => 0,
         }
     }
 
-    /// A step of the search. It tells nothing.
+    /// The group of a key in a level, from the first one on. It tells nothing.
     #[inline(always)]
-    fn nearer(&self, i: usize, place: usize, key: u64, shift: u32) -> usize
-        requires { shift < 64 }
-    {
+    fn group_from(&self, i: usize, first: usize, key: u64) -> usize {
         match self.level(i) {
-            Some(level) => level.nearer(place, key, shift),
-            None => place,
+            Some(level) => level.group_from(first, key),
+            None => 0,
         }
     }
 
-    /// The value at a key, by the level that has it, if one has, and where it stands there, both of
-    /// which are looked at: else it is searched for once more.
+    /// The value at a key, by the level that has it, if one has, and its group there, both of which
+    /// are looked at: else it is searched for once more.
     #[inline(always)]
-    fn value_by(&self, i: usize, place: usize, key: u64) -> Option<u64>
+    fn value_by(&self, i: usize, group: usize, key: u64) -> Option<u64>
         requires { HasReached self.now key i }
         ensures { (entries : List Entry) → IsCutOf self.now entries →
             result ≡ value_of (last_at entries key) }
@@ -119,7 +112,7 @@ impl LogMap {
             return None;
         }
         if let Some(level) = self.level(i) {
-            if let Some(entry) = level.entry_at(place, key) {
+            if let Some(entry) = level.entry_in(group, key) {
                 return entry.value;
             }
         }

@@ -8,3 +8,4 @@ pub mod ScriptLemmas
 pub mod KindLemmas
 pub mod CutLemmas
 pub mod PlainLemmas
+pub mod EightLemmas

@@ -1,5 +1,5 @@
 -- A number at the front of a line. No public clause cites it.
-use Rattle.std.specs.Prelude.{◌≡◌, ℕ, ◌+◌, ◌<◌, ◌≤◌, true, false, List, [], ◌∷◌, length, take, slice_index, Some, None}
+use Rattle.std.specs.Prelude.{◌≡◌, ℕ, ◌+◌, ◌*◌, ◌<◌, ◌≤◌, true, false, List, [], ◌∷◌, length, take, slice_index, Some, None}
 use Rattle.std.specs.Char.{is_ascii_digit}
 use Rattle.std.specs.List.{list_all}
 use Rattle.std.specs.Str.Parse.{digits_value}
@@ -16,6 +16,16 @@ pub record HasDigits (word : List ℕ) (i value : ℕ) : Type 0 where
 pub record AreEightDigits (word : List ℕ) (at : ℕ) : Type 0 where
   pub within : at + 8 ≤ length word
   pub digits : (i : ℕ) → at ≤ i → i < at + 8 → is_ascii_digit (slice_index word i) ≡ true
+
+-- these numbers as the bytes of one, the first the lowest
+abbrev pub of_bytes : (a b c d e f g h : ℕ) → ℕ
+of_bytes a b c d e f g h = a + 256 * (b + 256 * (c + 256 * (d + 256 * (e + 256 * (f + 256 * (g + 256 * h))))))
+
+-- the eight bytes from this place on as one number, the first the lowest
+abbrev pub eight_bytes : List ℕ → ℕ → ℕ
+eight_bytes word at =
+    of_bytes (slice_index word at) (slice_index word (at + 1)) (slice_index word (at + 2)) (slice_index word (at + 3))
+    (slice_index word (at + 4)) (slice_index word (at + 5)) (slice_index word (at + 6)) (slice_index word (at + 7))
 
 -- and no digit follows
 pub record ReadsDigits (line : List ℕ) (len value : ℕ) : Type 0 where

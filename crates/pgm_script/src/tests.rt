@@ -35,7 +35,7 @@ const NO_COMMANDS: [(&[u8], u64, Why); 8] = [
 ];
 
 // .. and by its numbers.
-const NO_NUMBERS: [(&[u8], u64, Why); 10] = [
+const NO_NUMBERS: [(&[u8], u64, Why); 13] = [
     (b"find 1 2", 1, Why::Extra),
     (b"\nfind", 2, Why::Missing),
     (b"find -1", 1, Why::Number),
@@ -43,6 +43,9 @@ const NO_NUMBERS: [(&[u8], u64, Why); 10] = [
     (b"find 1x", 1, Why::Number),
     (b"find 18446744073709551616", 1, Why::Number),
     (b"find 100000000000000000000", 1, Why::Number),
+    (b"find 18446744073709551616\n", 1, Why::Number),
+    (b"find 00000000018446744073709551616\n", 1, Why::Number),
+    (b"find 99999999999999999999\n", 1, Why::Number),
     (b"find x y", 1, Why::Number),
     (b"find 1\r\r", 1, Why::Number),
     (b"find 1\x0b", 1, Why::Number),
@@ -76,6 +79,57 @@ fn no_numbers(rt: HostRuntime) -> Result<(), Fail> {
     for (text, line, why) in NO_NUMBERS {
         let parsed = parse(rt.alloc(), ScriptKind::Find, text);
         assert_eq!(rt; parsed.err(), Some(ScriptFault::At { line, why }));
+    }
+    Ok(())
+}
+
+// Numbers of each length, with and without leading zeros.
+#[test]
+fn lengths(rt: HostRuntime) -> Result<(), Fail> {
+    let digits = b"12345678901234567890";
+    let mut value = 0u64;
+    for len in 1..21 {
+        value = value
+            .wrapping_mul(10)
+            .wrapping_add(u64::from(digits[len - 1].wrapping_sub(48)));
+        for zeros in 0..20 {
+            let mut text = Vec::from_slice(rt.alloc(), b"find ")?;
+            for _ in 0..zeros {
+                text.push(b'0')?;
+            }
+            text.extend_from_slice(&digits[..len])?;
+            text.extend_from_slice(b"\nfind 7")?;
+            let finds: Finds = parse_as(rt.alloc(), ScriptKind::Find, &text)?;
+            assert_eq!(rt;
+                finds.numbers.as_slice(),
+                [value, 7].as_slice(),
+                "{len} {zeros}"
+            );
+        }
+    }
+    Ok(())
+}
+
+// A byte beside the digits, in each place of a number of 20 digits.
+#[test]
+fn no_digits(rt: HostRuntime) -> Result<(), Fail> {
+    for (byte, why) in [
+        (b'/', Why::Number),
+        (b':', Why::Number),
+        (b'\0', Why::Number),
+        (b'p', Why::Number),
+        (0xb0, Why::NotUtf8),
+    ] {
+        for place in 5..25 {
+            let mut text = Vec::from_slice(rt.alloc(), b"find 12345678901234567890\n")?;
+            text[place] = byte;
+            let parsed = parse(rt.alloc(), ScriptKind::Find, &text);
+            assert_eq!(rt;
+                parsed.err(),
+                Some(ScriptFault::At { line: 1, why }),
+                "{byte} {place}"
+            );
+        }
     }
     Ok(())
 }

@@ -1,14 +1,17 @@
 // Lines cut off a text, words cut off a line, and the numbers that words write.
 ghost use Rattle.std.specs.Prelude.{◌≡◌, ◌≢◌, ◌≤◌, ◌<◌, ◌+◌, ◌*◌, ◌^◌, ℕ, [], ◌∷◌, Ok, Err, true};
 ghost use Rattle.std.specs.Prelude.{false, not, IfSome, IfNone, length, take, slice_index};
-ghost use Rattle.std.specs.Prelude.{MatchResult, SomeIff, IsTrue, ◌-◌};
+ghost use Rattle.std.specs.Prelude.{MatchResult, SomeIff, IsTrue};
 ghost use Rattle.pgm_script.specs.Cuts.{HasDigits, AreEightDigits, ReadsDigits, HasTooGreat};
-ghost use Rattle.pgm_script.specs.Cuts.{BeginsWithNumber, BeginsWithout};
+ghost use Rattle.pgm_script.specs.Cuts.{BeginsWithNumber, BeginsWithout, eight_bytes};
 ghost use Rattle.std.specs.Char.{is_ascii_digit};
 ghost use Rattle.pgm_script.specs.Words.{is_blank, goes_on, lines_of, words_of};
 ghost use Rattle.pgm_script.specs.Scripts.{numbers_of};
 
 use crate::Why;
+
+// Eight bytes `0`.
+const EIGHT_ZEROS: u64 = 0x3030_3030_3030_3030;
 
 // The first line without its byte 10, and the text after it.
 pub(crate) fn cut_line(text: &[u8]) -> (&[u8], &[u8])
@@ -193,7 +196,8 @@ fn has_eight_digits(line: &[u8], at: usize) -> bool
     all
 }
 
-// The number that they write.
+// The number that they write. The eight bytes are taken as one number, less a `0` from each; in
+// every second byte of ten times that and the same a byte on stand the numbers of pairs of digits.
 #[inline]
 fn eight_digits(line: &[u8], at: usize) -> u64
     requires few { at ≤ 8 }
@@ -202,22 +206,30 @@ fn eight_digits(line: &[u8], at: usize) -> u64
         HasDigits line.now (at + 8) (number * 100000000 + result) }
     ensures small { result < 100000000 }
 {
-    let a = digit(line, at) * 10 + digit(line, at + 1);
-    let b = digit(line, at + 2) * 10 + digit(line, at + 3);
-    let c = digit(line, at + 4) * 10 + digit(line, at + 5);
-    let d = digit(line, at + 6) * 10 + digit(line, at + 7);
-    (a * 100 + b) * 10_000 + (c * 100 + d)
+    let digits = eight_bytes(line, at) - EIGHT_ZEROS;
+    let pairs = digits * 10 + (digits >> 8);
+    let first = pairs % 256 * 100 + (pairs >> 16) % 256;
+    let second = (pairs >> 32) % 256 * 100 + (pairs >> 48) % 256;
+    first * 10_000 + second
 }
 
-// The value of the digit in this place.
+// The eight bytes from this place on as one number, the first the lowest.
 #[inline]
-fn digit(line: &[u8], i: usize) -> u64
-    requires inside { i < length line.now }
-    requires digit { is_ascii_digit (slice_index line.now i) ≡ true }
-    ensures value { result ≡ slice_index line.now i - 48 }
-    ensures small { result < 10 }
+fn eight_bytes(line: &[u8], at: usize) -> u64
+    requires few { at ≤ 8 }
+    requires within { at + 8 ≤ length line.now }
+    ensures { result ≡ eight_bytes line.now at }
 {
-    u64::from(line[i] - b'0')
+    u64::from_le_bytes([
+        line[at],
+        line[at + 1],
+        line[at + 2],
+        line[at + 3],
+        line[at + 4],
+        line[at + 5],
+        line[at + 6],
+        line[at + 7],
+    ])
 }
 
 // The number with one more digit, where it fits.

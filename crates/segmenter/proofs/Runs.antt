@@ -1,6 +1,5 @@
 -- The run that the hulls stand for, as the longest run and its segment.
-use Rattle.std.proofs.Common.{◌≡◌, Bool, true, false, ℕ, ◌+◌, ◌*◌, ◌-◌, ◌<◌, ◌≤◌, List, length, slice_index, Some, refl, sym, subst, arith}
-use Rattle.std.specs.Bool.{OnTrue, OnFalse}
+use Rattle.std.proofs.Common.{◌≡◌, ℕ, ◌+◌, ◌-◌, ◌<◌, ◌≤◌, List, length, slice_index, Some, refl, sym, subst, arith}
 use Rattle.exact_cross.specs.declared.segment.Witness.{Witness}
 use Rattle.exact_cross.specs.declared.segment.Segment.{Segment}
 use Rattle.exact_cross.specs.Points.{Points, points_of}
@@ -30,9 +29,3 @@ HasItsCut-cut p eps to start e w segment starts cuts before own = record {
   last = λ at_end. absurd (omega arith);
   other = λ more. (w, cuts, subst (λ (s : ℕ). IsCutOf p eps s e w) (sym starts) own);
 }
-
--- a place that turned no line takes so few steps that it pays for a part of a test of several
-pub calm_cost : (calm : Bool) (after before old new : ℕ) → after ≤ before + 11 → OnTrue calm (after ≤ before + 3) → OnTrue calm (new ≤ old + 1) → OnFalse calm (new ≡ 0) →
-    after + 2 * new ≤ before + 2 * old + 11
-calm_cost true after before old new most few more none = omega (arith, few, more)
-calm_cost false after before old new most few more none = omega (arith, most, none)

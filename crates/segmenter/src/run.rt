@@ -1,7 +1,6 @@
 // The longest run from a place that some line fits.
 ghost use Rattle.std.specs.List.Sorted.{IsStrictlyIncreasing, IsNonDecreasing};
 ghost use Rattle.std.specs.Prelude.{◌≡◌, ℕ, ◌+◌, ◌*◌, ◌^◌, ◌<◌, ◌≤◌, length};
-ghost use Rattle.std.specs.Bool.{OnTrue, OnFalse};
 ghost use Rattle.exact_cross.specs.Points.{Points, points_of};
 ghost use Rattle.exact_cross.specs.Covers.{IsLongest};
 ghost use Rattle.exact_cross.specs.Segments.{IsSteepSegment};
@@ -76,28 +75,21 @@ pub fn longest_run<L: Ledger>(
             calm = 0;
             continue;
         }
-        if let Offer::Cut(witness) = hulls.offer(xs[place as usize], ys[place as usize], steps) {
-            let segment = segment_of(hulls, start, Some(witness));
-            return Run {
-                segment,
-                end: place,
-            };
-        }
-        calm = calm_after(calm, hulls.is_calm());
+        calm = match hulls.offer(xs[place as usize], ys[place as usize], steps) {
+            Offer::Calm => CALM.min(calm + 1),
+            Offer::Turned => 0,
+            Offer::Cut(witness) => {
+                let segment = segment_of(hulls, start, Some(witness));
+                return Run {
+                    segment,
+                    end: place,
+                };
+            }
+        };
         place += 1;
     }
     let segment = segment_of(hulls, start, None);
     Run { segment, end: to }
-}
-
-/// How many places in a row were calm, no more than are needed, by those before the last one.
-fn calm_after(calm: u32, is_calm: bool) -> u32
-    requires few { calm ≤ CALM }
-    ensures few { result ≤ CALM }
-    ensures more { OnTrue is_calm (result ≤ calm + 1) }
-    ensures none { OnFalse is_calm (result ≡ 0) }
-{
-    if is_calm { CALM.min(calm + 1) } else { 0 }
 }
 
 /// The segment of the run that the hulls stand for.

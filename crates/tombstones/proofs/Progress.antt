@@ -1,5 +1,5 @@
 -- A merge that is under way: entries were taken off two lists in rising order, and the kept ones stand in a third.
-use Rattle.std.proofs.Common.{◌≡◌, ℕ, ◌<◌, ◌≤◌, ◌==◌, Bool, true, false, if◌then◌else◌, List, [], ◌∷◌, ◌++◌, Option, Some, None, IsSome, refl, sym, ◌∙◌, inl, inr, arith}
+use Rattle.std.proofs.Common.{◌≡◌, ℕ, ◌<◌, ◌≤◌, ◌⊎◌, ◌==◌, Bool, true, false, if◌then◌else◌, List, [], ◌∷◌, ◌++◌, Option, Some, None, IsSome, is_some, MatchOption, refl, sym, ◌∙◌, inl, inr, arith}
 use Rattle.std.specs.List.{All}
 use Rattle.std.specs.Option.{option_or}
 use Rattle.std.proofs.lemmas.Bool.{cases_lt, false≢true}
@@ -62,3 +62,48 @@ under_way_push newer older deepest newer_left older_left merged newer_rest older
           let before : option_or (entry_at merged key) (kept deepest (if entry.key == key then Some entry else rest key)) ≡ kept deepest (winner_at newer older key) = rw (taken key) at (under_way.winners key) in
           rw (find-append (λ x. x.key == key) merged (entry ∷ [])) (step ∙ before);
     }
+
+-- a step that leaves its entry out
+pub under_way_drop : (newer older : List Entry) (deepest : Bool) (newer_left older_left merged newer_rest older_rest : List Entry) (entry : Entry)
+    → IsUnderWay newer older deepest newer_left older_left merged
+    → IsAscending newer_rest
+    → IsAscending older_rest
+    → ((key : ℕ) → key ≤ entry.key → winner_at newer_rest older_rest key ≡ None)
+    → ((key : ℕ) → winner_at newer_left older_left key ≡ (if entry.key == key then Some entry else winner_at newer_rest older_rest key))
+    → kept deepest (Some entry) ≡ None
+    → IsUnderWay newer older deepest newer_rest older_rest merged
+under_way_drop newer older deepest newer_left older_left merged newer_rest older_rest entry under_way newer_ascending older_ascending least taken drops =
+    let left = winner_at newer_left older_left in
+    let rest = winner_at newer_rest older_rest in record {
+      newer_ascending = newer_ascending;
+      older_ascending = older_ascending;
+      ascending = under_way.ascending;
+      above = λ key some. under_way.above key (left_before left rest entry least taken key some);
+      winners = λ key.
+          let same : kept deepest (left key) ≡ kept deepest (rest key) = grind (arith, nat_tests, taken key, least key) in
+          rw same at (under_way.winners key);
+    }
+
+-- an entry is kept as it is, or left out
+kept_or_not : (deepest : Bool) (entry : Entry) → (kept deepest (Some entry) ≡ Some entry) ⊎ (kept deepest (Some entry) ≡ None)
+kept_or_not false entry = inl refl
+kept_or_not true entry = elim (is_some entry.value) as (λ some. ((if some then Some entry else None) ≡ Some entry) ⊎ ((if some then Some entry else None) ≡ None)) [ true ↦ inl refl | false ↦ inr refl ]
+
+-- the same for any entry: it goes to the end, where it is kept
+pub under_way_step : (newer older : List Entry) (deepest : Bool) (newer_left older_left merged newer_rest older_rest after : List Entry) (entry : Entry)
+    → IsUnderWay newer older deepest newer_left older_left merged
+    → IsAscending newer_rest
+    → IsAscending older_rest
+    → ((key : ℕ) → key ≤ entry.key → winner_at newer_rest older_rest key ≡ None)
+    → ((key : ℕ) → winner_at newer_left older_left key ≡ (if entry.key == key then Some entry else winner_at newer_rest older_rest key))
+    → MatchOption (kept deepest (Some entry)) (after ≡ merged) (λ _. after ≡ merged ++ entry ∷ [])
+    → IsUnderWay newer older deepest newer_rest older_rest after
+under_way_step newer older deepest newer_left older_left merged newer_rest older_rest after entry under_way newer_ascending older_ascending least taken after_is =
+    elim (kept_or_not deepest entry) [
+      | inl keeps ↦
+          let is : after ≡ merged ++ entry ∷ [] = rw keeps at after_is in
+          rw is (under_way_push newer older deepest newer_left older_left merged newer_rest older_rest entry under_way newer_ascending older_ascending least taken keeps)
+      | inr drops ↦
+          let is : after ≡ merged = rw drops at after_is in
+          rw is (under_way_drop newer older deepest newer_left older_left merged newer_rest older_rest entry under_way newer_ascending older_ascending least taken drops)
+    ]

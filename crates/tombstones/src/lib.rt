@@ -20,7 +20,7 @@
 
 ghost use Rattle.std.specs.Prelude.{◌≡◌, ℕ, ◌+◌, ◌<◌, ◌≤◌, ◌++◌};
 ghost use Rattle.std.specs.Prelude.{◌∷◌, ◌↔◌, []};
-ghost use Rattle.std.specs.Prelude.{if◌then◌else◌, Some, None, IfOk, IsTrue};
+ghost use Rattle.std.specs.Prelude.{Some, IfOk, IsTrue, MatchOption};
 ghost use Rattle.std.specs.Prelude.{length, take, drop, All, vec_len, vec_capacity};
 ghost use Rattle.tombstones.specs.Entries.{IsAscending, entry_at, winner_at, kept};
 
@@ -31,7 +31,7 @@ mod remaining;
 pub use budget::NoMemory;
 pub use entry::Entry;
 pub use pieces::merge_in_pieces;
-use remaining::Remaining;
+use remaining::{Places, Remaining};
 use std::alloc::Global;
 
 /// Whether the keys rise strictly, as [`merge`] needs them. An empty list's do. Takes no memory.
@@ -79,21 +79,39 @@ pub fn merge(
         entry_at merged.items key ≡ kept deepest (winner_at newer.now older.now key)) }
 {
     let mut merged = Vec::with_capacity(alloc, newer.len() + older.len())?;
+    let mut places = Places { newer: 0, older: 0 };
+    'rounds: loop {
+        // So often both lists have an entry left, whichever of them lose theirs.
+        let mut sure = (newer.len() - places.newer).min(older.len() - places.older);
+        if sure == 0 {
+            break;
+        }
+        'steps: while sure > 0 {
+            let entry = places.take_lesser(newer, older);
+            push_kept(&mut merged, entry, deepest);
+            sure -= 1;
+        }
+    }
+    let (newer, older) = (&newer[places.newer..], &older[places.older..]);
     let mut remaining = Remaining { newer, older };
     while let Some(entry) = remaining.take_least() {
-        if is_kept(&entry, deepest) {
-            merged.push_reserved(entry);
-        }
+        push_kept(&mut merged, entry, deepest);
     }
     Ok(merged)
 }
 
-/// Whether a merge keeps the entry: all but tombstones, and these unless the result is the deepest
-/// list.
-fn is_kept(entry: &Entry, deepest: bool) -> bool
-    ensures { kept deepest (Some entry.now) ≡ (if result then Some entry.now else None) }
+/// Appends an entry, unless it is a tombstone and the result is the deepest list.
+#[inline(always)]
+fn push_kept(merged: &mut Vec<Entry>, entry: Entry, deepest: bool)
+    requires { vec_len merged.old < vec_capacity merged.old }
+    ensures items { MatchOption (kept deepest (Some entry)) (merged.new.items ≡ merged.old.items)
+        (λ _. merged.new.items ≡ merged.old.items ++ entry ∷ []) }
+    ensures len { vec_len merged.new ≤ vec_len merged.old + 1 }
+    ensures capacity { vec_capacity merged.new ≡ vec_capacity merged.old }
 {
-    !deepest || entry.value.is_some()
+    if !deepest || entry.value.is_some() {
+        merged.push_reserved(entry);
+    }
 }
 
 #[cfg(test)]

@@ -13,6 +13,51 @@ pub struct Remaining<'a> {
     pub older: &'a [Entry],
 }
 
+/// How many entries a merge has taken of its two lists.
+#[derive(Clone, Copy)]
+pub struct Places {
+    pub newer: usize,
+    pub older: usize,
+}
+
+impl Places {
+    /// Takes the winner of the lesser of the next keys of two lists, each of which has one.
+    ///
+    /// Where both lists have that key, the older entry goes with it.
+    #[inline(always)]
+    pub fn take_lesser(&mut self, newer: &[Entry], older: &[Entry]) -> Entry
+        requires newer_left { self.old.newer < length newer.now }
+        requires older_left { self.old.older < length older.now }
+        requires newer_ascending { IsAscending newer.now }
+        requires older_ascending { IsAscending older.now }
+
+        // The entry is the winner at its key, and at every other key the winner stays.
+        ensures taken { (key : ℕ) →
+            winner_at (drop self.old.newer newer.now) (drop self.old.older older.now) key ≡
+            (if result.key == key then Some result
+            else winner_at (drop self.new.newer newer.now) (drop self.new.older older.now) key) }
+
+        // Up to its key nothing is left.
+        ensures least { (key : ℕ) → key ≤ result.key →
+            winner_at (drop self.new.newer newer.now) (drop self.new.older older.now) key ≡ None }
+
+        // Each place moves by one at most, and one of them does.
+        ensures newer_place { self.new.newer ≤ self.old.newer + 1 }
+        ensures older_place { self.new.older ≤ self.old.older + 1 }
+        ensures moved { self.old.newer + self.old.older < self.new.newer + self.new.older }
+        ensures newer_from { self.old.newer ≤ self.new.newer }
+        ensures older_from { self.old.older ≤ self.new.older }
+    {
+        // The places move by the answers: of branches on them half were foretold wrongly.
+        let (new, old) = (&newer[self.newer], &older[self.older]);
+        let takes_new = new.key <= old.key;
+        let takes_old = old.key <= new.key;
+        self.newer += usize::from(takes_new);
+        self.older += usize::from(takes_old);
+        if takes_new { *new } else { *old }
+    }
+}
+
 impl Remaining<'_> {
     /// Takes the winner of the least key off the fronts of the lists, or none where both are empty.
     ///
@@ -41,13 +86,11 @@ impl Remaining<'_> {
             length self.old.newer.now + length self.old.older.now) }
     {
         match (self.newer.split_first(), self.older.split_first()) {
-            (Some((new, _)), Some((old, _))) => {
-                // The places move by the answers: of branches on them half were foretold wrongly.
-                let takes_new = new.key <= old.key;
-                let takes_old = old.key <= new.key;
-                let least = if takes_new { *new } else { *old };
-                self.newer = behind(self.newer, takes_new);
-                self.older = behind(self.older, takes_old);
+            (Some(_), Some(_)) => {
+                let mut places = Places { newer: 0, older: 0 };
+                let least = places.take_lesser(self.newer, self.older);
+                self.newer = &self.newer[places.newer..];
+                self.older = &self.older[places.older..];
                 Some(least)
             }
             (Some((new, newer)), None) => {
@@ -61,13 +104,4 @@ impl Remaining<'_> {
             (None, None) => None,
         }
     }
-}
-
-/// The entries without the first one, where it is taken.
-#[inline(always)]
-fn behind(entries: &[Entry], is_taken: bool) -> &[Entry]
-    requires { 0 < length entries.now }
-    ensures { result.now ≡ drop (from_bool is_taken) entries.now }
-{
-    &entries[usize::from(is_taken)..]
 }

@@ -9,6 +9,8 @@
 #![tactic(auto)]
 
 mod handing;
+#[cfg(test)]
+mod tests;
 mod text_line;
 mod unfinished;
 

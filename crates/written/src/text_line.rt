@@ -1,7 +1,7 @@
 // Room for one line of text, on the stack.
 ghost use Rattle.std.specs.Prelude.{◌≡◌, ◌+◌, ◌*◌, ◌≤◌, ◌++◌, ◌∷◌, [], length, decimal};
 
-use itoa::{Buffer, Integer};
+use itoa::{Buffer, Integer, write_digits};
 use std::marker::Model;
 
 /// The room of a text line, in bytes. No text line is longer.
@@ -63,6 +63,28 @@ impl TextLine {
         self.push(buffer.format(number).as_bytes());
     }
 
+    /// Adds a space and the number in decimal, at most twenty digits, as `push_number` does. The
+    /// digits are written where they stay, and not copied.
+    pub fn push_u64(&mut self, number: u64)
+        requires { length self.old + 1 + 20 ≤ LINE_ROOM }
+        ensures text { self.new ≡ self.old ++ 32 ∷ decimal number }
+        ensures room { length self.new ≤ length self.old + 1 + 20 }
+    {
+        self.push_digits(number);
+    }
+
+    // The same where there is room for the digits.
+    #[inline]
+    fn push_digits(&mut self, number: u64)
+        requires { length self.old + 1 + length (decimal number) ≤ LINE_ROOM }
+        ensures { self.new ≡ self.old ++ 32 ∷ decimal number }
+    {
+        let end = self.len + 1 + digit_count(number);
+        self.bytes[self.len] = b' ';
+        write_digits(number, &mut self.bytes, end);
+        self.len = end;
+    }
+
     /// Adds a label and two places, each a space and at most ten digits.
     pub fn push_places(&mut self, label: &[u8], first: u32, second: u32)
         requires { length self.old + length label.now + 2 * (1 + 10) ≤ LINE_ROOM }
@@ -71,8 +93,8 @@ impl TextLine {
         ensures room { length self.new ≤ length self.old + length label.now + 2 * (1 + 10) }
     {
         self.push(label);
-        self.push_number(first);
-        self.push_number(second);
+        self.push_digits(u64::from(first));
+        self.push_digits(u64::from(second));
     }
 
     /// The bytes of the line.
@@ -81,4 +103,15 @@ impl TextLine {
     {
         &self.bytes[..self.len]
     }
+}
+
+// How many digits write the number in decimal.
+#[inline]
+fn digit_count(number: u64) -> usize
+    ensures { result ≡ length (decimal number) }
+{
+    if number < 10 {
+        return 1;
+    }
+    number.ilog10() as usize + 1
 }

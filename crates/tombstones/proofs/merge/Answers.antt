@@ -1,12 +1,27 @@
--- A kept entry goes to the end: one step of the merge, and one place of the room.
+-- A step takes the least key off the lists, and its entry goes to the end where it is kept.
 use Rattle.std.proofs.Common.{arith}
-use Rattle.tombstones.proofs.Progress.{under_way_push}
+use Rattle.tombstones.proofs.Progress.{under_way_step}
+use Rattle.tombstones.proofs.TakingLemmas.{ascending_drop}
 use Rattle.tombstones.proofs.merge.Goals as goal
 
-pub loop-entry-preserved-then-is_kept : goal.loop-entry-preserved-then-is_kept
-loop-entry-preserved-then-is_kept c =
+pub rounds-smaller : goal.rounds-smaller
+rounds-smaller c = omega (arith, c.steps.invariant.moved)
+
+pub steps-preserved : goal.steps-preserved
+steps-preserved c =
+    let taken = c.take_lesser-entry.ensures in
+    record {
+      under_way = under_way_step _ _ _ _ _ _ _ _ _ _ c.steps.invariant.under_way (ascending_drop _ _ c.requires.newer_ascending) (ascending_drop _ _ c.requires.older_ascending) taken.least taken.taken c.push_kept.ensures.items;
+      room = omega (arith, c.push_kept.ensures.len);
+      newer_left = omega arith;
+      older_left = omega arith;
+      moved = omega arith;
+    }
+
+pub loop-entry-preserved : goal.loop-entry-preserved
+loop-entry-preserved c =
     let taken = c.in-Some.ensures in
     record {
-      under_way = rw c.push_reserved.ensures.items (under_way_push _ _ _ _ _ _ _ _ _ c.loop-entry.invariant.under_way taken.newer_ascending taken.older_ascending taken.least taken.taken c.if-is_kept.ensures);
-      room = omega arith;
+      under_way = under_way_step _ _ _ _ _ _ _ _ _ _ c.loop-entry.invariant.under_way taken.newer_ascending taken.older_ascending taken.least taken.taken c.push_kept-in-Some.ensures.items;
+      room = omega (arith, c.push_kept-in-Some.ensures.len);
     }

@@ -1,10 +1,11 @@
 -- The hulls stand for the run, place by place, until a place is refused.
-use Rattle.std.proofs.Common.{◌≡◌, ◌∙◌, ◌+◌, refl, arith}
+use Rattle.std.proofs.Common.{◌≡◌, ◌∙◌, refl, arith}
 use Rattle.exact_cross.specs.Points.{points_of}
 use Rattle.exact_cross.proofs.CallerLemmas.{IsAscending-points_of}
-use Rattle.hulls.specs.Hulls.{bound_of, spare}
+use Rattle.hulls.specs.Hulls.{bound_of}
 use Rattle.std.proofs.lemmas.Bool.{OnTrue_at, OnFalse_at}
-use Rattle.segmenter.proofs.Runs.{IsNext-place, AreNext-places, calm_cost, IsLongest-whole, IsLongest-cut, HasItsCut-cut}
+use Rattle.segmenter.proofs.Runs.{IsNext-place, AreNext-places, IsLongest-whole, IsLongest-cut, HasItsCut-cut}
+use Rattle.segmenter.proofs.run.longest_run.Goals.{in-Calm, in-Turned}
 use Rattle.segmenter.proofs.run.longest_run.Goals as goal
 
 pub loop-place-init : goal.loop-place-init
@@ -72,22 +73,29 @@ pub loop-place-preserved : goal.loop-place-preserved
 loop-place-preserved g c =
     let xs = c.args.xs.now in
     let ys = c.args.ys.now in
+    let eps = bound_of c.args.hulls.now in
     let so_far = c.loop-place.invariant in
-    let next = IsNext-place c.loop-place.hulls xs ys (bound_of c.args.hulls.now) c.args.start c.loop-place.place so_far.stands (omega arith) in
+    let next = IsNext-place c.loop-place.hulls xs ys eps c.args.start c.loop-place.place so_far.stands (omega arith) in
     record {
-      stands = c.in_default.ensures.stands (points_of xs ys) (bound_of c.args.hulls.now) c.args.start c.loop-place.place next;
+      stands = elim c.match-offer.branch [
+        | in-Calm w ↦ w.in-Calm.ensures.stands (points_of xs ys) eps c.args.start c.loop-place.place next
+        | in-Turned w ↦ w.in-Turned.ensures.stands (points_of xs ys) eps c.args.start c.loop-place.place next
+      ];
       within = omega arith;
       further = omega (arith, so_far.further);
-      cost = omega (
-        arith,
-        so_far.cost,
-        calm_cost c.is_calm.result (c.offer.new.steps + spare c.offer.new.self) (c.loop-place.steps + spare c.loop-place.hulls) c.loop-place.calm c.calm_after-calm.result
-            c.in_default.ensures.cost (rw c.is_calm.ensures c.in_default.ensures.calm) c.calm_after-calm.ensures.more c.calm_after-calm.ensures.none,
-      );
-      few_calm = c.calm_after-calm.ensures.few;
-      room = omega (arith, c.in_default.ensures.room, so_far.room);
-      bound = c.in_default.ensures.bound ∙ so_far.bound;
+      cost = elim c.match-offer.branch [
+        | in-Calm w ↦ omega (arith, so_far.cost, w.in-Calm.ensures.calm, w.calm-is, w.min-calm.ensures)
+        | in-Turned w ↦ omega (arith, so_far.cost, w.in-Turned.ensures.cost, w.calm-is)
+      ];
+      few_calm = elim c.match-offer.branch [ in-Calm w ↦ omega (arith, w.calm-is, w.min-calm.ensures) | in-Turned w ↦ omega (arith, w.calm-is) ];
+      room = omega (arith, c.offer.ensures.room, so_far.room);
+      bound = c.offer.ensures.bound ∙ so_far.bound;
     }
+
+-- a place less weighs more than the most that count as calm
+pub loop-place-smaller : goal.loop-place-smaller
+loop-place-smaller g c =
+    elim c.match-offer.branch [ in-Calm w ↦ omega (arith, w.calm-is, w.min-calm.ensures) | in-Turned w ↦ omega (arith, w.calm-is) ]
 
 pub returns-in-Cut-clause-longest : goal.returns-in-Cut-clause-longest
 returns-in-Cut-clause-longest g c =

@@ -1,5 +1,5 @@
 -- A point outside all lines is a cut; one that is not is taken in by both hulls.
-use Rattle.std.proofs.Common.{◌≡◌, true, false, ◌+◌, ◌*◌, ◌-◌, ℕ, ap, arith, refl}
+use Rattle.std.proofs.Common.{◌≡◌, ◌+◌, ◌*◌, ◌-◌, ℕ, ap, arith, refl}
 use Rattle.std.proofs.lemmas.Bool.{OnFalse_at}
 use Rattle.hulls.specs.Hull.{GoesOn}
 use Rattle.hulls.specs.Hulls.{mirrored}
@@ -157,7 +157,7 @@ returns-then-not-rises-clause-stands g c = λ p eps s e next.
     let rises_stay = OnFalse-map c.turns-rises.result (λ stays. stays (mirrored p) eps s e next.stands.flat turned lift) c.turns-rises.ensures.stay in
     let shadow = IsShadowed-steep hulls p eps s e x y c.turns-rises.result (omega arith) next rises_stay in
     let shadow_turned = IsShadowed-flat hulls p eps s e x y c.turns-falls.result (omega arith) next falls_stay in
-    StandsFor-longer hulls (record { steep = hulls.steep; flat = hulls.flat; eps = hulls.eps; last = hulls.last + 1; calm = true }) p eps s e x y (omega arith) next fits
+    StandsFor-longer hulls (record { steep = hulls.steep; flat = hulls.flat; eps = hulls.eps; last = hulls.last + 1 }) p eps s e x y (omega arith) next fits
     (IsHullWith-skips p eps s e hulls.steep (IsHullWith-keeps p eps s e hulls.steep (record { x = x; height = y; place = hulls.last + 1 }) next.stands.steep point next.stands.bounded
     not_over (OnFalse_at c.if-not-falls.true falls_stay)) (OnFalse_at c.if-not-rises.true shadow))
     (IsHullWith-skips (mirrored p) eps s e hulls.flat (IsHullWith-keeps (mirrored p) eps s e hulls.flat (record { x = x; height = 4294967295 - y; place = hulls.last + 1 }) next.stands.flat turned next.stands.bounded
@@ -194,6 +194,6 @@ returns-clause-stands g c = λ p eps s e next.
       stay = rises_stay;
     } in
     let shadow_turned = IsShadowed-flat hulls p eps s e x y c.turns-falls.result (omega arith) next falls_stay in
-    StandsFor-longer hulls (record { steep = c.go_on.new.self; flat = c.go_on-2.new.self; eps = hulls.eps; last = hulls.last + 1; calm = false }) p eps s e x y (omega arith) next fits
+    StandsFor-longer hulls (record { steep = c.go_on.new.self; flat = c.go_on-2.new.self; eps = hulls.eps; last = hulls.last + 1 }) p eps s e x y (omega arith) next fits
     (c.go_on.ensures.hull p eps s e next.stands.steep point lift next.stands.bounded goes shadow)
     (c.go_on-2.ensures.hull (mirrored p) eps s e next.stands.flat turned lift next.stands.bounded goes_turned shadow_turned) next.stands.last refl

@@ -13,19 +13,10 @@ invariant-loop-lane l = record {
 }
 
 abbrev pub invariant-loop-lane-2 : goal.invariant-loop-lane-2
-invariant-loop-lane-2 l = length l.places ≡ 16
+invariant-loop-lane-2 l = length l.groups ≡ 16
 
 abbrev pub invariant-loop-lane-3 : goal.invariant-loop-lane-3
-invariant-loop-lane-3 l = length l.places ≡ 16
-
-abbrev pub invariant-loop-shift : goal.invariant-loop-shift
-invariant-loop-shift l = record {
-  lanes : length l.places ≡ 16;
-  few : l.shift ≤ 8;
-}
-
-abbrev pub decreases-loop-shift : goal.decreases-loop-shift
-decreases-loop-shift l = l.shift
+invariant-loop-lane-3 l = length l.groups ≡ 16
 
 abbrev pub invariant-loop-lane-4 : goal.invariant-loop-lane-4
 invariant-loop-lane-4 l = record {
