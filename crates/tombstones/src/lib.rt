@@ -79,6 +79,24 @@ pub fn merge(
         entry_at merged.items key ≡ kept deepest (winner_at newer.now older.now key)) }
 {
     let mut merged = Vec::with_capacity(alloc, newer.len() + older.len())?;
+    merge_into(&mut merged, newer, older, deepest);
+    Ok(merged)
+}
+
+/// Merges two lists into one that is empty and has room for all.
+///
+/// Not inlined, since only so the compiler knows that nothing else holds the list that it writes.
+#[inline(never)]
+fn merge_into(merged: &mut Vec<Entry>, newer: &[Entry], older: &[Entry], deepest: bool)
+    requires newer_ascending { IsAscending newer.now }
+    requires older_ascending { IsAscending older.now }
+    requires empty { merged.old.items ≡ [] }
+    requires room { vec_len merged.old + (length newer.now + length older.now) ≤
+        vec_capacity merged.old }
+    ensures ascending { IsAscending merged.new.items }
+    ensures winners { (key : ℕ) →
+        entry_at merged.new.items key ≡ kept deepest (winner_at newer.now older.now key) }
+{
     let mut places = Places { newer: 0, older: 0 };
     'rounds: loop {
         // So often both lists have an entry left, whichever of them lose theirs.
@@ -88,16 +106,15 @@ pub fn merge(
         }
         'steps: while sure > 0 {
             let entry = places.take_lesser(newer, older);
-            push_kept(&mut merged, entry, deepest);
+            push_kept(merged, entry, deepest);
             sure -= 1;
         }
     }
     let (newer, older) = (&newer[places.newer..], &older[places.older..]);
     let mut remaining = Remaining { newer, older };
     while let Some(entry) = remaining.take_least() {
-        push_kept(&mut merged, entry, deepest);
+        push_kept(merged, entry, deepest);
     }
-    Ok(merged)
 }
 
 /// Appends an entry, unless it is a tombstone and the result is the deepest list.

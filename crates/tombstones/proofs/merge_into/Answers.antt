@@ -2,7 +2,7 @@
 use Rattle.std.proofs.Common.{arith}
 use Rattle.tombstones.proofs.Progress.{under_way_step}
 use Rattle.tombstones.proofs.TakingLemmas.{ascending_drop}
-use Rattle.tombstones.proofs.merge.Goals as goal
+use Rattle.tombstones.proofs.merge_into.Goals as goal
 
 pub rounds-smaller : goal.rounds-smaller
 rounds-smaller c = omega (arith, c.steps.invariant.moved)

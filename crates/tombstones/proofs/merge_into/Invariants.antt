@@ -1,7 +1,7 @@
 -- What is merged and what is left make up the merge, and there is room for all that is left.
 use Rattle.std.proofs.Common.{◌+◌, ◌-◌, ◌≤◌, drop, length, vec_len, vec_capacity}
 use Rattle.tombstones.proofs.Progress.{IsUnderWay}
-use Rattle.tombstones.proofs.merge.Given as goal
+use Rattle.tombstones.proofs.merge_into.Given as goal
 
 abbrev pub invariant-rounds : goal.invariant-rounds
 invariant-rounds l = record {
