@@ -1,10 +1,10 @@
 -- One lane of questions in step, and a write to one lane.
-use Rattle.std.proofs.Common.{◌≡◌, ℕ, ◌+◌, ◌-◌, ◌*◌, ◌%◌, ◌<◌, ◌≤◌, Bool, true, false, nat_lt, List, ◌++◌, map, take, append_assoc, length, slice_index, refl, sym, ap, ◌∙◌, subst, inl, inr, arith}
+use Rattle.std.proofs.Common.{◌≡◌, ℕ, ◌+◌, ◌-◌, ◌*◌, ◌%◌, ◌<◌, ◌≤◌, Bool, true, false, nat_lt, List, ◌++◌, map, take, drop, append_assoc, length, slice_index, refl, sym, ap, ◌∙◌, subst, inl, inr, arith}
 use Rattle.std.specs.Prelude.{slice_set, max}
 use Rattle.std.proofs.lemmas.Bool.{cases_lt}
 use Rattle.std.proofs.lemmas.Bool.Decides.{nat_tests}
 use Rattle.std.specs.Int.{from_bool}
-use Rattle.std.proofs.lemmas.List.{get_or-set_same, get_or-set_other, get_or-map, get_or-take, length-map, length-take-le, map-append, ext_get_or}
+use Rattle.std.proofs.lemmas.List.{get_or-set_same, get_or-set_other, get_or-map, get_or-take, length-map, length-append, length-take-le, map-append, take-append-drop, ext_get_or}
 use Rattle.std.specs.List.Sorted.{IsNonDecreasing}
 use Rattle.window_search.specs.Searches.{lb, IsPredecessor}
 use Rattle.window_search.proofs.LowerBounds.{lb-is, predecessor_from, predecessor_before, lb_after, lb_not_after}
@@ -135,4 +135,24 @@ pub blocks_more : (f : ℕ → ℕ) (qs before rest block later out items more :
 blocks_more f qs before rest block later out items more all parts so_far next = (
   all ∙ ap (λ (l : List ℕ). before ++ l) parts ∙ sym (append_assoc before block later),
   next ∙ ap (λ (l : List ℕ). l ++ map f block) so_far ∙ append_assoc out (map f before) (map f block) ∙ ap (λ (l : List ℕ). out ++ l) (sym (map-append f before block)),
+)
+
+-- the same where the block is the front of the rest, and as many are left as fewer are in the list
+pub split_more : (f : ℕ → ℕ) (at : ℕ) (qs rest block later out items more : List ℕ) → block ≡ take at rest → later ≡ drop at rest → more ≡ items ++ map f block →
+    ((before : List ℕ) × (qs ≡ before ++ rest) × (items ≡ out ++ map f before)) → (before : List ℕ) × (qs ≡ before ++ later) × (more ≡ out ++ map f before)
+split_more f at qs rest block later out items more front back next (before, all, so_far) =
+    let both = blocks_more f qs before rest block later out items more all (sym (take-append-drop at rest) ∙ ap (λ (l : List ℕ). l ++ drop at rest) (sym front) ∙ ap (λ (l : List ℕ). block ++ l) (sym back)) so_far next in
+    (before ++ block, both.0, both.1)
+
+pub split_left : (f : ℕ → ℕ) (at : ℕ) (rest block later items more : List ℕ) → block ≡ take at rest → later ≡ drop at rest → more ≡ items ++ map f block →
+    length more + length later ≡ length items + length rest
+split_left f at rest block later items more front back next = omega (
+  arith,
+  ap length next,
+  length-append items (map f block),
+  length-map block f,
+  ap length (take-append-drop at rest),
+  length-append (take at rest) (drop at rest),
+  ap length front,
+  ap length back,
 )

@@ -11,7 +11,6 @@ pub mod ModelLemmas
 pub mod ModelRuns
 pub mod ModelLookup
 pub mod LaneLemmas
-pub mod GroupedLemmas
 pub mod HeightLemmas
 pub mod IndexLemmas
 pub mod RunLemmas

@@ -6,7 +6,6 @@ pub mod Lookups
 pub mod Models
 pub mod InStep
 pub mod Heights
-pub mod Grouped
 pub use Rattle.exact_cross.specs.Points
 pub use Rattle.exact_cross.specs.Covers
 pub use Rattle.exact_cross.specs.Segments
