@@ -1,11 +1,13 @@
 -- What a filter keeps when further bits are set, and that it denies no key of its entries.
-use Rattle.std.proofs.Common.{◌≡◌, ℕ, ◌<◌, List, length, slice_index, slice_set, get_or, set, bit_and, bit_or, Option, Some, None, refl, sym, ap, ◌∙◌, subst, inl, inr}
+use Rattle.std.proofs.Common.{◌≡◌, ℕ, ◌<◌, List, length, slice_index, slice_set, get_or, set, bit_and, bit_or, Option, Some, None, refl, sym, ap, ◌∙◌, subst, inl, inr, arith}
 use Rattle.std.proofs.lemmas.List.{get_or-set_same, get_or-set_other, length-set}
 use Rattle.std.proofs.lemmas.Nat.{and_assoc, and_or_self, or_comm}
 use Rattle.std.proofs.lemmas.Bool.{cases_eq}
 use Rattle.tombstones.specs.declared.entry.Entry.{Entry}
 use Rattle.tombstones.specs.Entries.{entry_at}
 use Rattle.tombstones.proofs.CallerLemmas.{key-entry_at, Contains-entry_at}
+use Rattle.log_levels.specs.Shapes.{level_keys}
+use Rattle.log_levels.proofs.LevelLemmas.{key-at, length-level_keys}
 use Rattle.log_levels.specs.Filters.{hash_of, slot_of, bits_of, Passes, ArePassed}
 
 -- bits that are set stay set when others are
@@ -31,12 +33,12 @@ passes-more words slot word more other inside is passes =
     ])
 
 -- a key that is denied has no entry
-pub denied-missing : (words : List ℕ) (entries : List Entry) (key hash : ℕ) → hash ≡ hash_of key → ArePassed words entries → (Passes words hash → ⊥) → None ≡ entry_at entries key
+pub denied-missing : (words : List ℕ) (entries : List Entry) (key hash : ℕ) → hash ≡ hash_of key → ArePassed words (level_keys entries) → (Passes words hash → ⊥) → None ≡ entry_at entries key
 denied-missing words entries key hash is passed denied = go (entry_at entries key) refl
   where
     go : (found : Option Entry) → entry_at entries key ≡ found → None ≡ entry_at entries key
     go None absent = sym absent
     go (Some entry) found =
         let (k, inside, at) = Contains-entry_at entries key entry found in
-        let key_is = ap (λ (e : Entry). e.key) at ∙ key-entry_at entries key entry found in
-        absurd (denied (subst (Passes words) (ap hash_of key_is ∙ sym is) (passed k entry inside)))
+        let key_is = key-at entries k 0 entry inside ∙ ap (λ (e : Entry). e.key) at ∙ key-entry_at entries key entry found in
+        absurd (denied (subst (Passes words) (ap hash_of key_is ∙ sym is) (passed k 0 (omega (arith, inside, length-level_keys entries)))))

@@ -14,15 +14,13 @@ use Rattle.log_levels.proofs.HeldLemmas.{room_is}
 use Rattle.log_levels.proofs.LastLemmas.{last_at-append, kept-winner}
 use Rattle.log_levels.proofs.LengthLemmas.{length-latest}
 
--- at the start the buffer is merged with the new entries
-pub merged-none : (entries : List Entry) (f : ℕ) (new buffer older newer merged : List Entry) → buffer ≡ drop (64 * f) entries → IsLastOfEach false buffer older → IsLastOfEach false new newer
-    → IsAscending merged → ((key : ℕ) → entry_at merged key ≡ winner_at newer older key) → IsMergedTo entries f 0 new merged
-merged-none entries f new buffer older newer merged is old last ascending winners =
+-- at the start there are the last entries of the buffer and the new entries behind it
+pub merged-none : (entries : List Entry) (f : ℕ) (new buffer merged : List Entry) → buffer ≡ drop (64 * f) entries → IsLastOfEach false (buffer ++ new) merged → IsMergedTo entries f 0 new merged
+merged-none entries f new buffer merged is last =
     let same : drop (64 * from_bit 0 f) entries ≡ buffer = ap (λ k. drop (64 * k) entries) (from_bit-zero f) ∙ sym is in
     record {
-      ascending = ascending;
-      lasts = λ key. ap (kept (eqb (f / 2 ^ 0) 0)) (winners key ∙ ap (λ entry. option_or entry (entry_at older key)) (last.lasts key) ∙ ap (option_or (last_at new key)) (old.lasts key)
-          ∙ sym (last_at-append buffer new key) ∙ ap (λ list. last_at (list ++ new) key) (sym same));
+      ascending = last.ascending;
+      lasts = λ key. ap (kept (eqb (f / 2 ^ 0) 0)) (last.lasts key ∙ ap (λ list. last_at (list ++ new) key) (sym same));
     }
 
 -- where a level isn't occupied

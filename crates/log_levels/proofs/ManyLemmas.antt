@@ -1,10 +1,10 @@
 -- How far a search for a key has come, and lists of answers.
-use Rattle.std.proofs.Common.{◌≡◌, ℕ, ◌+◌, ◌/◌, ◌^◌, ◌<◌, ◌++◌, List, [], ◌∷◌, length, map, take, get_or, Option, Some, None, refl, ap, sym, subst, ◌∙◌, append_assoc}
+use Rattle.std.proofs.Common.{◌≡◌, ℕ, ◌+◌, ◌/◌, ◌^◌, ◌<◌, ◌++◌, List, [], ◌∷◌, length, map, take, get_or, Option, Some, None, refl, ap, sym, subst, inl, inr, ◌∙◌, append_assoc}
 use Rattle.std.proofs.lemmas.List.{map-append, take_more}
 use Rattle.tombstones.specs.declared.entry.Entry.{Entry}
 use Rattle.tombstones.specs.Entries.{entry_at}
 use Rattle.log_levels.specs.Shapes.{Held, IsCutOf, IsLevelFor, last_at, level_of}
-use Rattle.log_levels.specs.Kept.{HasReached, value_of}
+use Rattle.log_levels.specs.Kept.{HasReached, IsPutWhereMay, value_of}
 use Rattle.log_levels.proofs.SearchLemmas.{search-none, search-found, search-missed, search-clear, search-end}
 
 pub HasReached-start : (held : Held) (key : ℕ) → HasReached held key 0
@@ -21,6 +21,12 @@ HasReached-clear held key i inside is reached = record {
   before = λ none entries cut. reached.before none entries cut
       ∙ ap value_of (search-clear entries (length entries / 64) i key (subst (IsLevelFor entries (length entries / 64) i) is (cut.levels i inside)));
 }
+
+-- where the filters of a level and those behind it have been asked
+pub HasReached-put : (held : Held) (key i before after : ℕ) (level : List Entry) → i < length held.levels → level_of held i ≡ Some level → (HasReached held key (i + 1) → HasReached held key before)
+    → IsPutWhereMay level i key before after → HasReached held key i → HasReached held key after
+HasReached-put held key i before after level inside is later (inl same) reached = subst (HasReached held key) (sym same) reached
+HasReached-put held key i before after level inside is later (inr (same, absent)) reached = subst (HasReached held key) (sym same) (later (HasReached-missed held key i level inside is absent reached))
 
 pub reached-found : (held : Held) (key i : ℕ) (level : List Entry) (entry : Entry) (entries : List Entry) → i < length held.levels → HasReached held key i → last_at held.buffer key ≡ None →
     IsCutOf held entries → level_of held i ≡ Some level → entry_at level key ≡ Some entry → value_of (last_at entries key) ≡ entry.value

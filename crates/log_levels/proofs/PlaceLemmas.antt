@@ -7,29 +7,9 @@ use Rattle.std.proofs.Math.Nat.{pow-le-pow_right}
 use Rattle.tombstones.specs.declared.entry.Entry.{Entry}
 use Rattle.window_search.specs.Searches.{lb}
 use Rattle.log_levels.specs.Shapes.{Held, IsCutOf, IsLevelFor, level_of, level_keys}
-use Rattle.log_levels.specs.Kept.{IsPlaceNear, ArePlacesNear, ArePlaces}
+use Rattle.log_levels.specs.Kept.{ArePlaces}
 use Rattle.log_levels.proofs.BitLemmas.{quotient-small}
 use Rattle.log_levels.proofs.SearchLemmas.{blocks-few}
-
--- one place left is that of the key
-place-found : (i : ℕ) (level : List Entry) (key place : ℕ) → IsPlaceNear i level key place 1 → place ≡ lb (level_keys level) key
-place-found i level key place near = elim (cases_lt i 7) [
-  | inl first ↦ near.short (inl first)
-  | inr from ↦ elim (cases_lt 4096 (length level)) [
-    | inl many ↦ let bound = near.long from many in omega (arith, bound.from, bound.to)
-    | inr few ↦ near.short (inr few)
-  ]
-]
-
-pub places-found : (held : Held) (places : List ℕ) (key : ℕ) → ArePlacesNear held places key 1 → ArePlaces held places key
-places-found held places key near = record {
-  count = near.room;
-  each = λ i level inside is. place-found i level key (slice_index places i) (near.each i level inside is);
-}
-
--- the first levels have one place left from the start
-pub near-first : (i : ℕ) (level : List Entry) (key place count less : ℕ) → i < 7 → IsPlaceNear i level key place count → IsPlaceNear i level key place less
-near-first i level key place count less first near = record { short = near.short; long = λ from many. absurd (omega (arith, first, from)) }
 
 -- no level is occupied from a bit on above all those of the number of blocks
 pub level-none : (held : Held) (entries : List Entry) (depth i : ℕ) → IsCutOf held entries → held.accepted / 64 < 2 ^ depth → depth ≤ i → i < length held.levels → level_of held i ≡ None
@@ -54,31 +34,24 @@ depth-within held entries bit cut at_most = elim (cases_lt bit (length held.leve
       absurd (omega (arith, more, at_most, blocks-few held entries cut, ap (λ n. n / 64) cut.accepted))
 ]
 
--- a write of the place in a level: the levels up to it, and those behind
-pub places-done : (held : Held) (places : List ℕ) (key count i place : ℕ) (found : List Entry) → i < length places → level_of held i ≡ Some found → IsPlaceNear i found key place count
-    → ((j : ℕ) (level : List Entry) → j < i → j < length held.levels → level_of held j ≡ Some level → IsPlaceNear j level key (slice_index places j) count)
-    → (j : ℕ) (level : List Entry) → j < i + 1 → j < length held.levels → level_of held j ≡ Some level → IsPlaceNear j level key (slice_index (slice_set places i place) j) count
-places-done held places key count i place found inside here near before j level under within is = elim (cases_lt j i) [
-  | inl less ↦ subst (λ p. IsPlaceNear j level key p count) (sym (get_or-set_other places i j place 0 (omega arith))) (before j level less within is)
+-- the place of a key in a level, written: so far the places are those of the key
+pub places-done : (held : Held) (places : List ℕ) (key i place : ℕ) (found : List Entry) → i < length places → level_of held i ≡ Some found → place ≡ lb (level_keys found) key
+    → ((j : ℕ) (level : List Entry) → j < i → j < length held.levels → level_of held j ≡ Some level → slice_index places j ≡ lb (level_keys level) key)
+    → (j : ℕ) (level : List Entry) → j < i + 1 → j < length held.levels → level_of held j ≡ Some level → slice_index (slice_set places i place) j ≡ lb (level_keys level) key
+places-done held places key i place found inside here at before j level under within is = elim (cases_lt j i) [
+  | inl less ↦ get_or-set_other places i j place 0 (omega arith) ∙ before j level less within is
   | inr from ↦
       let same : i ≡ j = omega arith in
       let both : Some found ≡ Some level = sym here ∙ ap (level_of held) same ∙ is in
       let one : found ≡ level = cc in
-      subst (λ k. IsPlaceNear k level key (slice_index (slice_set places i place) k) count) same
-      (subst (λ p. IsPlaceNear i level key p count) (sym (get_or-set_same places i place 0 inside)) (subst (λ (l : List Entry). IsPlaceNear i l key place count) one near))
+      ap (λ k. slice_index (slice_set places i place) k) (sym same) ∙ get_or-set_same places i place 0 inside ∙ at ∙ ap (λ (l : List Entry). lb (level_keys l) key) one
 ]
 
-pub places-rest : (held : Held) (places : List ℕ) (key count i place : ℕ)
-    → ((j : ℕ) (level : List Entry) → i ≤ j → j < length held.levels → level_of held j ≡ Some level → IsPlaceNear j level key (slice_index places j) count)
-    → (j : ℕ) (level : List Entry) → i + 1 ≤ j → j < length held.levels → level_of held j ≡ Some level → IsPlaceNear j level key (slice_index (slice_set places i place) j) count
-places-rest held places key count i place rest j level past within is =
-    subst (λ p. IsPlaceNear j level key p count) (sym (get_or-set_other places i j place 0 (omega arith))) (rest j level (omega arith) within is)
-
 -- a level that isn't occupied has no place
-pub places-none : (held : Held) (places : List ℕ) (key count i : ℕ) → level_of held i ≡ None
-    → ((j : ℕ) (level : List Entry) → j < i → j < length held.levels → level_of held j ≡ Some level → IsPlaceNear j level key (slice_index places j) count)
-    → (j : ℕ) (level : List Entry) → j < i + 1 → j < length held.levels → level_of held j ≡ Some level → IsPlaceNear j level key (slice_index places j) count
-places-none held places key count i free before j level under within is = elim (cases_lt j i) [
+pub places-none : (held : Held) (places : List ℕ) (key i : ℕ) → level_of held i ≡ None
+    → ((j : ℕ) (level : List Entry) → j < i → j < length held.levels → level_of held j ≡ Some level → slice_index places j ≡ lb (level_keys level) key)
+    → (j : ℕ) (level : List Entry) → j < i + 1 → j < length held.levels → level_of held j ≡ Some level → slice_index places j ≡ lb (level_keys level) key
+places-none held places key i free before j level under within is = elim (cases_lt j i) [
   | inl less ↦ before j level less within is
   | inr from ↦
       let same : i ≡ j = omega arith in
@@ -87,11 +60,11 @@ places-none held places key count i free before j level under within is = elim (
 ]
 
 -- past the depth no level is occupied
-pub places-all : (held : Held) (places : List ℕ) (key count depth i : ℕ) → length places ≡ 26 → depth ≤ i → ((j : ℕ) → depth ≤ j → j < length held.levels → level_of held j ≡ None)
-    → ((j : ℕ) (level : List Entry) → j < i → j < length held.levels → level_of held j ≡ Some level → IsPlaceNear j level key (slice_index places j) count) → ArePlacesNear held places key count
-places-all held places key count depth i room end none before = record { room = room; each = each }
+pub places-all : (held : Held) (places : List ℕ) (key depth i : ℕ) → length places ≡ 26 → depth ≤ i → ((j : ℕ) → depth ≤ j → j < length held.levels → level_of held j ≡ None)
+    → ((j : ℕ) (level : List Entry) → j < i → j < length held.levels → level_of held j ≡ Some level → slice_index places j ≡ lb (level_keys level) key) → ArePlaces held places key
+places-all held places key depth i room end none before = record { count = room; each = each }
   where
-    each : (j : ℕ) (level : List Entry) → j < length held.levels → level_of held j ≡ Some level → IsPlaceNear j level key (slice_index places j) count
+    each : (j : ℕ) (level : List Entry) → j < length held.levels → level_of held j ≡ Some level → slice_index places j ≡ lb (level_keys level) key
     each j level inside is = elim (cases_lt j i) [
       | inl less ↦ before j level less inside is
       | inr from ↦ let apart : None ≡ Some level = sym (none j (omega arith) inside) ∙ is in cc

@@ -1,7 +1,6 @@
 -- The filters of levels: a few bits of one word for each key, set. No public clause cites it.
 -- Sources: B. H. Bloom, Space/time trade-offs in hash coding with allowable errors, CACM 13(7), 1970; F. Putze, P. Sanders and J. Singler, Cache-, hash- and space-efficient Bloom filters, WEA 2007 (all bits of a key in one block).
 use Rattle.std.specs.Prelude.{◌≡◌, ℕ, ◌*◌, ◌/◌, ◌%◌, ◌^◌, List, length, slice_index, bit_and, bit_or, bit_xor, All}
-use Rattle.tombstones.specs.declared.entry.Entry.{Entry}
 
 -- both halves of the product of a key with 2^64 by the golden ratio, folded into one word
 abbrev pub hash_of : ℕ → ℕ
@@ -19,6 +18,6 @@ bits_of hash = bit_or (bit_or (2 ^ (hash % 64)) (2 ^ (hash / 64 % 64))) (bit_or 
 abbrev pub Passes : List ℕ → ℕ → Type 0
 Passes words hash = bit_and (slice_index words (slot_of hash (length words))) (bits_of hash) ≡ bits_of hash
 
--- no key of the entries is denied
-abbrev pub ArePassed : List ℕ → List Entry → Type 0
-ArePassed words entries = All (λ entry. Passes words (hash_of entry.key)) entries
+-- none of the keys is denied
+abbrev pub ArePassed : List ℕ → List ℕ → Type 0
+ArePassed words keys = All (λ key. Passes words (hash_of key)) keys

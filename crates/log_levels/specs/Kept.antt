@@ -8,7 +8,6 @@ use Rattle.std.specs.Arc.{arc_value}
 use Rattle.tombstones.specs.declared.entry.Entry.{Entry}
 use Rattle.tombstones.specs.Entries.{IsAscending, entry_at, kept}
 use Rattle.levels.specs.Indexes.{PgmIndex}
-use Rattle.levels.specs.InStep.{HasBound}
 use Rattle.log_levels.specs.declared.fault.MapFault.{MapFault}
 use Rattle.log_levels.specs.declared.fault.MapFault.TheVariants.{Full, NoMemory}
 use Rattle.log_levels.specs.declared.update.Update.{Update}
@@ -69,16 +68,6 @@ pub record ArePlaces (held : Held) (places : List ℕ) (key : ℕ) : Type 0 wher
   pub count : length places ≡ 26
   pub each : (i : ℕ) (level : List Entry) → i < length held.levels → level_of held i ≡ Some level → slice_index places i ≡ lb (level_keys level) key
 
--- the place of a key in level i, or in a long level, which is searched in step with others, the first of `count` places with it
-pub record IsPlaceNear (i : ℕ) (level : List Entry) (key place count : ℕ) : Type 0 where
-  pub short : (i < 7) ⊎ (length level ≤ 4096) → place ≡ lb (level_keys level) key
-  pub long : 7 ≤ i → 4096 < length level → HasBound (level_keys level) key place count
-
--- so is each level's
-pub record ArePlacesNear (held : Held) (places : List ℕ) (key count : ℕ) : Type 0 where
-  pub room : length places ≡ 26
-  pub each : (i : ℕ) (level : List Entry) → i < length held.levels → level_of held i ≡ Some level → IsPlaceNear i level key (slice_index places i) count
-
 -- the key is below the least one, if there is one
 abbrev pub IsBelow : ℕ → Option ℕ → Type 0
 IsBelow key None = ⊤
@@ -109,3 +98,11 @@ IsFull NoMemory = ⊥
 pub record HasReached (held : Held) (key i : ℕ) : Type 0 where
   pub before : last_at held.buffer key ≡ None → (entries : List Entry) → IsCutOf held entries →
       value_of (last_at entries key) ≡ value_of (last_at (take (64 * from_bit i (length entries / 64)) entries) key)
+
+-- so has the search for each of sixteen keys
+abbrev pub HaveReached : Held → List ℕ → List ℕ → Type 0
+HaveReached held keys levels = (k : ℕ) → k < 16 → HasReached held (slice_index keys k) (slice_index levels k)
+
+-- level i takes the place of a later one, or hasn't the key
+abbrev pub IsPutWhereMay : List Entry → ℕ → ℕ → ℕ → ℕ → Type 0
+IsPutWhereMay level i key before after = (after ≡ i) ⊎ ((after ≡ before) × (entry_at level key ≡ None))

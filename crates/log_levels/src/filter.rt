@@ -6,7 +6,6 @@ ghost use Rattle.log_levels.specs.Filters.{hash_of, slot_of, bits_of, Passes, Ar
 use budget::NoMemory;
 use std::alloc::Global;
 use std::marker::Model;
-use tombstones::Entry;
 
 /// `2^64` by the golden ratio.
 const FACTOR: u64 = 0x9E37_79B9_7F4A_7C15;
@@ -39,25 +38,26 @@ impl Model for Filter {
 }
 
 impl Filter {
-    /// The filter of the entries' keys.
-    pub fn of(alloc: Global, entries: &[Entry]) -> Result<Filter, NoMemory>
-        requires { length entries.now < 2 ^ 32 }
-        ensures { IfOk result (λ filter. ArePassed filter entries.now) }
+    /// The filter of keys.
+    pub fn of(alloc: Global, keys: &[u64]) -> Result<Filter, NoMemory>
+        requires { length keys.now < 2 ^ 32 }
+        ensures { IfOk result (λ filter. ArePassed filter keys.now) }
     {
-        let mut words = vec![in alloc; 0; entries.len() / 4 + 1]?;
-        for entry in entries {
-            set(&mut words, hash(entry.key));
+        let mut words = vec![in alloc; 0; keys.len() / 4 + 1]?;
+        for key in keys {
+            set(&mut words, hash(*key));
         }
         Ok(Filter { words })
     }
 
-    /// Whether a key with this hash may be among those that the filter was made of.
+    /// Whether a key with this hash, of which these are the bits, may be among those that the filter
+    /// was made of.
     #[inline(always)]
-    pub fn passes(&self, hash: u64) -> bool
+    pub fn passes(&self, hash: u64, bits: u64) -> bool
+        requires { bits ≡ bits_of hash }
         ensures { IsTrue result ↔ Passes self.now hash }
     {
         let words = self.words.as_slice();
-        let bits = bits(hash);
         words[slot(hash, words.len())] & bits == bits
     }
 }
@@ -99,7 +99,7 @@ fn slot(hash: u64, count: usize) -> usize
 /// The bits of a hash.
 #[tactic(auto, unfolding(crate::specs::Filters::bits_of))]
 #[inline(always)]
-fn bits(hash: u64) -> u64
+pub fn bits(hash: u64) -> u64
     ensures { result ≡ bits_of hash }
 {
     let low = 1 << (hash % 64) | 1 << (hash / 64 % 64);

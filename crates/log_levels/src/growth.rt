@@ -9,7 +9,8 @@ ghost use Rattle.std.specs.Int.{bit_at};
 ghost use Rattle.std.specs.Arc.{arc_value};
 ghost use Rattle.tombstones.specs.declared.entry.Entry.{Entry};
 ghost use Rattle.tombstones.specs.Entries.{IsAscending, entry_at, kept};
-ghost use Rattle.log_levels.specs.Shapes.{IsCutOf, IsLevelFor, capacity_of, level_of, from_bit};
+ghost use Rattle.log_levels.specs.Shapes.{IsCutOf, IsLastOfEach, IsLevelFor};
+ghost use Rattle.log_levels.specs.Shapes.{capacity_of, level_of, from_bit};
 ghost use Rattle.log_levels.specs.Kept.{IsMergedTo, IsHighestChange, shared_of, levels_of};
 
 use crate::builder::Builder;
@@ -37,15 +38,30 @@ impl LogMap {
         ensures { IfOk result (λ merged. (entries : List Entry) → IsCutOf self.now entries →
             IsMergedTo entries (length entries / 64) top new.now merged.items) }
     {
-        let older = latest_of(builder, alloc, &self.buffer)?;
-        let newer = latest_of(builder, alloc, new)?;
-        let mut merged = builder.merge(&newer, &older, false)?;
+        let mut merged = self.latest_with(builder, alloc, new)?;
         for i in 0..top {
             if let Some(level) = self.level(i) {
                 merged = builder.merge(&merged, level.entries(), false)?;
             }
         }
         Ok(merged)
+    }
+
+    /// The last entry of each key of the buffer and of new entries behind it, by rising key.
+    fn latest_with<B: Builder>(
+        &self,
+        builder: &B,
+        alloc: Global,
+        new: &[Entry],
+    ) -> Result<Vec<Entry>, NoMemory>
+        requires ready { B.ready builder.now }
+        ensures { IfOk result (λ latest.
+            IsLastOfEach false (self.now.buffer ++ new.now) latest.items) }
+    {
+        let mut entries = Vec::with_capacity(alloc, self.buffer.len() + new.len())?;
+        entries.extend_from_slice(&self.buffer)?;
+        entries.extend_from_slice(new)?;
+        latest_of(builder, alloc, &entries)
     }
 
     /// Level `top`, where `new` more entries change bit `top` as the highest one: what was below

@@ -39,7 +39,7 @@ pub fn highest_bit(number: usize) -> u32
 /// The first of `2^shift` places among which the lower bound is, where it is among twice as many
 /// from `place` on.
 #[inline(always)]
-pub fn halved(keys: &[u64], place: usize, shift: u32, q: u64) -> usize
+fn halved(keys: &[u64], place: usize, shift: u32, q: u64) -> usize
     requires never_falls { IsNonDecreasing keys.now }
     requires few { shift < 64 }
     requires from { place ≤ lb keys.now q }

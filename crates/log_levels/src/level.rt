@@ -1,19 +1,19 @@
 // A level as it is kept.
 ghost use Rattle.std.specs.Prelude.{◌≡◌, ◌+◌, ◌*◌, ◌-◌, ◌^◌, ◌<◌, ◌≤◌, ℕ};
-ghost use Rattle.std.specs.Prelude.{None, Some, IfSome, length, vec_len, IfOk};
+ghost use Rattle.std.specs.Prelude.{None, Some, IfSome, IsTrue, length, vec_len, IfOk};
 ghost use Rattle.std.specs.Bool.{OnFalse};
 ghost use Rattle.std.specs.List.Sorted.{IsNonDecreasing};
 ghost use Rattle.std.specs.Option.{option_copied};
 ghost use Rattle.levels.specs.Indexes.{IsIndex};
 ghost use Rattle.tombstones.specs.Entries.{IsAscending, entry_at};
-ghost use Rattle.log_levels.specs.Kept.{IsBelow, IsPlaceNear};
-ghost use Rattle.log_levels.specs.Filters.{hash_of};
+ghost use Rattle.log_levels.specs.Kept.{IsBelow};
+ghost use Rattle.log_levels.specs.Filters.{hash_of, bits_of};
 ghost use Rattle.window_search.specs.Searches.{lb};
 ghost use Rattle.log_levels.specs.Shapes.{level_keys};
 
 use crate::builder::Builder;
 use crate::filter::Filter;
-use crate::halving::{halved, lower_of};
+use crate::halving::lower_of;
 use budget::NoMemory;
 use levels::{Index, Keys};
 use std::alloc::Global;
@@ -28,16 +28,6 @@ pub const EPS_REC: u32 = 4;
 /// A list of so many keys or fewer is searched by halving. The keys of longer ones aren't all in a
 /// near cache, and then a search whose branches are foretold is faster, since it reads ahead.
 const SHORT: usize = 4096;
-
-/// The levels before this one have short lists alone: no more than 64 keys, by two to the level.
-pub const FIRST_LONG: usize = 7;
-
-/// Two to this number of places of a long level are halved for a key: the `2ε + 3` that its index
-/// leaves, and as many more that each step leaves a power of two.
-pub const WINDOW_SHIFT: u32 = 8;
-
-/// These places.
-const WINDOW: usize = 256;
 
 /// So many entries are a group. The last key of each is its fence.
 const GROUP: usize = 8;
@@ -71,9 +61,10 @@ impl Model for Level {
     ghost view = { λ level. level.entries.items };
 
     ghost use Rattle.log_levels.specs.Filters.{ArePassed};
+    ghost use Rattle.log_levels.specs.Shapes.{level_keys};
 
     ghost invariant = { λ level. IsIndexed level.entries.items level.index ×
-        ArePassed level.filter level.entries.items };
+        ArePassed level.filter (level_keys level.entries.items) };
 }
 
 impl Level {
@@ -90,8 +81,10 @@ impl Level {
     {
         let keys = keys_of(alloc, &entries)?;
         let index = builder.index(keys)?;
-        let filter = Filter::of(alloc, &entries)?;
-        let fences = fences_of(alloc, &entries)?;
+        // The keys are in a nearer cache than the entries.
+        let keys = index.keys().file();
+        let filter = Filter::of(alloc, keys)?;
+        let fences = fences_of(alloc, keys)?;
         Ok(Level {
             entries,
             index,
@@ -133,44 +126,30 @@ impl Level {
         self.index.position(q) as usize
     }
 
-    /// Where the places begin among which that of `q` is in level `i`: 256 of them in a long level,
-    /// one in another.
-    #[inline]
-    pub fn start_in(&self, i: usize, q: u64) -> usize
-        ensures { IsPlaceNear i self.now q result (2 ^ WINDOW_SHIFT) }
-    {
-        let keys = self.keys();
-        if i < FIRST_LONG || keys.len() <= SHORT {
-            return lower_of(keys, q);
-        }
-        (self.index.start_near(q) as usize).min(keys.len() + 1 - WINDOW)
-    }
-
-    /// The first of the places that are left for `q` in level `i`: in a long one `2^shift` of twice
-    /// as many from `place` on.
+    /// The place of a key, by the group in which it is said to be.
+    ///
+    /// It is looked at: where the key's place isn't there, it is searched for.
     #[inline(always)]
-    pub fn narrowed(&self, i: usize, place: usize, q: u64, shift: u32) -> usize
-        requires few { shift < 64 }
-        requires long { FIRST_LONG ≤ i }
-        requires near { IsPlaceNear i self.now q place (2 * 2 ^ shift) }
-        ensures { IsPlaceNear i self.now q result (2 ^ shift) }
+    pub fn place_by(&self, group: usize, key: u64) -> usize
+        ensures { result ≡ lb (level_keys self.now) key }
     {
         let keys = self.keys();
-        if keys.len() <= SHORT {
+        let place = place_among(keys, group, key);
+        if is_place(keys, place, key) {
             return place;
         }
-        let _ = i;
-        halved(keys, place, shift, q)
+        self.place(key)
     }
 
-    /// Whether the level may have an entry with this key, of which this is the hash.
+    /// Whether the level may have an entry with this key, of which this is the hash with its bits.
     #[inline(always)]
-    pub fn may_have(&self, key: u64, hash: u64) -> bool
-        requires { hash ≡ hash_of key }
+    pub fn may_have(&self, key: u64, hash: u64, bits: u64) -> bool
+        requires hash { hash ≡ hash_of key }
+        requires bits { bits ≡ bits_of hash }
         ensures { OnFalse result (entry_at self.now key ≡ None) }
     {
         let _ = key;
-        self.filter.passes(hash)
+        self.filter.passes(hash, bits)
     }
 
     /// The first of the groups among which a key is, by the index. It tells nothing.
@@ -209,13 +188,14 @@ impl Level {
         Some(&entries[place])
     }
 
-    /// The entry with a key, of which this is the hash, if there is one.
+    /// The entry with a key, of which this is the hash with its bits, if there is one.
     #[inline]
-    pub fn entry(&self, key: u64, hash: u64) -> Option<&Entry>
-        requires { hash ≡ hash_of key }
+    pub fn entry(&self, key: u64, hash: u64, bits: u64) -> Option<&Entry>
+        requires hash { hash ≡ hash_of key }
+        requires bits { bits ≡ bits_of hash }
         ensures { option_copied result ≡ entry_at self.now key }
     {
-        if !self.may_have(key, hash) {
+        if !self.may_have(key, hash, bits) {
             return None;
         }
         let group = self.group_from(self.first_group(key), key);
@@ -295,12 +275,12 @@ fn keys_of(alloc: Global, entries: &[Entry]) -> Result<Keys, NoMemory>
     Keys::of(alloc, keys)
 }
 
-/// The fences between groups of entries.
-fn fences_of(alloc: Global, entries: &[Entry]) -> Result<Vec<u64>, NoMemory> {
-    let count = entries.len() / GROUP;
+/// The fences between groups of entries, by their keys.
+fn fences_of(alloc: Global, keys: &[u64]) -> Result<Vec<u64>, NoMemory> {
+    let count = keys.len() / GROUP;
     let mut fences = Vec::with_capacity(alloc, count)?;
     for i in 0..count {
-        fences.push(entries[i * GROUP + (GROUP - 1)].key)?;
+        fences.push(keys[i * GROUP + (GROUP - 1)])?;
     }
     Ok(fences)
 }
@@ -328,4 +308,31 @@ fn place_in(entries: &[Entry], group: usize, key: u64) -> usize {
         place = place.wrapping_add(usize::from(entry.key < key));
     }
     place
+}
+
+/// How many keys are below a key, if its place is in this group of theirs or at its end.
+#[inline(always)]
+fn place_among(keys: &[u64], group: usize, key: u64) -> usize {
+    let whole = keys.len() / GROUP;
+    if group >= whole {
+        let first = whole * GROUP;
+        return first.wrapping_add(below(&keys[first..], key));
+    }
+    let first = group * GROUP;
+    first.wrapping_add(below(&keys[first..first + GROUP], key))
+}
+
+/// Whether as many keys are below a key: the one before the place is, and the one there isn't.
+#[inline(always)]
+fn is_place(keys: &[u64], place: usize, key: u64) -> bool
+    requires never_falls { IsNonDecreasing keys.now }
+    ensures { IsTrue result → place ≡ lb keys.now key }
+{
+    if place > keys.len() {
+        return false;
+    }
+    if place > 0 && keys[place - 1] >= key {
+        return false;
+    }
+    place == keys.len() || keys[place] >= key
 }

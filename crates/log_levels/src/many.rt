@@ -3,12 +3,13 @@ ghost use Rattle.std.specs.Prelude.{◌≡◌, ◌+◌, ◌++◌, ◌<◌, ◌�
 ghost use Rattle.std.specs.Prelude.{slice_index, vec_len, vec_capacity};
 ghost use Rattle.tombstones.specs.declared.entry.Entry.{Entry};
 ghost use Rattle.log_levels.specs.declared.update.Update.{Update};
-ghost use Rattle.log_levels.specs.Filters.{hash_of};
+ghost use Rattle.log_levels.specs.Filters.{hash_of, bits_of};
 ghost use Rattle.log_levels.specs.Maps.{map_after, value_at};
 ghost use Rattle.log_levels.specs.Shapes.{IsCutOf, StandsFor, last_at};
-ghost use Rattle.log_levels.specs.Kept.{HasReached, value_of};
+ghost use Rattle.log_levels.specs.Kept.{HasReached, HaveReached, IsPutWhereMay, value_of};
 
-use crate::filter::hash;
+use crate::filter::{bits, hash};
+use crate::level::Level;
 use crate::log_map::LogMap;
 use crate::questions::last_of;
 
@@ -45,11 +46,12 @@ impl LogMap {
         ensures count { vec_len into.new ≡ vec_len into.old + length keys.now }
         ensures capacity { vec_capacity into.old ≤ vec_capacity into.new }
     {
-        let mut levels = [0; LANES];
-        let mut groups = [0; LANES];
+        let mut asked = [0; LANES];
         for lane in 0..keys.len() {
-            levels[lane] = self.first_that_may(keys[lane]);
+            asked[lane] = keys[lane];
         }
+        let levels = self.first_levels(&asked);
+        let mut groups = [0; LANES];
         for lane in 0..keys.len() {
             groups[lane] = self.first_group(levels[lane], keys[lane]);
         }
@@ -61,27 +63,33 @@ impl LogMap {
         }
     }
 
-    /// The first level whose filter doesn't deny the key, or the number of levels that are looked
-    /// at.
+    /// The first level whose filter doesn't deny each of sixteen keys, or the number of levels that
+    /// are looked at.
+    ///
+    /// The filters are asked for all keys, the deepest one first, and no branch depends on an
+    /// answer: half of such branches were foretold wrongly, and then the reads of memory wait for
+    /// one another.
     #[inline(always)]
-    fn first_that_may(&self, key: u64) -> usize
-        ensures { HasReached self.now key result }
+    fn first_levels(&self, keys: &[u64; LANES]) -> [usize; LANES]
+        ensures { HaveReached self.now keys.now result }
     {
-        let hash = hash(key);
+        let hashes = hashes_of(keys);
+        let bits = bits_of_each(&hashes);
         let depth = self.depth();
-        for i in 0..depth {
+        let mut firsts = [depth; LANES];
+        let mut i = depth;
+        while i > 0 {
+            i -= 1;
             if let Some(level) = self.level(i) {
-                if level.may_have(key, hash) {
-                    return i;
-                }
+                put_where_may(level, i, keys, &hashes, &bits, &mut firsts);
             }
         }
-        depth
+        firsts
     }
 
     /// The first of the groups among which a key is in a level. It tells nothing.
     #[inline(always)]
-    fn first_group(&self, i: usize, key: u64) -> usize {
+    pub(crate) fn first_group(&self, i: usize, key: u64) -> usize {
         match self.level(i) {
             Some(level) => level.first_group(key),
             None => 0,
@@ -90,7 +98,7 @@ impl LogMap {
 
     /// The group of a key in a level, from the first one on. It tells nothing.
     #[inline(always)]
-    fn group_from(&self, i: usize, first: usize, key: u64) -> usize {
+    pub(crate) fn group_from(&self, i: usize, first: usize, key: u64) -> usize {
         match self.level(i) {
             Some(level) => level.group_from(first, key),
             None => 0,
@@ -117,5 +125,52 @@ impl LogMap {
             }
         }
         self.value_in_levels(key)
+    }
+}
+
+/// The hash of each key.
+#[inline(always)]
+fn hashes_of(keys: &[u64; LANES]) -> [u64; LANES]
+    ensures { (k : ℕ) → k < LANES → slice_index result k ≡ hash_of (slice_index keys.now k) }
+{
+    let mut hashes = [0; LANES];
+    for lane in 0..LANES {
+        hashes[lane] = hash(keys[lane]);
+    }
+    hashes
+}
+
+/// The bits of each hash.
+#[inline(always)]
+fn bits_of_each(hashes: &[u64; LANES]) -> [u64; LANES]
+    ensures { (k : ℕ) → k < LANES → slice_index result k ≡ bits_of (slice_index hashes.now k) }
+{
+    let mut each = [0; LANES];
+    for lane in 0..LANES {
+        each[lane] = bits(hashes[lane]);
+    }
+    each
+}
+
+/// Puts level `i` in place of a later one for each key that its filter doesn't deny.
+#[inline(always)]
+fn put_where_may(
+    level: &Level,
+    i: usize,
+    keys: &[u64; LANES],
+    hashes: &[u64; LANES],
+    bits: &[u64; LANES],
+    firsts: &mut [usize; LANES],
+)
+    requires hashes { (k : ℕ) → k < LANES →
+        slice_index hashes.now k ≡ hash_of (slice_index keys.now k) }
+    requires bits { (k : ℕ) → k < LANES →
+        slice_index bits.now k ≡ bits_of (slice_index hashes.now k) }
+    ensures { (k : ℕ) → k < LANES → IsPutWhereMay level.now i (slice_index keys.now k)
+        (slice_index firsts.old k) (slice_index firsts.new k) }
+{
+    for lane in 0..LANES {
+        let may = level.may_have(keys[lane], hashes[lane], bits[lane]);
+        firsts[lane] = if may { i } else { firsts[lane] };
     }
 }

@@ -9,7 +9,7 @@ ghost use Rattle.log_levels.specs.Maps.{map_after, value_at, next_from, count_be
 ghost use Rattle.log_levels.specs.Shapes.{IsCutOf, StandsFor, last_at};
 ghost use Rattle.log_levels.specs.Kept.{value_of};
 
-use crate::filter::hash;
+use crate::filter::{bits, hash};
 use crate::log_map::LogMap;
 use tombstones::Entry;
 
@@ -73,9 +73,10 @@ impl LogMap {
             result ≡ value_of (last_at entries key) }
     {
         let hash = hash(key);
+        let bits = bits(hash);
         for i in 0..self.depth() {
             if let Some(level) = self.level(i) {
-                if let Some(entry) = level.entry(key, hash) {
+                if let Some(entry) = level.entry(key, hash, bits) {
                     return entry.value;
                 }
             }

@@ -1,13 +1,17 @@
 ghost use Rattle.std.specs.Prelude.{◌≡◌, ◌<◌, ◌≤◌, ◌^◌, length};
 
-use super::filter::{Filter, hash};
+use super::builder::Here;
+use super::filter::{Filter, bits, hash};
+use super::level::Level;
 use super::*;
+use budget::NoMemory;
 use edge::{Gate, OpenGate, Place};
 use std::alloc::{AllocError, Global};
 use std::process::Abort;
 use std::sync::atomic::{AtomicU64, Ordering};
 use std::test::Fail;
 use std::thread::Threads;
+use tombstones::is_ascending;
 
 /// Puts each of the keys from `low` to below `end`, with itself as its value.
 fn put_all<R: Abort + AllocGlobal>(rt: &R, map: &mut LogMap, low: u64, end: u64)
@@ -44,25 +48,61 @@ fn full_at_the_capacity(rt: HostRuntime) -> Result<(), Fail> {
 // A program in another language counts as many odd numbers that pass.
 #[test]
 fn few_pass_a_filter_falsely(rt: HostRuntime) -> Result<(), Fail> {
-    let mut entries = Vec::new(rt.alloc());
+    let mut keys = Vec::new(rt.alloc());
     for key in 0..4096 {
-        let value = Some(key);
-        entries.push(Entry {
-            key: 2 * key,
-            value,
-        })?;
+        keys.push(2 * key)?;
     }
-    assert!(rt; entries.len() < 5000);
-    let filter = Filter::of(rt.alloc(), &entries)?;
+    assert!(rt; keys.len() < 5000);
+    let filter = Filter::of(rt.alloc(), &keys)?;
     let mut passed = 0u64;
     for key in 0..4096 {
-        assert!(rt; filter.passes(hash(2 * key)));
-        if filter.passes(hash(2 * key + 1)) {
+        assert!(rt; passes(&filter, 2 * key));
+        if passes(&filter, 2 * key + 1) {
             passed = passed.wrapping_add(1);
         }
     }
     assert_eq!(rt; passed, 23);
     Ok(())
+}
+
+fn passes(filter: &Filter, key: u64) -> bool {
+    let hash = hash(key);
+    filter.passes(hash, bits(hash))
+}
+
+// No contract says that the fences lead to a key, so each key of a group is looked for by them.
+#[test]
+fn fences_lead_to_each_key(rt: HostRuntime) -> Result<(), Fail> {
+    for count in [8, 9, 128, 135, 136, 137, 1000, 20_000] {
+        let entries = squares(rt.alloc(), count)?;
+        assert!(rt; is_ascending(&entries));
+        assert!(rt; entries.len() < 100_000);
+        let here = Here { alloc: rt.alloc() };
+        let level = Level::of(&here, rt.alloc(), entries)?;
+        for root in 0..count {
+            let key = root.wrapping_mul(root);
+            let group = level.group_from(level.first_group(key), key);
+            assert_eq!(rt; group as u64, root / 8);
+            if root < count / 8 * 8 {
+                let entry = level.entry_in(group, key);
+                assert_eq!(rt; entry.map(|entry| entry.value), Some(Some(root)));
+            }
+        }
+    }
+    Ok(())
+}
+
+/// So many squares from 0 on, each with its root.
+fn squares(alloc: Global, count: u64) -> Result<Vec<Entry>, NoMemory> {
+    let mut entries = Vec::new(alloc);
+    for root in 0..count {
+        let value = Some(root);
+        entries.push(Entry {
+            key: root.wrapping_mul(root),
+            value,
+        })?;
+    }
+    Ok(entries)
 }
 
 // The even numbers stand in one level, where 23 odd ones pass its filter, and deletions of every

@@ -7,10 +7,9 @@ ghost use Rattle.tombstones.specs.declared.entry.Entry.{Entry};
 ghost use Rattle.log_levels.specs.Shapes.{IsCutOf, last_at, level_of, level_keys};
 ghost use Rattle.window_search.specs.Searches.{lb};
 ghost use Rattle.tombstones.specs.Entries.{entry_at};
-ghost use Rattle.log_levels.specs.Kept.{ArePlaces, ArePlacesNear, IsAbsent, IsBelow};
+ghost use Rattle.log_levels.specs.Kept.{ArePlaces, IsAbsent, IsBelow};
 ghost use Rattle.log_levels.specs.Kept.{IsNextLive, entry_in, value_of};
 
-use crate::level::{FIRST_LONG, WINDOW_SHIFT};
 use crate::log_map::LogMap;
 use crate::questions::last_of;
 use tombstones::Entry;
@@ -21,45 +20,32 @@ pub type Places = [usize; 26];
 impl LogMap {
     /// The places of a key.
     ///
-    /// Long levels are searched in step: each step halves the places that are left in all of them,
-    /// so that their reads of memory don't wait for one another.
+    /// All levels are searched in step, so that their reads of memory don't wait for one another.
     pub(crate) fn places(&self, key: u64) -> Places
         ensures { ArePlaces self.now result key }
     {
-        let mut places = self.places_near(key);
-        let mut shift = WINDOW_SHIFT;
-        while shift > 0 {
-            shift -= 1;
-            self.narrow(&mut places, key, shift);
-        }
-        places
-    }
-
-    /// The same, but that in each long level the place is one of 256 from the given one on.
-    fn places_near(&self, key: u64) -> Places
-        ensures { ArePlacesNear self.now result key (2 ^ WINDOW_SHIFT) }
-    {
+        let groups = self.groups(key);
         let mut places = [0; 26];
         for i in 0..self.depth() {
             if let Some(level) = self.level(i) {
-                places[i] = level.start_in(i, key);
+                places[i] = level.place_by(groups[i], key);
             }
         }
         places
     }
 
-    /// A step of the search, which leaves `2^shift` places in each long level of twice as many.
-    #[inline(always)]
-    fn narrow(&self, places: &mut Places, key: u64, shift: u32)
-        requires few { shift < 64 }
-        requires near { ArePlacesNear self.now places.old key (2 * 2 ^ shift) }
-        ensures { ArePlacesNear self.now places.new key (2 ^ shift) }
-    {
-        for i in FIRST_LONG..self.depth() {
-            if let Some(level) = self.level(i) {
-                places[i] = level.narrowed(i, places[i], key, shift);
-            }
+    /// The group of a key in each level. It tells nothing.
+    fn groups(&self, key: u64) -> Places {
+        let _ = &self.accepted;
+        let depth = self.depth();
+        let mut groups = [0; 26];
+        for i in 0..depth {
+            groups[i] = self.first_group(i, key);
         }
+        for i in 0..depth {
+            groups[i] = self.group_from(i, groups[i], key);
+        }
+        groups
     }
 
     /// The least key from `from` on that the map has, with its value, if there is one, by the

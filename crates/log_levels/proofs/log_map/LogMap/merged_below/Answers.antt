@@ -10,11 +10,7 @@ use Rattle.log_levels.proofs.log_map.LogMap.merged_below.Goals.{in-Some+in_ok-me
 pub loop-i-init : goal.loop-i-init
 loop-i-init g c = record {
   ascending = c.in_ok-merged.ensures.ascending;
-  lasts = λ entries cut. merged-none entries (length entries / 64) c.args.new.now c.deref.result.now c.deref-3.result.now c.deref-2.result.now c.in_ok-merged.merged.items
-      (c.deref.ensures.value ∙ ap (λ (held : Held). held.buffer) c.self.view_is ∙ cut.buffer)
-      (subst (IsLastOfEach false c.deref.result.now) (sym c.deref-3.ensures.value) c.in_ok-older.ensures)
-      (subst (IsLastOfEach false c.args.new.now) (sym c.deref-2.ensures.value) c.in_ok-newer.ensures)
-      c.in_ok-merged.ensures.ascending c.in_ok-merged.ensures.winners;
+  lasts = λ entries cut. merged-none entries (length entries / 64) c.args.new.now c.args.self.now.buffer c.in_ok-merged.merged.items cut.buffer c.in_ok-merged.ensures;
 }
 
 pub loop-i-preserved : goal.loop-i-preserved
@@ -23,8 +19,8 @@ loop-i-preserved g c = elim c.match-level.branch [
       let is : c.match-level.merged.items ≡ w.in_ok-merged-2.merged.items = ap (λ (v : Vec Entry Global). v.items) w.merged-is in
       let next : IsMerged c w.in_ok-merged-2.merged.items = record {
         ascending = w.in_ok-merged-2.ensures.ascending;
-        lasts = λ entries cut. merged-some entries (length entries / 64) c.loop-i.i c.args.new.now c.loop-i.merged.items w.deref-in-Some.result.now w.entries.result.now w.in-Some.level.now
-            w.in_ok-merged-2.merged.items _ w.in-Some.ensures (cut.levels c.loop-i.i (omega arith)) w.deref-in-Some.ensures.value w.entries.ensures.entries (c.loop-i.invariant.lasts entries cut)
+        lasts = λ entries cut. merged-some entries (length entries / 64) c.loop-i.i c.args.new.now c.loop-i.merged.items w.deref.result.now w.entries.result.now w.in-Some.level.now
+            w.in_ok-merged-2.merged.items _ w.in-Some.ensures (cut.levels c.loop-i.i (omega arith)) w.deref.ensures.value w.entries.ensures.entries (c.loop-i.invariant.lasts entries cut)
             w.in_ok-merged-2.ensures.ascending w.in_ok-merged-2.ensures.winners;
       } in
       subst (IsMerged c) (sym is) next

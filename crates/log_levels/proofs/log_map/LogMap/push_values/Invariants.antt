@@ -1,15 +1,15 @@
--- Each key so far has its level, and then its value.
+-- Each key so far is asked for, and then has its value.
 use Rattle.std.proofs.Common.{◌≡◌, ◌+◌, ◌++◌, ◌<◌, ◌≤◌, ℕ, List, length, map, take, slice_index}
 use Rattle.std.specs.Prelude.{vec_len, vec_capacity}
 use Rattle.tombstones.specs.declared.entry.Entry.{Entry}
 use Rattle.log_levels.specs.Shapes.{IsCutOf, last_at}
-use Rattle.log_levels.specs.Kept.{HasReached, value_of}
+use Rattle.log_levels.specs.Kept.{value_of}
 use Rattle.log_levels.proofs.log_map.LogMap.push_values.Given as goal
 
 abbrev pub invariant-loop-lane : goal.invariant-loop-lane
 invariant-loop-lane l = record {
-  lanes : length l.levels ≡ 16;
-  reached : (k : ℕ) → k < l.lane → HasReached l.self (slice_index l.keys k) (slice_index l.levels k);
+  lanes : length l.asked ≡ 16;
+  done : (k : ℕ) → k < l.lane → slice_index l.asked k ≡ slice_index l.keys k;
 }
 
 abbrev pub invariant-loop-lane-2 : goal.invariant-loop-lane-2
