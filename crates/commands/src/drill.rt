@@ -97,7 +97,7 @@ fn counts_of<R: Threads + Sync, G: Gate>(
         updates,
     } = inputs;
     let index = index_of(rt, alloc, SortedKeys { keys }, bounds, workers, gate)?;
-    let sum = sum_of_positions(rt, alloc, &index, &finds)?;
+    let sum = sum_of_positions(rt, alloc, &index, workers, &finds)?;
     let (found, looked) = points_in_region(rt, alloc, &coordinates)?;
     let live = live_after(rt, alloc, &updates, workers, gate)?;
     Ok(Counts {
@@ -116,13 +116,14 @@ fn sum_of_positions<R: Threads + Sync>(
     rt: &R,
     alloc: Global,
     index: &Index,
+    workers: Workers,
     finds: &[u64],
 ) -> Result<u64, NoMemory>
     requires { length finds.now ≤ 1000000 }
     ensures { IfOk result (λ sum_found. sum_found ≡ sum (map (lb index.now.keys) finds.now)) }
 {
     let finder = Finder::Levels(index);
-    let positions = positions_of(rt, alloc, &finder, finds)?;
+    let positions = positions_of(rt, alloc, &finder, workers, finds)?;
     Ok(sum_of(&positions))
 }
 

@@ -9,6 +9,7 @@ ghost use Rattle.commands.specs.Finders.{keys_of};
 ghost use Rattle.commands.specs.Pieces.{piece_of};
 
 use crate::finder::Finder;
+use crate::task::Workers;
 use budget::NoMemory;
 use rayon::slice::par_for_each_mut;
 use std::alloc::Global;
@@ -17,8 +18,9 @@ use std::thread::Threads;
 /// How many questions a piece of a list has. A list of at most so many stays on one thread.
 const PIECE: usize = 2048;
 
-/// The same where a finder gains by grouping questions, and there are as many: the more are grouped
-/// together, the nearer to one another are the keys that are read.
+/// How many it has at least where a finder gains by grouping questions, and there are as many: the
+/// more are grouped together, the nearer to one another are the keys that are read. So there are no
+/// more pieces then than workers.
 const LONG_PIECE: usize = 262_144;
 
 /// How many keys are below each question. The pieces of the list are shared among threads, and the
@@ -27,13 +29,14 @@ pub fn positions_of<R: Threads + Sync>(
     rt: &R,
     alloc: Global,
     finder: &Finder<'_>,
+    workers: Workers,
     questions: &[u64],
 ) -> Result<Vec<u32>, NoMemory>
     ensures { IfOk result
         (λ positions. positions.items ≡ map (lb (keys_of finder.now)) questions.now) }
 {
     let mut positions = Vec::with_capacity(alloc, questions.len())?;
-    let size = piece_size(finder, questions.len());
+    let size = piece_size(finder, workers, questions.len());
     if questions.len() <= size {
         finder.positions(alloc, questions, &mut positions);
         return Ok(positions);
@@ -56,11 +59,11 @@ pub fn positions_of<R: Threads + Sync>(
 }
 
 // How many questions a piece of a list of so many has.
-fn piece_size(finder: &Finder<'_>, count: usize) -> usize
+fn piece_size(finder: &Finder<'_>, workers: Workers, count: usize) -> usize
     ensures { 1 ≤ result }
 {
     if count >= LONG_PIECE && finder.is_grouping() {
-        LONG_PIECE
+        LONG_PIECE.max(count.div_ceil(workers.count as usize))
     } else {
         PIECE
     }

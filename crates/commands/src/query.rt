@@ -44,11 +44,11 @@ pub fn write<R: Threads + Sync, S: Sink, G: Gate>(
         (IsAnswered sorted.keys.items (bounds_of bounds) questions.now windows) }
 {
     if !windows && table.bits == 0 && !is_paid_for(questions.len(), sorted.keys.len()) {
-        return write_by_keys(rt, alloc, &sorted, bounds, questions, out);
+        return write_by_keys(rt, alloc, &sorted, bounds, workers, questions, out);
     }
     let index = index_of(rt, alloc, sorted, bounds, workers, gate)?;
     let finder = Finder::of(alloc, &index, table.bits)?;
-    let positions = positions_of(rt, alloc, &finder, questions)?;
+    let positions = positions_of(rt, alloc, &finder, workers, questions)?;
     let mut room = Vec::with_capacity(alloc, index.levels() as usize)?;
     let told = if windows { Some(&index) } else { None };
     let keys = index.keys().file();
@@ -71,13 +71,14 @@ fn write_by_keys<R: Threads + Sync, S: Sink>(
     alloc: Global,
     sorted: &SortedKeys,
     bounds: Bounds,
+    workers: Workers,
     questions: &[u64],
     out: &mut S,
 ) -> Result<(), Unfinished>
     ensures { WritesText S.Sink out.old result out.new
         (IsAnswered sorted.now.keys.items (bounds_of bounds) questions.now false) }
 {
-    let positions = positions_of(rt, alloc, &Finder::Sorted(sorted), questions)?;
+    let positions = positions_of(rt, alloc, &Finder::Sorted(sorted), workers, questions)?;
     let mut room = Vec::new(alloc);
     let written = write_answers(
         out,

@@ -30,7 +30,8 @@ pub struct Bounds {
     pub ghost bounded_above: { eps_rec ≤ MAX_EPSILON },
 }
 
-/// How many workers build an index, from 1 to 64. No text depends on it.
+/// How many workers build an index, from 1 to 64, and among how many very many questions are shared
+/// at most. No text depends on it.
 #[derive(Clone, Copy, Debug)]
 pub struct Workers {
     pub count: u32,
