@@ -154,18 +154,21 @@ impl Boxes {
 }
 
 /// How many numbers from the front on are below another one.
+///
+/// They never fall, so all that are below are counted: a branch on where the first other one stands
+/// is foretold wrongly half of the time.
 #[inline(always)]
 fn front_below(numbers: &[u64], least: u64) -> usize
+    requires order { IsNonDecreasing numbers.now }
     ensures within { result ≤ length numbers.now }
     ensures below { (k : ℕ) → k < result → slice_index numbers.now k < least }
     ensures from { result < length numbers.now → least ≤ slice_index numbers.now result }
 {
-    for i in 0..numbers.len() {
-        if least <= numbers[i] {
-            return i;
-        }
+    let mut count = 0usize;
+    for number in numbers {
+        count += usize::from(*number < least);
     }
-    numbers.len()
+    count
 }
 
 /// The end of the codes inside a region that stand side by side from a place on.

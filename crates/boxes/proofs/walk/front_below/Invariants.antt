@@ -1,6 +1,7 @@
--- The numbers up to the place are below the one that is looked for.
-use Rattle.std.proofs.Common.{ℕ, ◌<◌, slice_index}
+-- So far the count is the lower bound among the numbers before the place.
+use Rattle.std.proofs.Common.{◌≡◌, ◌≤◌, take}
+use Rattle.window_search.specs.Searches.{lb}
 use Rattle.boxes.proofs.walk.front_below.Given as goal
 
-abbrev pub invariant-loop-i : goal.invariant-loop-i
-invariant-loop-i l = (k : ℕ) → k < l.i → slice_index l.numbers k < l.least
+abbrev pub invariant-loop-number : goal.invariant-loop-number
+invariant-loop-number l = (l.count ≡ lb (take l.number-index l.numbers) l.least) × (l.count ≤ l.number-index)

@@ -1,0 +1,18 @@
+-- The numbers never fall, so how many are below is the place of the first that isn't.
+use Rattle.std.proofs.Common.{ℕ, List, ap, sym, subst, ◌∙◌, arith}
+use Rattle.std.proofs.lemmas.List.{take_all}
+use Rattle.window_search.specs.Searches.{lb}
+use Rattle.window_search.proofs.CallerLemmas.{IsLowerBound, IsLowerBound-lb}
+use Rattle.boxes.proofs.walk.front_below.Goals as goal
+
+is-bound : (c : goal.After-loop-number) → IsLowerBound c.args.numbers.now c.args.least c.loop-number.count
+is-bound c =
+    let least = c.args.least in
+    let all = take_all c.loop-number.number-index c.args.numbers.now c.loop-number-test.false in
+    subst (IsLowerBound c.args.numbers.now least) (sym (c.loop-number.invariant.0 ∙ ap (λ (xs : List ℕ). lb xs least) all)) (IsLowerBound-lb c.args.numbers.now least c.requires.order)
+
+pub returns-clause-below : goal.returns-clause-below
+returns-clause-below c = (is-bound c).before
+
+pub returns-clause-from : goal.returns-clause-from
+returns-clause-from c = (is-bound c).from c.loop-number.count (omega arith)
