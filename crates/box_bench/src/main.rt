@@ -360,19 +360,22 @@ fn sum_of_triples(codes: &[u64], columns: &mut Columns) -> u64 {
 
 /// The sum of the coordinates of the first points of a block, the first coordinate taken once, the
 /// second three times, the third five times.
+///
+/// Coordinates of three are below 2^22, so sums of 256 have 32 bits, of which a vector holds twice
+/// as many as of 64.
 fn weighed_total(columns: &Columns, many: usize) -> u64
     requires { many ≤ 256 }
 {
-    let mut first = 0u64;
-    let mut second = 0u64;
-    let mut third = 0u64;
+    let mut first = 0u32;
+    let mut second = 0u32;
+    let mut third = 0u32;
     for i in 0..many {
-        first = first.wrapping_add(u64::from(columns.firsts[i]));
-        second = second.wrapping_add(u64::from(columns.seconds[i]));
-        third = third.wrapping_add(u64::from(columns.thirds[i]));
+        first = first.wrapping_add(columns.firsts[i]);
+        second = second.wrapping_add(columns.seconds[i]);
+        third = third.wrapping_add(columns.thirds[i]);
     }
-    let sum = first.wrapping_add(second.wrapping_mul(3));
-    sum.wrapping_add(third.wrapping_mul(5))
+    let sum = u64::from(first).wrapping_add(u64::from(second).wrapping_mul(3));
+    sum.wrapping_add(u64::from(third).wrapping_mul(5))
 }
 
 /// The sum of numbers, in 64 bits.
