@@ -16,3 +16,4 @@ pub mod SearchLemmas
 pub mod WalkLemmas
 pub mod PlaceLemmas
 pub mod ManyLemmas
+pub mod WordLemmas

@@ -2,7 +2,8 @@
 ghost use Rattle.std.specs.Prelude.{◌≡◌, ◌≢◌, ◌+◌, ◌-◌, ◌*◌, ◌/◌};
 ghost use Rattle.std.specs.Prelude.{◌^◌};
 ghost use Rattle.std.specs.Prelude.{◌<◌, ◌≤◌, ◌==◌, ◌++◌, ℕ, List};
-ghost use Rattle.std.specs.Prelude.{false, length, take, drop, vec_len, slice_index_or};
+ghost use Rattle.std.specs.Prelude.{false, length, take, drop, vec_capacity, vec_len};
+ghost use Rattle.std.specs.Prelude.{slice_index_or};
 ghost use Rattle.std.specs.Prelude.{None, Some, IfOk, OnOk, OnErr, IsTrue, IsSome, All};
 ghost use Rattle.std.specs.Option.{option_map};
 ghost use Rattle.std.specs.Int.{bit_at};
@@ -216,7 +217,7 @@ impl LogMap {
             *self = self.with_entries(builder, alloc, new)?;
             return Ok(());
         }
-        self.buffer.extend_from_slice(new)?;
+        push_each(&mut self.buffer, new);
         self.accepted = after;
         Ok(())
     }
@@ -241,6 +242,19 @@ impl LogMap {
             Some(level) => Ok(Some(Arc::try_clone(level)?)),
             None => Ok(None),
         }
+    }
+}
+
+/// Puts entries behind those of a list, which has room for them: one by one, since they are one
+/// mostly, and a call that copies any number takes longer.
+#[inline(always)]
+fn push_each(into: &mut Vec<Entry>, new: &[Entry])
+    requires room { vec_len into.old + length new.now ≤ vec_capacity into.old }
+    ensures items { into.new.items ≡ into.old.items ++ new.now }
+    ensures capacity { vec_capacity into.new ≡ vec_capacity into.old }
+{
+    for entry in new {
+        into.push_reserved(*entry);
     }
 }
 

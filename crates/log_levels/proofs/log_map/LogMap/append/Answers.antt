@@ -11,10 +11,10 @@ invariant_of-self-2 g c =
     record {
       cut = (
         entries ++ c.args.new.now,
-        buffered-kept inside c.args.self.now c.args.new.now c.extend_from_slice.new.self.items entries c.self.view_is c.self.invariant.few c.requires.room
-            (omega (arith, c.if-self-after.false)) c.in_ok-extend_from_slice.ensures.items (subst (λ held. IsCutOf held entries) c.self.view_is cut),
+        buffered-kept inside c.args.self.now c.args.new.now c.push_each.new.into.items entries c.self.view_is c.self.invariant.few c.requires.room
+            (omega (arith, c.if-self-after.false)) c.push_each.ensures.items (subst (λ held. IsCutOf held entries) c.self.view_is cut),
       );
-      roomy = omega (arith, c.in_ok-extend_from_slice.ensures.capacity, c.self.invariant.roomy);
+      roomy = omega (arith, c.push_each.ensures.capacity, c.self.invariant.roomy);
       some = c.self.invariant.some;
       few = c.self.invariant.few;
     }
@@ -22,5 +22,5 @@ invariant_of-self-2 g c =
 pub returns-clause-cut : goal.returns-clause-cut
 returns-clause-cut g c = λ entries cut.
     let inside = held_of c.self.inside.accepted c.self.inside.buffer.items c.self.inside.stored.items in
-    buffered-kept inside c.args.self.now c.args.new.now c.extend_from_slice.new.self.items entries c.self.view_is c.self.invariant.few c.requires.room
-    (omega (arith, c.if-self-after.false)) c.in_ok-extend_from_slice.ensures.items cut
+    buffered-kept inside c.args.self.now c.args.new.now c.push_each.new.into.items entries c.self.view_is c.self.invariant.few c.requires.room
+    (omega (arith, c.if-self-after.false)) c.push_each.ensures.items cut
