@@ -7,6 +7,7 @@ ghost use Rattle.window_search.specs.Searches.{lb};
 ghost use Rattle.boxes.specs.PointCodes.{AreSortedCodes};
 
 use crate::codes::sorted_codes;
+use crate::near::bound_near;
 use budget::{NoMemory, Steps};
 use levels::{Index, Keys};
 use std::alloc::Global;
@@ -90,10 +91,25 @@ impl Boxes {
     }
 
     /// The lower bound of a code: how many of the codes are below it.
+    ///
+    /// It is searched near where the index says, and where it isn't there, by the index.
     pub(crate) fn lower_bound(&self, code: u64) -> usize
         ensures { result ≡ lb self.now.codes code }
     {
-        self.index.position(code) as usize
+        match bound_near(self.codes(), self.start_near(code), code) {
+            Some(place) => place,
+            None => self.index.position(code) as usize,
+        }
+    }
+
+    /// Where the places begin among which the lower bound of a code is, by the index. It tells
+    /// nothing.
+    #[inline(always)]
+    fn start_near(&self, code: u64) -> usize {
+        if self.codes().is_empty() {
+            return 0;
+        }
+        self.index.start_near(code) as usize
     }
 }
 

@@ -19,6 +19,7 @@ mod boxes;
 mod cells;
 mod codes;
 mod found;
+mod near;
 mod walk;
 
 pub use answer::one_answer;
