@@ -11,7 +11,7 @@ use Rattle.log_levels.specs.Kept.{IsMergedTo, IsHighestChange}
 use Rattle.log_levels.proofs.BitLemmas.{from_bit-zero, from_bit-le, from_bit-gt, from_bit-antitone, from_bit-clear, from_bit-set, none-left, some-left, some-left-below, same-above}
 use Rattle.log_levels.proofs.CutLemmas.{behind, behind-more, drop-append-ge, block-clear, block-behind, block-before, block-across}
 use Rattle.log_levels.proofs.HeldLemmas.{room_is}
-use Rattle.log_levels.proofs.LastLemmas.{last_at-append, kept-winner}
+use Rattle.log_levels.proofs.LastLemmas.{last_at-append, kept-kept, kept-winner}
 use Rattle.log_levels.proofs.LengthLemmas.{length-latest}
 
 -- at the start there are the last entries of the buffer and the new entries behind it
@@ -36,7 +36,7 @@ merged-clear entries f i new merged clear so_far =
 
 -- where it is, it is merged
 pub merged-set : (entries : List Entry) (f i : ℕ) (new merged level next : List Entry) → IsLevelFor entries f i (Some level) → IsMergedTo entries f i new merged
-    → IsAscending next → ((key : ℕ) → entry_at next key ≡ winner_at merged level key) → IsMergedTo entries f (i + 1) new next
+    → IsAscending next → ((key : ℕ) → entry_at next key ≡ kept (eqb (f / 2 ^ (i + 1)) 0) (winner_at merged level key)) → IsMergedTo entries f (i + 1) new next
 merged-set entries f i new merged level next (set, last) so_far ascending winners =
     let deepest = eqb (f / 2 ^ (i + 1)) 0 in
     let flag : eqb (f / 2 ^ i) 0 ≡ false = some-left i f set in
@@ -45,7 +45,8 @@ merged-set entries f i new merged level next (set, last) so_far ascending winner
     record {
       ascending = ascending;
       lasts = λ key.
-          ap (kept deepest) (winners key ∙ ap (λ entry. option_or entry (entry_at level key)) (exact key))
+          ap (kept deepest) (winners key) ∙ kept-kept deepest (winner_at merged level key)
+          ∙ ap (λ entry. kept deepest (option_or entry (entry_at level key))) (exact key)
           ∙ kept-winner deepest (last_at (behind entries f i ++ new) key) (last_at (block_of entries f i) key) (entry_at level key) (last.lasts key)
           ∙ ap (kept deepest) (sym (last_at-append (block_of entries f i) (behind entries f i ++ new) key)
           ∙ ap (λ list. last_at list key) (sym (append_assoc (block_of entries f i) (behind entries f i) new) ∙ ap (λ list. list ++ new) (sym (behind-more entries f i))));
@@ -119,12 +120,13 @@ module _ (entries new : List Entry) (top : ℕ) (change : IsHighestChange (lengt
       (sym bit ∙ set, subst (λ list. IsLastOfEach (eqb (g / 2 ^ (i + 1)) 0) list level) (sym block) (subst (λ q. IsLastOfEach (eqb q 0) (block_of entries f i) level) next last))
 
 -- one level more: it is merged, where it is occupied
-pub merged-some : (entries : List Entry) (f i : ℕ) (new merged newer older level next : List Entry) (stored : Option (List Entry)) → Some level ≡ stored → IsLevelFor entries f i stored
+pub merged-some : (entries : List Entry) (b f i : ℕ) (new merged newer older level next : List Entry) (stored : Option (List Entry)) → b ≡ f → Some level ≡ stored → IsLevelFor entries f i stored
     → newer ≡ merged → older ≡ level → IsMergedTo entries f i new merged
-    → IsAscending next → ((key : ℕ) → entry_at next key ≡ winner_at newer older key) → IsMergedTo entries f (i + 1) new next
-merged-some entries f i new merged newer older level next stored is has same_newer same_older so_far ascending winners =
+    → IsAscending next → ((key : ℕ) → entry_at next key ≡ kept (eqb (b / 2 ^ (i + 1)) 0) (winner_at newer older key)) → IsMergedTo entries f (i + 1) new next
+merged-some entries b f i new merged newer older level next stored same is has same_newer same_older so_far ascending winners =
     merged-set entries f i new merged level next (subst (IsLevelFor entries f i) (sym is) has) so_far ascending
-    (λ key. winners key ∙ ap (λ list. option_or (entry_at list key) (entry_at older key)) same_newer ∙ ap (λ list. option_or (entry_at merged key) (entry_at list key)) same_older)
+    (λ key. winners key ∙ ap (λ k. kept (eqb (k / 2 ^ (i + 1)) 0) (winner_at newer older key)) same
+    ∙ ap (kept (eqb (f / 2 ^ (i + 1)) 0)) (ap (λ list. option_or (entry_at list key) (entry_at older key)) same_newer ∙ ap (λ list. option_or (entry_at merged key) (entry_at list key)) same_older))
 
 pub merged-skip : (entries : List Entry) (f i : ℕ) (new merged : List Entry) (stored : Option (List Entry)) → None ≡ stored → IsLevelFor entries f i stored
     → IsMergedTo entries f i new merged → IsMergedTo entries f (i + 1) new merged

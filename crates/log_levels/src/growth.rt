@@ -26,7 +26,8 @@ use tombstones::Entry;
 
 impl LogMap {
     /// The levels below level `top`, the buffer and new entries behind them, merged from the newest
-    /// on.
+    /// on, and where nothing lies below without deletions: dropped by a pass of their own, they
+    /// would take as much room once more.
     fn merged_below<B: Builder>(
         &self,
         builder: &B,
@@ -40,9 +41,11 @@ impl LogMap {
             IsMergedTo entries (length entries / 64) top new.now merged.items) }
     {
         let mut merged = self.latest_with(builder, alloc, new)?;
+        let _ = self.accepted();
+        let blocks = self.blocks_with(0);
         for i in 0..top {
             if let Some(level) = self.level(i) {
-                merged = builder.merge(&merged, level.entries(), false)?;
+                merged = builder.merge(&merged, level.entries(), blocks >> (i + 1) == 0)?;
             }
         }
         Ok(merged)

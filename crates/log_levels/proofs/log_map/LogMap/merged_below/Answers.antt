@@ -19,8 +19,8 @@ loop-i-preserved g c = elim c.match-level.branch [
       let is : c.match-level.merged.items ≡ w.in_ok-merged-2.merged.items = ap (λ (v : Vec Entry Global). v.items) w.merged-is in
       let next : IsMerged c w.in_ok-merged-2.merged.items = record {
         ascending = w.in_ok-merged-2.ensures.ascending;
-        lasts = λ entries cut. merged-some entries (length entries / 64) c.loop-i.i c.args.new.now c.loop-i.merged.items w.deref.result.now w.entries.result.now w.in-Some.level.now
-            w.in_ok-merged-2.merged.items _ w.in-Some.ensures (cut.levels c.loop-i.i (omega arith)) w.deref.ensures.value w.entries.ensures.entries (c.loop-i.invariant.lasts entries cut)
+        lasts = λ entries cut. merged-some entries c.blocks_with-blocks.result (length entries / 64) c.loop-i.i c.args.new.now c.loop-i.merged.items w.deref.result.now w.entries.result.now w.in-Some.level.now
+            w.in_ok-merged-2.merged.items _ (c.blocks_with-blocks.ensures.blocks ∙ ap (λ k. k / 64) (omega (arith, cut.accepted))) w.in-Some.ensures (cut.levels c.loop-i.i (omega arith)) w.deref.ensures.value w.entries.ensures.entries (c.loop-i.invariant.lasts entries cut)
             w.in_ok-merged-2.ensures.ascending w.in_ok-merged-2.ensures.winners;
       } in
       subst (IsMerged c) (sym is) next
