@@ -29,6 +29,20 @@ pub distinct_of-alone : (keys : List ℕ) → length keys ≤ length (distinct_o
 distinct_of-alone [] long = refl
 distinct_of-alone (k ∷ keys) long = from-whole k keys (omega (arith, long))
 
+-- nor does a list in which each key is below the next one
+rising-whole : (k : ℕ) (xs : List ℕ) → IsStrictlyIncreasing (k ∷ xs) → dedup_from eqb k xs ≡ k ∷ xs
+rising-whole k [] rises = refl
+rising-whole k (x ∷ xs) rises =
+    let less : k < x = rises 0 (omega arith) in
+    let rest : IsStrictlyIncreasing (x ∷ xs) = λ i inside.
+    let next : suc i + 1 ≡ suc (i + 1) = omega arith in
+    subst (λ j. slice_index (x ∷ xs) i < slice_index (k ∷ x ∷ xs) j) next (rises (suc i) (omega arith)) in
+    grind (arith, nat_tests, less, rising-whole x xs rest)
+
+pub distinct_of-rising : (keys : List ℕ) → IsStrictlyIncreasing keys → distinct_of keys ≡ keys
+distinct_of-rising [] rises = refl
+distinct_of-rising (k ∷ keys) rises = rising-whole k keys rises
+
 not_less : (a b : ℕ) → a ≤ b → is_lt (nat_cmp b a) ≡ false
 not_less a b le = grind (arith, nat_tests)
 

@@ -1,7 +1,7 @@
 // The keys of a file, with the points that they stand for.
 ghost use Rattle.std.specs.Prelude.{◌≡◌, ◌+◌, ◌<◌, ◌≤◌, ◌^◌, length};
 ghost use Rattle.std.specs.Prelude.{slice_index, vec_len, IfOk, IsTrue, ◌↔◌};
-ghost use Rattle.std.specs.List.Sorted.{IsNonDecreasing};
+ghost use Rattle.std.specs.List.Sorted.{IsNonDecreasing, IsStrictlyIncreasing};
 ghost use Rattle.window_search.specs.Searches.{lb};
 ghost use Rattle.key_points.specs.KeyPoints.{distinct_of, first_of, xs_of, ys_of};
 
@@ -59,14 +59,7 @@ impl Keys {
     {
         let count = count_distinct(&sorted);
         if count == sorted.len() {
-            let ys = places_of(alloc, &sorted)?;
-            return Ok(Keys {
-                file: sorted,
-                distinct: Vec::new(alloc),
-                xs: Vec::new(alloc),
-                ys,
-                repeats: false,
-            });
+            return Keys::alone(alloc, sorted);
         }
         let Parts { distinct, xs, ys } = parts_of(alloc, &sorted, count)?;
         Ok(Keys {
@@ -75,6 +68,37 @@ impl Keys {
             xs,
             ys,
             repeats: true,
+        })
+    }
+
+    /// The keys of a file in which each key is below the next one: so they aren't gone through for
+    /// repeats.
+    ///
+    /// # Errors
+    ///
+    /// `NoMemory` alone. Then the keys are given up.
+    pub fn of_distinct(alloc: Global, rising: Vec<u64>) -> Result<Keys, NoMemory>
+        requires rises { IsStrictlyIncreasing rising.items }
+        requires few { vec_len rising < 2 ^ 32 }
+        ensures { IfOk result (λ keys. keys ≡ rising.items) }
+    {
+        Keys::alone(alloc, rising)
+    }
+
+    /// The keys of a file in which none repeats.
+    fn alone(alloc: Global, sorted: Vec<u64>) -> Result<Keys, NoMemory>
+        requires never_falls { IsNonDecreasing sorted.items }
+        requires alone { distinct_of sorted.items ≡ sorted.items }
+        requires few { vec_len sorted < 2 ^ 32 }
+        ensures { IfOk result (λ keys. keys ≡ sorted.items) }
+    {
+        let ys = places_of(alloc, &sorted)?;
+        Ok(Keys {
+            file: sorted,
+            distinct: Vec::new(alloc),
+            xs: Vec::new(alloc),
+            ys,
+            repeats: false,
         })
     }
 

@@ -272,7 +272,7 @@ fn keys_of(alloc: Global, entries: &[Entry]) -> Result<Keys, NoMemory>
     for entry in entries {
         keys.push_reserved(entry.key);
     }
-    Keys::of(alloc, keys)
+    Keys::of_distinct(alloc, keys)
 }
 
 /// The fences between groups of entries, by their keys.

@@ -1,0 +1,13 @@
+use Rattle.std.proofs.Common.{ap, ◌∙◌, arith}
+use Rattle.key_points.specs.KeyPoints.{ys_of}
+use Rattle.key_points.proofs.AloneLemmas.{xs_of-alone}
+use Rattle.key_points.proofs.keys.Keys.alone.Goals as goal
+
+pub invariant_of-result : goal.invariant_of-result
+invariant_of-result c = record {
+  never_falls = c.requires.never_falls;
+  few = omega (arith, c.args.sorted.ok.0, c.requires.few);
+  alone = λ _. (c.requires.alone, xs_of-alone c.args.sorted.items c.requires.never_falls c.requires.alone);
+  repeated = λ is. cc;
+  heights = c.in_ok-ys.ensures ∙ ap ys_of c.deref.ensures.value;
+}
