@@ -1,8 +1,8 @@
 -- Taking the winner of the least key off the fronts of two lists: a list whose first key is the least loses it.
-use Rattle.std.proofs.Common.{◌≡◌, ℕ, zero, suc, ◌+◌, ◌<◌, ◌≤◌, ◌==◌, leb, Bool, true, false, if◌then◌else◌, List, [], ◌∷◌, length, drop, get_or, Some, None, refl, sym, add-one, arith, length-drop}
+use Rattle.std.proofs.Common.{◌≡◌, ℕ, ◌+◌, ◌-◌, ◌<◌, ◌≤◌, ◌==◌, leb, ltb, Bool, true, false, not, if◌then◌else◌, List, [], ◌∷◌, length, take, drop, get_or, Some, None, refl, arith, length-drop}
 use Rattle.std.specs.Int.{from_bool}
 use Rattle.std.proofs.lemmas.Bool.{leb-true, leb-false}
-use Rattle.std.proofs.lemmas.List.{get_or-drop, drop-drop}
+use Rattle.std.proofs.lemmas.List.{get_or-drop, take_rest}
 use Rattle.std.proofs.lemmas.Bool.Decides.{nat_tests}
 use Rattle.tombstones.specs.declared.entry.Entry.{Entry}
 use Rattle.tombstones.specs.Entries.{IsAscending, winner_at}
@@ -42,30 +42,26 @@ by_answers new old newer older true false a b one two = from_newer new old newer
 by_answers new old newer older false true a b one two = from_older new old newer older a b (leb-false _ _ one)
 by_answers new old newer older false false a b one two = absurd (omega (arith, leb-false _ _ one, leb-false _ _ two))
 
-pub taken-by_answers : (newer older newer_rest older_rest newer_left older_left : List Entry) (new old least : Entry) → IsAscending newer → IsAscending older → newer ≡ new ∷ newer_rest → older ≡ old ∷ older_rest
-    → newer_left ≡ drop (from_bool (leb new.key old.key)) newer → older_left ≡ drop (from_bool (leb old.key new.key)) older → least ≡ (if leb new.key old.key then new else old)
-    → IsTaken newer older newer_left older_left least
-taken-by_answers newer older newer_rest older_rest newer_left older_left new old least newer_ascending older_ascending newer_is older_is newer_left_is older_left_is least_is =
-    let done = by_answers new old newer_rest older_rest (leb new.key old.key) (leb old.key new.key) (rw newer_is at newer_ascending) (rw older_is at older_ascending) refl refl in
-    rw (newer_left_is, older_left_is, least_is, newer_is, older_is) done
+-- the second comparison, as the step makes it
+leb_not_ltb : (x y : ℕ) → leb y x ≡ not (ltb x y)
+leb_not_ltb x y = grind (arith, nat_tests)
+
+-- the same by the keys, and by how many entries each list loses
+pub taken-by_keys : (newer older : List Entry) (by_newer by_older new_key old_key : ℕ) (blank least : Entry) → 0 < length newer → 0 < length older → IsAscending newer → IsAscending older
+    → new_key ≡ (get_or newer 0 blank).key → old_key ≡ (get_or older 0 blank).key → by_newer ≡ from_bool (leb new_key old_key) → by_older ≡ from_bool (not (ltb new_key old_key))
+    → least ≡ (if leb new_key old_key then get_or newer 0 blank else get_or older 0 blank)
+    → IsTaken newer older (take (length newer - by_newer) (drop by_newer newer)) (take (length older - by_older) (drop by_older older)) least
+taken-by_keys [] older by_newer by_older new_key old_key blank least newer_left older_left newer_ascending older_ascending new_is old_is newer_moves older_moves least_is = absurd (omega arith)
+taken-by_keys (new ∷ newer) [] by_newer by_older new_key old_key blank least newer_left older_left newer_ascending older_ascending new_is old_is newer_moves older_moves least_is = absurd (omega arith)
+taken-by_keys (new ∷ newer) (old ∷ older) by_newer by_older new_key old_key blank least newer_left older_left newer_ascending older_ascending new_is old_is newer_moves older_moves least_is =
+    let new_is' : new_key ≡ new.key = new_is in
+    let old_is' : old_key ≡ old.key = old_is in
+    let one : leb new.key old.key ≡ leb new_key old_key = rw (new_is', old_is') refl in
+    let two : leb old.key new.key ≡ not (ltb new_key old_key) = rw (new_is', old_is') (leb_not_ltb new.key old.key) in
+    let done = by_answers new old newer older (leb new_key old_key) (not (ltb new_key old_key)) newer_ascending older_ascending one two in
+    rw (take_rest (new ∷ newer) by_newer, take_rest (old ∷ older) by_older, newer_moves, older_moves, least_is) done
 
 -- an ascending list is ascending from any place on
 pub ascending_drop : (place : ℕ) (entries : List Entry) → IsAscending entries → IsAscending (drop place entries)
 ascending_drop place entries ascending i j d lt inside =
     rw (get_or-drop place entries i d, get_or-drop place entries j d) (ascending (place + i) (place + j) d (omega arith) (omega (arith, length-drop place entries)))
-
--- from a place in a list on, its entry comes first
-from_place : (place : ℕ) (entries : List Entry) (blank : Entry) → place < length entries → drop place entries ≡ get_or entries place blank ∷ drop (place + 1) entries
-from_place place [] blank inside = absurd (omega arith)
-from_place zero (entry ∷ rest) blank inside = refl
-from_place (suc place) (entry ∷ rest) blank inside =
-    let rest_is : drop place rest ≡ get_or rest place blank ∷ drop (suc place) rest = rw add-one at (from_place place rest blank (omega arith)) in
-    rw add-one rest_is
-
--- the same by places in the lists, and by how far they move
-pub taken-by_places : (newer older : List Entry) (i j by_newer by_older : ℕ) (blank least : Entry) → i < length newer → j < length older → IsAscending newer → IsAscending older
-    → by_newer ≡ from_bool (leb (get_or newer i blank).key (get_or older j blank).key) → by_older ≡ from_bool (leb (get_or older j blank).key (get_or newer i blank).key)
-    → least ≡ (if leb (get_or newer i blank).key (get_or older j blank).key then get_or newer i blank else get_or older j blank)
-    → IsTaken (drop i newer) (drop j older) (drop (i + by_newer) newer) (drop (j + by_older) older) least
-taken-by_places newer older i j by_newer by_older blank least newer_left older_left newer_ascending older_ascending newer_moves older_moves least_is =
-    rw (newer_moves, older_moves) (taken-by_answers (drop i newer) (drop j older) (drop (i + 1) newer) (drop (j + 1) older) _ _ (get_or newer i blank) (get_or older j blank) least (ascending_drop i newer newer_ascending) (ascending_drop j older older_ascending) (from_place i newer blank newer_left) (from_place j older blank older_left) (sym (drop-drop _ i newer)) (sym (drop-drop _ j older)) least_is)

@@ -35,9 +35,13 @@ merged_at newer older deepest key = kept deepest (winner_at newer older key)
 abbrev pub no_entry : Entry
 no_entry = record { key = 0; value = None }
 
+-- the key at a place
+abbrev pub key_at : List Entry → ℕ → ℕ
+key_at entries place = (slice_index_or entries place no_entry).key
+
 -- the edge before part i of `parts`: the key of the entry at an even place, but that 0 is before the first part, and no key behind the last one
 abbrev pub edge_of : List Entry → ℕ → ℕ → Option ℕ
-edge_of entries parts i = if i == 0 then Some 0 else if nat_lt i parts then Some (slice_index_or entries (i * (length entries / parts)) no_entry).key else None
+edge_of entries parts i = if i == 0 then Some 0 else if nat_lt i parts then Some (key_at entries (i * (length entries / parts))) else None
 
 -- the longer of two lists, the newer one where they are as long
 abbrev pub longer_of : List Entry → List Entry → List Entry

@@ -31,7 +31,7 @@ mod remaining;
 pub use budget::NoMemory;
 pub use entry::Entry;
 pub use pieces::merge_in_pieces;
-use remaining::{Places, Remaining};
+use remaining::{Heads, Remaining};
 use std::alloc::Global;
 
 /// Whether the keys rise strictly, as [`merge`] needs them. An empty list's do. Takes no memory.
@@ -97,21 +97,27 @@ fn merge_into(merged: &mut Vec<Entry>, newer: &[Entry], older: &[Entry], deepest
     ensures winners { (key : ℕ) →
         entry_at merged.new.items key ≡ kept deepest (winner_at newer.now older.now key) }
 {
-    let mut places = Places { newer: 0, older: 0 };
+    let mut remaining = Remaining { newer, older };
     'rounds: loop {
-        // So often both lists have an entry left, whichever of them lose theirs.
-        let mut sure = (newer.len() - places.newer).min(older.len() - places.older);
+        // So often both lists have an entry and one behind it, whichever of them lose theirs.
+        let shorter = remaining.newer.len().min(remaining.older.len());
+        let mut sure = shorter.saturating_sub(1);
         if sure == 0 {
             break;
         }
+        let (new_key, old_key) = (remaining.newer[0].key, remaining.older[0].key);
+        let mut heads = Heads {
+            remaining,
+            new_key,
+            old_key,
+        };
         'steps: while sure > 0 {
-            let entry = places.take_lesser(newer, older);
+            let entry = heads.take_lesser();
             push_kept(merged, entry, deepest);
             sure -= 1;
         }
+        remaining = heads.remaining;
     }
-    let (newer, older) = (&newer[places.newer..], &older[places.older..]);
-    let mut remaining = Remaining { newer, older };
     while let Some(entry) = remaining.take_least() {
         push_kept(merged, entry, deepest);
     }

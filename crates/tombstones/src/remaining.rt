@@ -1,8 +1,9 @@
 ghost use Rattle.std.specs.Prelude.{◌≡◌, ℕ, ◌+◌, ◌<◌, ◌≤◌, ◌==◌};
-ghost use Rattle.std.specs.Prelude.{if◌then◌else◌, length, drop};
+ghost use Rattle.std.specs.Prelude.{if◌then◌else◌, length, drop, nat_le};
 ghost use Rattle.std.specs.Int.{from_bool};
 ghost use Rattle.std.specs.Prelude.{Some, None, IfNone, IfSome};
 ghost use Rattle.tombstones.specs.Entries.{IsAscending, winner_at};
+ghost use Rattle.tombstones.specs.Parts.{key_at};
 
 use super::Entry;
 
@@ -13,52 +14,54 @@ pub struct Remaining<'a> {
     pub older: &'a [Entry],
 }
 
-/// How many entries a merge has taken of its two lists.
+/// The same with the next key of each list, where each has one.
 #[derive(Clone, Copy)]
-pub struct Places {
-    pub newer: usize,
-    pub older: usize,
+pub struct Heads<'a> {
+    pub remaining: Remaining<'a>,
+    pub new_key: u64,
+    pub old_key: u64,
 }
 
-impl Places {
+impl Remaining<'_> {
     /// Takes the winner of the lesser of the next keys of two lists, each of which has one.
     ///
     /// Where both lists have that key, the older entry goes with it.
     #[inline(always)]
-    pub fn take_lesser(&mut self, newer: &[Entry], older: &[Entry]) -> Entry
-        requires newer_left { self.old.newer < length newer.now }
-        requires older_left { self.old.older < length older.now }
-        requires newer_ascending { IsAscending newer.now }
-        requires older_ascending { IsAscending older.now }
+    fn take_lesser(&mut self, new_key: u64, old_key: u64) -> Entry
+        requires newer_left { 0 < length self.old.newer.now }
+        requires older_left { 0 < length self.old.older.now }
+        requires newer_ascending { IsAscending self.old.newer.now }
+        requires older_ascending { IsAscending self.old.older.now }
+        requires new_key { new_key ≡ key_at self.old.newer.now 0 }
+        requires old_key { old_key ≡ key_at self.old.older.now 0 }
 
         // The entry is the winner at its key, and at every other key the winner stays.
-        ensures taken { (key : ℕ) →
-            winner_at (drop self.old.newer newer.now) (drop self.old.older older.now) key ≡
+        ensures taken { (key : ℕ) → winner_at self.old.newer.now self.old.older.now key ≡
             (if result.key == key then Some result
-            else winner_at (drop self.new.newer newer.now) (drop self.new.older older.now) key) }
+            else winner_at self.new.newer.now self.new.older.now key) }
 
         // Up to its key nothing is left.
         ensures least { (key : ℕ) → key ≤ result.key →
-            winner_at (drop self.new.newer newer.now) (drop self.new.older older.now) key ≡ None }
+            winner_at self.new.newer.now self.new.older.now key ≡ None }
 
-        // Each place moves by one at most, and one of them does.
-        ensures newer_place { self.new.newer ≤ self.old.newer + 1 }
-        ensures older_place { self.new.older ≤ self.old.older + 1 }
-        ensures moved { self.old.newer + self.old.older < self.new.newer + self.new.older }
-        ensures newer_from { self.old.newer ≤ self.new.newer }
-        ensures older_from { self.old.older ≤ self.new.older }
+        // The lists with the lesser key lose their next entry, and that is one of them at least.
+        ensures newer_left { self.new.newer.now ≡
+            drop (from_bool (nat_le new_key old_key)) self.old.newer.now }
+        ensures older_left { self.new.older.now ≡
+            drop (from_bool (nat_le old_key new_key)) self.old.older.now }
+        ensures shorter { length self.new.newer.now + length self.new.older.now <
+            length self.old.newer.now + length self.old.older.now }
     {
-        // The places move by the answers: of branches on them half were foretold wrongly.
-        let (new, old) = (&newer[self.newer], &older[self.older]);
-        let takes_new = new.key <= old.key;
-        let takes_old = old.key <= new.key;
-        self.newer += usize::from(takes_new);
-        self.older += usize::from(takes_old);
+        // The lists move by the answers: of branches on them half were foretold wrongly. The second
+        // compares in the order of the first, since of the other order the compiler makes branches.
+        let (new, old) = (&self.newer[0], &self.older[0]);
+        let takes_new = new_key <= old_key;
+        let takes_old = !(new_key < old_key);
+        self.newer = &self.newer[usize::from(takes_new)..];
+        self.older = &self.older[usize::from(takes_old)..];
         if takes_new { *new } else { *old }
     }
-}
 
-impl Remaining<'_> {
     /// Takes the winner of the least key off the fronts of the lists, or none where both are empty.
     ///
     /// Where both lists have that key, the older entry goes with it.
@@ -86,13 +89,7 @@ impl Remaining<'_> {
             length self.old.newer.now + length self.old.older.now) }
     {
         match (self.newer.split_first(), self.older.split_first()) {
-            (Some(_), Some(_)) => {
-                let mut places = Places { newer: 0, older: 0 };
-                let least = places.take_lesser(self.newer, self.older);
-                self.newer = &self.newer[places.newer..];
-                self.older = &self.older[places.older..];
-                Some(least)
-            }
+            (Some((new, _)), Some((old, _))) => Some(self.take_lesser(new.key, old.key)),
             (Some((new, newer)), None) => {
                 self.newer = newer;
                 Some(*new)
@@ -103,5 +100,54 @@ impl Remaining<'_> {
             }
             (None, None) => None,
         }
+    }
+}
+
+impl Heads<'_> {
+    /// Takes the winner of the lesser of the next keys, where each list has an entry behind it.
+    #[inline(always)]
+    pub fn take_lesser(&mut self) -> Entry
+        requires newer_left { 1 < length self.old.remaining.newer.now }
+        requires older_left { 1 < length self.old.remaining.older.now }
+        requires newer_ascending { IsAscending self.old.remaining.newer.now }
+        requires older_ascending { IsAscending self.old.remaining.older.now }
+        requires new_key { self.old.new_key ≡ key_at self.old.remaining.newer.now 0 }
+        requires old_key { self.old.old_key ≡ key_at self.old.remaining.older.now 0 }
+        ensures newer_ascending { IsAscending self.new.remaining.newer.now }
+        ensures older_ascending { IsAscending self.new.remaining.older.now }
+        ensures new_key { self.new.new_key ≡ key_at self.new.remaining.newer.now 0 }
+        ensures old_key { self.new.old_key ≡ key_at self.new.remaining.older.now 0 }
+
+        // The entry is the winner at its key, and at every other key the winner stays.
+        ensures taken { (key : ℕ) →
+            winner_at self.old.remaining.newer.now self.old.remaining.older.now key ≡
+            (if result.key == key then Some result
+            else winner_at self.new.remaining.newer.now self.new.remaining.older.now key) }
+
+        // Up to its key nothing is left.
+        ensures least { (key : ℕ) → key ≤ result.key →
+            winner_at self.new.remaining.newer.now self.new.remaining.older.now key ≡ None }
+
+        // Each list loses one entry at most, and one of them does.
+        ensures newer_length { length self.old.remaining.newer.now ≤
+            length self.new.remaining.newer.now + 1 }
+        ensures older_length { length self.old.remaining.older.now ≤
+            length self.new.remaining.older.now + 1 }
+        ensures shorter { length self.new.remaining.newer.now + length self.new.remaining.older.now <
+            length self.old.remaining.newer.now + length self.old.remaining.older.now }
+    {
+        // A step ahead, so that no comparison waits for a load of its own step.
+        let (next_new, next_old) = (self.remaining.newer[1].key, self.remaining.older[1].key);
+        let (new_key, old_key) = (self.new_key, self.old_key);
+        let least = self.remaining.take_lesser(new_key, old_key);
+
+        // By the same two comparisons, since by others the compiler makes branches.
+        self.new_key = if new_key <= old_key {
+            next_new
+        } else {
+            new_key
+        };
+        self.old_key = if new_key < old_key { old_key } else { next_old };
+        least
     }
 }

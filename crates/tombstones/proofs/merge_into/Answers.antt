@@ -1,21 +1,19 @@
 -- A step takes the least key off the lists, and its entry goes to the end where it is kept.
 use Rattle.std.proofs.Common.{arith}
 use Rattle.tombstones.proofs.Progress.{under_way_step}
-use Rattle.tombstones.proofs.TakingLemmas.{ascending_drop}
 use Rattle.tombstones.proofs.merge_into.Goals as goal
-
-pub rounds-smaller : goal.rounds-smaller
-rounds-smaller c = omega (arith, c.steps.invariant.moved)
 
 pub steps-preserved : goal.steps-preserved
 steps-preserved c =
     let taken = c.take_lesser-entry.ensures in
     record {
-      under_way = under_way_step _ _ _ _ _ _ _ _ _ _ c.steps.invariant.under_way (ascending_drop _ _ c.requires.newer_ascending) (ascending_drop _ _ c.requires.older_ascending) taken.least taken.taken c.push_kept.ensures.items;
+      under_way = under_way_step _ _ _ _ _ _ _ _ _ _ c.steps.invariant.under_way taken.newer_ascending taken.older_ascending taken.least taken.taken c.push_kept.ensures.items;
       room = omega (arith, c.push_kept.ensures.len);
+      new_key = taken.new_key;
+      old_key = taken.old_key;
       newer_left = omega arith;
       older_left = omega arith;
-      moved = omega arith;
+      shorter = omega arith;
     }
 
 pub loop-entry-preserved : goal.loop-entry-preserved
