@@ -78,25 +78,24 @@ pub fn merge(
     ensures winners { IfOk result (λ merged. (key : ℕ) →
         entry_at merged.items key ≡ kept deepest (winner_at newer.now older.now key)) }
 {
-    let mut merged = Vec::with_capacity(alloc, newer.len() + older.len())?;
-    merge_into(&mut merged, newer, older, deepest);
-    Ok(merged)
+    let room = Vec::with_capacity(alloc, newer.len() + older.len())?;
+    Ok(merged_in(room, newer, older, deepest))
 }
 
 /// Merges two lists into one that is empty and has room for all.
 ///
 /// Not inlined, since only so the compiler knows that nothing else holds the list that it writes.
 #[inline(never)]
-fn merge_into(merged: &mut Vec<Entry>, newer: &[Entry], older: &[Entry], deepest: bool)
+fn merged_in(room: Vec<Entry>, newer: &[Entry], older: &[Entry], deepest: bool) -> Vec<Entry>
     requires newer_ascending { IsAscending newer.now }
     requires older_ascending { IsAscending older.now }
-    requires empty { merged.old.items ≡ [] }
-    requires room { vec_len merged.old + (length newer.now + length older.now) ≤
-        vec_capacity merged.old }
-    ensures ascending { IsAscending merged.new.items }
+    requires empty { room.items ≡ [] }
+    requires room { length newer.now + length older.now ≤ vec_capacity room }
+    ensures ascending { IsAscending result.items }
     ensures winners { (key : ℕ) →
-        entry_at merged.new.items key ≡ kept deepest (winner_at newer.now older.now key) }
+        entry_at result.items key ≡ kept deepest (winner_at newer.now older.now key) }
 {
+    let mut merged = room;
     let mut remaining = Remaining { newer, older };
     'rounds: loop {
         // So often both lists have an entry and one behind it, whichever of them lose theirs.
@@ -113,14 +112,15 @@ fn merge_into(merged: &mut Vec<Entry>, newer: &[Entry], older: &[Entry], deepest
         };
         'steps: while sure > 0 {
             let entry = heads.take_lesser();
-            push_kept(merged, entry, deepest);
+            push_kept(&mut merged, entry, deepest);
             sure -= 1;
         }
         remaining = heads.remaining;
     }
     while let Some(entry) = remaining.take_least() {
-        push_kept(merged, entry, deepest);
+        push_kept(&mut merged, entry, deepest);
     }
+    merged
 }
 
 /// Appends an entry, unless it is a tombstone and the result is the deepest list.

@@ -2,7 +2,7 @@
 use Rattle.std.proofs.Common.{◌≡◌, ◌+◌, ◌<◌, ◌≤◌, length, vec_len, vec_capacity}
 use Rattle.tombstones.specs.Parts.{key_at}
 use Rattle.tombstones.proofs.Progress.{IsUnderWay}
-use Rattle.tombstones.proofs.merge_into.Given as goal
+use Rattle.tombstones.proofs.merged_in.Given as goal
 
 abbrev pub invariant-rounds : goal.invariant-rounds
 invariant-rounds l = record {

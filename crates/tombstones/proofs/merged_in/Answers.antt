@@ -1,7 +1,7 @@
 -- A step takes the least key off the lists, and its entry goes to the end where it is kept.
 use Rattle.std.proofs.Common.{arith}
 use Rattle.tombstones.proofs.Progress.{under_way_step}
-use Rattle.tombstones.proofs.merge_into.Goals as goal
+use Rattle.tombstones.proofs.merged_in.Goals as goal
 
 pub steps-preserved : goal.steps-preserved
 steps-preserved c =
