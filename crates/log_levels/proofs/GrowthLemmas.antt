@@ -11,16 +11,19 @@ use Rattle.log_levels.specs.Kept.{IsMergedTo, IsHighestChange}
 use Rattle.log_levels.proofs.BitLemmas.{from_bit-zero, from_bit-le, from_bit-gt, from_bit-antitone, from_bit-clear, from_bit-set, none-left, some-left, some-left-below, same-above}
 use Rattle.log_levels.proofs.CutLemmas.{behind, behind-more, drop-append-ge, block-clear, block-behind, block-before, block-across}
 use Rattle.log_levels.proofs.HeldLemmas.{room_is}
-use Rattle.log_levels.proofs.LastLemmas.{last_at-append, kept-kept, kept-winner}
+use Rattle.log_levels.proofs.LastLemmas.{last_at-append, kept-winner}
 use Rattle.log_levels.proofs.LengthLemmas.{length-latest}
 
--- at the start there are the last entries of the buffer and the new entries behind it
-pub merged-none : (entries : List Entry) (f : ℕ) (new buffer merged : List Entry) → buffer ≡ drop (64 * f) entries → IsLastOfEach false (buffer ++ new) merged → IsMergedTo entries f 0 new merged
-merged-none entries f new buffer merged is last =
+-- at the start there are the last entries of the buffer and the new entries behind it, kept
+pub merged-none : (entries : List Entry) (b f : ℕ) (new buffer latest merged : List Entry) → b ≡ f → buffer ≡ drop (64 * f) entries → IsLastOfEach false (buffer ++ new) latest
+    → IsAscending merged → ((key : ℕ) → entry_at merged key ≡ kept (eqb b 0) (entry_at latest key)) → IsMergedTo entries f 0 new merged
+merged-none entries b f new buffer latest merged same_b is last ascending keeps =
     let same : drop (64 * from_bit 0 f) entries ≡ buffer = ap (λ k. drop (64 * k) entries) (from_bit-zero f) ∙ sym is in
+    let whole : b ≡ f / 2 ^ 0 = omega (arith, same_b) in
     record {
-      ascending = last.ascending;
-      lasts = λ key. ap (kept (eqb (f / 2 ^ 0) 0)) (last.lasts key ∙ ap (λ list. last_at (list ++ new) key) (sym same));
+      ascending = ascending;
+      lasts = λ key. keeps key ∙ ap (λ k. kept (eqb k 0) (entry_at latest key)) whole
+          ∙ ap (kept (eqb (f / 2 ^ 0) 0)) (last.lasts key ∙ ap (λ list. last_at (list ++ new) key) (sym same));
     }
 
 -- where a level isn't occupied
@@ -30,7 +33,7 @@ merged-clear entries f i new merged clear so_far =
     let flag : eqb (f / 2 ^ i) 0 ≡ eqb (f / 2 ^ (i + 1)) 0 = none-left i f clear in
     record {
       ascending = so_far.ascending;
-      lasts = λ key. ap (λ deepest. kept deepest (entry_at merged key)) (sym flag) ∙ so_far.lasts key
+      lasts = λ key. so_far.lasts key
           ∙ ap (λ deepest. kept deepest (last_at (behind entries f i ++ new) key)) flag ∙ ap (λ list. kept (eqb (f / 2 ^ (i + 1)) 0) (last_at (list ++ new) key)) (sym same);
     }
 
@@ -41,12 +44,10 @@ merged-set entries f i new merged level next (set, last) so_far ascending winner
     let deepest = eqb (f / 2 ^ (i + 1)) 0 in
     let flag : eqb (f / 2 ^ i) 0 ≡ false = some-left i f set in
     let exact : (key : ℕ) → entry_at merged key ≡ last_at (behind entries f i ++ new) key =
-    λ key. ap (λ d. kept d (entry_at merged key)) (sym flag) ∙ so_far.lasts key ∙ ap (λ d. kept d (last_at (behind entries f i ++ new) key)) flag in
+    λ key. so_far.lasts key ∙ ap (λ d. kept d (last_at (behind entries f i ++ new) key)) flag in
     record {
       ascending = ascending;
-      lasts = λ key.
-          ap (kept deepest) (winners key) ∙ kept-kept deepest (winner_at merged level key)
-          ∙ ap (λ entry. kept deepest (option_or entry (entry_at level key))) (exact key)
+      lasts = λ key. winners key ∙ ap (λ entry. kept deepest (option_or entry (entry_at level key))) (exact key)
           ∙ kept-winner deepest (last_at (behind entries f i ++ new) key) (last_at (block_of entries f i) key) (entry_at level key) (last.lasts key)
           ∙ ap (kept deepest) (sym (last_at-append (block_of entries f i) (behind entries f i ++ new) key)
           ∙ ap (λ list. last_at list key) (sym (append_assoc (block_of entries f i) (behind entries f i) new) ∙ ap (λ list. list ++ new) (sym (behind-more entries f i))));
@@ -85,9 +86,8 @@ module _ (entries new : List Entry) (top : ℕ) (change : IsHighestChange (lengt
       (set, subst (λ deepest. IsLastOfEach deepest (block_of (entries ++ new) g i) level) (sym flag) (subst (λ list. IsLastOfEach false list level) (sym block) last))
 
   -- the level of that bit has what was below it, and new entries up to the end of its block
-  pub merged-level : (merged level : List Entry) → IsMergedTo entries f top (take (64 * from_bit top g - length entries) new) merged
-      → IsAscending level → ((key : ℕ) → entry_at level key ≡ kept (eqb (g / 2 ^ (top + 1)) 0) (entry_at merged key)) → IsLevelFor (entries ++ new) g top (Some level)
-  merged-level merged level so_far ascending keeps =
+  pub merged-level : (merged : List Entry) → IsMergedTo entries f top (take (64 * from_bit top g - length entries) new) merged → IsLevelFor (entries ++ new) g top (Some merged)
+  merged-level merged so_far =
       let at = seam (length entries) (length new) top change in
       let first = take (64 * from_bit top g - length entries) new in
       let deepest = eqb (g / 2 ^ (top + 1)) 0 in
@@ -97,9 +97,8 @@ module _ (entries new : List Entry) (top : ℕ) (change : IsHighestChange (lengt
       block-across entries new g top at.0 at.1 change.is_set ∙ ap (λ k. drop (64 * k) entries ++ first) start in (
         change.is_set,
         record {
-          ascending = ascending;
-          lasts = λ key. keeps key ∙ ap (λ d. kept d (entry_at merged key)) (sym flag) ∙ so_far.lasts key
-              ∙ ap (λ d. kept d (last_at (behind entries f top ++ first) key)) flag ∙ ap (λ list. kept deepest (last_at list key)) (sym block);
+          ascending = so_far.ascending;
+          lasts = λ key. so_far.lasts key ∙ ap (λ d. kept d (last_at (behind entries f top ++ first) key)) flag ∙ ap (λ list. kept deepest (last_at list key)) (sym block);
         },
       )
 
@@ -166,12 +165,11 @@ module _ (held : Held) (new : List Entry) (top : ℕ) (change : IsHighestChange 
       same (fresh-level entries new top at_entries i level below) in
       whole n (sym cut.accepted) set last'
 
-  pub merged-of : (merged level : List Entry) → IsMergedTo entries (length entries / 64) top (take (64 * from_bit top (blocks held.accepted) - held.accepted) new) merged
-      → IsAscending level → ((key : ℕ) → entry_at level key ≡ kept (eqb (blocks held.accepted / 2 ^ (top + 1)) 0) (entry_at merged key)) → IsLevelFor (entries ++ new) (blocks held.accepted) top (Some level)
-  merged-of merged level =
-      let Holds : ℕ → Type 0 = λ n. IsMergedTo entries (length entries / 64) top (take (64 * from_bit top (blocks n) - n) new) merged
-      → IsAscending level → ((key : ℕ) → entry_at level key ≡ kept (eqb (blocks n / 2 ^ (top + 1)) 0) (entry_at merged key)) → IsLevelFor (entries ++ new) (blocks n) top (Some level) in
-      subst Holds (sym cut.accepted) (merged-level entries new top at_entries merged level)
+  pub merged-of : (merged : List Entry) → IsMergedTo entries (length entries / 64) top (take (64 * from_bit top (blocks held.accepted) - held.accepted) new) merged
+      → IsLevelFor (entries ++ new) (blocks held.accepted) top (Some merged)
+  merged-of merged =
+      let Holds : ℕ → Type 0 = λ n. IsMergedTo entries (length entries / 64) top (take (64 * from_bit top (blocks n) - n) new) merged → IsLevelFor (entries ++ new) (blocks n) top (Some merged) in
+      subst Holds (sym cut.accepted) (merged-level entries new top at_entries merged)
 
   pub shared-of : (i : ℕ) → top < i → i < length held.levels → IsLevelFor (entries ++ new) (blocks held.accepted) i (level_of held i)
   shared-of i above inside =
@@ -185,13 +183,11 @@ module _ (held : Held) (new : List Entry) (top : ℕ) (change : IsHighestChange 
       omega (arith, length-latest _ _ level last, length-take size (drop start (entries ++ new)), length-drop start (entries ++ new), length-append entries new, cut.accepted)
 
   -- by what the code computes: the number of blocks, and the ends of a block
-  pub merged-here : (b end acc : ℕ) (merged level : List Entry) → b ≡ blocks held.accepted → end ≡ 64 * from_bit top b → acc ≡ held.accepted
-      → IsMergedTo entries (length entries / 64) top (take (end - acc) new) merged
-      → IsAscending level → ((key : ℕ) → entry_at level key ≡ kept (eqb (b / 2 ^ (top + 1)) 0) (entry_at merged key)) → IsLevelFor (entries ++ new) (blocks held.accepted) top (Some level)
-  merged-here b end acc merged level same_b same_end same_acc so_far ascending keeps =
+  pub merged-here : (b end acc : ℕ) (merged : List Entry) → b ≡ blocks held.accepted → end ≡ 64 * from_bit top b → acc ≡ held.accepted
+      → IsMergedTo entries (length entries / 64) top (take (end - acc) new) merged → IsLevelFor (entries ++ new) (blocks held.accepted) top (Some merged)
+  merged-here b end acc merged same_b same_end same_acc so_far =
       let same : end - acc ≡ 64 * from_bit top (blocks held.accepted) - held.accepted = omega (arith, ap (λ k. from_bit top k) same_b) in
-      merged-of merged level (subst (λ k. IsMergedTo entries (length entries / 64) top (take k new) merged) same so_far) ascending
-      (λ key. keeps key ∙ ap (λ k. kept (eqb (k / 2 ^ (top + 1)) 0) (entry_at merged key)) same_b)
+      merged-of merged (subst (λ k. IsMergedTo entries (length entries / 64) top (take k new) merged) same so_far)
 
   pub fresh-here : (b i start end acc : ℕ) (level : List Entry) → i < top → b ≡ blocks held.accepted → bit_at b i ≡ 1 → start ≡ 64 * from_bit (i + 1) b → end ≡ 64 * from_bit i b
       → acc ≡ held.accepted → IsLastOfEach false (take (end - acc - (start - acc)) (drop (start - acc) new)) level → IsLevelFor (entries ++ new) (blocks held.accepted) i (Some level)

@@ -38,10 +38,10 @@ pub record IsKept (held : Held) (room : ℕ) : Type 0 where
   pub some : 1 ≤ length held.levels
   pub few : length held.levels ≤ 26
 
--- the levels below level i, the buffer and the new entries behind them, merged: what comes behind the blocks from bit i on. Where no bit from bit i on is left, deletions may be left out
+-- the levels below level i, the buffer and the new entries behind them, merged: what comes behind the blocks from bit i on. Where no bit from bit i on is left, deletions are left out
 pub record IsMergedTo (entries : List Entry) (f i : ℕ) (new merged : List Entry) : Type 0 where
   pub ascending : IsAscending merged
-  pub lasts : (key : ℕ) → kept (f / 2 ^ i == 0) (entry_at merged key) ≡ kept (f / 2 ^ i == 0) (last_at (drop (64 * from_bit i f) entries ++ new) key)
+  pub lasts : (key : ℕ) → entry_at merged key ≡ kept (f / 2 ^ i == 0) (last_at (drop (64 * from_bit i f) entries ++ new) key)
 
 -- in `count` more entries bit `top` is the highest one that the number of blocks changes
 pub record IsHighestChange (accepted count top : ℕ) : Type 0 where

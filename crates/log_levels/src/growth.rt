@@ -40,9 +40,10 @@ impl LogMap {
         ensures { IfOk result (λ merged. (entries : List Entry) → IsCutOf self.now entries →
             IsMergedTo entries (length entries / 64) top new.now merged.items) }
     {
-        let mut merged = self.latest_with(builder, alloc, new)?;
         let _ = self.accepted();
         let blocks = self.blocks_with(0);
+        let latest = self.latest_with(builder, alloc, new)?;
+        let mut merged = kept_of(builder, alloc, latest, blocks == 0)?;
         for i in 0..top {
             if let Some(level) = self.level(i) {
                 merged = builder.merge(&merged, level.entries(), blocks >> (i + 1) == 0)?;
@@ -88,8 +89,7 @@ impl LogMap {
         let blocks = self.blocks_with(new.len());
         let end = entries_from_bit(top, blocks) - self.accepted();
         let merged = self.merged_below(builder, alloc, top, &new[..end as usize])?;
-        let level = kept_of(builder, alloc, merged, blocks >> (top + 1) == 0)?;
-        shared(builder, alloc, level)
+        shared(builder, alloc, merged)
     }
 
     /// A level below it, if it is occupied: a block of new entries.
@@ -261,7 +261,7 @@ fn push_each(into: &mut Vec<Entry>, new: &[Entry])
     }
 }
 
-/// Entries, in the deepest level without the deletions.
+/// Entries, without deletions where no level lies below.
 fn kept_of<B: Builder>(
     builder: &B,
     alloc: Global,

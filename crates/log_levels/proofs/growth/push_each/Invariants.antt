@@ -1,5 +1,5 @@
 -- The entries so far stand behind those of the list, and there is room for the others.
-use Rattle.std.proofs.Common.{◌≡◌, ◌+◌, ◌≤◌, ◌++◌, length, take, vec_len, vec_capacity}
+use Rattle.std.proofs.Common.{◌≡◌, ◌+◌, ◌++◌, take, vec_len, vec_capacity}
 use Rattle.log_levels.proofs.growth.push_each.Given as goal
 
 abbrev pub invariant-loop-entry : goal.invariant-loop-entry

@@ -1,5 +1,5 @@
 -- The key before the place is below, and the one there isn't, or the place is an end.
-use Rattle.std.proofs.Common.{◌≡◌, ◌-◌, ◌≤◌, slice_index, arith}
+use Rattle.std.proofs.Common.{◌-◌, ◌≤◌, arith}
 use Rattle.std.proofs.lemmas.Bool.{leb-true}
 use Rattle.window_search.specs.Searches.{lb}
 use Rattle.window_search.proofs.CallerLemmas.{IsLowerBound-lb}

@@ -1,5 +1,5 @@
 -- A level that is denied or not occupied hasn't the key.
-use Rattle.std.proofs.Common.{◌≡◌, ◌+◌, ◌-◌, ◌<◌, ℕ, length, slice_index, sym, subst, inl, inr, arith}
+use Rattle.std.proofs.Common.{◌≡◌, ◌+◌, ◌-◌, ◌<◌, length, slice_index, sym, subst, arith}
 use Rattle.std.proofs.lemmas.List.{get_or-replicate}
 use Rattle.log_levels.specs.Kept.{HasReached}
 use Rattle.log_levels.proofs.ManyLemmas.{HasReached-start, HasReached-clear, HasReached-put}

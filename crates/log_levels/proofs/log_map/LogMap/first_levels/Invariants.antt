@@ -1,5 +1,5 @@
 -- No level from level i up to the first one so far has the key.
-use Rattle.std.proofs.Common.{◌≡◌, ◌<◌, ◌≤◌, ℕ, length, slice_index}
+use Rattle.std.proofs.Common.{◌<◌, ◌≤◌, ℕ, slice_index}
 use Rattle.log_levels.specs.Kept.{HasReached}
 use Rattle.log_levels.proofs.log_map.LogMap.first_levels.Given as goal
 

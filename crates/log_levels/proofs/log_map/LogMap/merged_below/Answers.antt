@@ -1,7 +1,7 @@
-use Rattle.std.proofs.Common.{◌≡◌, ◌+◌, ◌/◌, ◌∙◌, List, false, length, subst, sym, ap, arith, Vec, Global}
+use Rattle.std.proofs.Common.{◌≡◌, ◌+◌, ◌/◌, ◌∙◌, List, length, subst, sym, ap, arith, Vec, Global}
 use Rattle.tombstones.specs.declared.entry.Entry.{Entry}
 use Rattle.tombstones.specs.Entries.{IsAscending}
-use Rattle.log_levels.specs.Shapes.{Held, IsCutOf, IsLastOfEach}
+use Rattle.log_levels.specs.Shapes.{IsCutOf}
 use Rattle.log_levels.specs.Kept.{IsMergedTo}
 use Rattle.log_levels.proofs.GrowthLemmas.{merged-none, merged-some, merged-skip}
 use Rattle.log_levels.proofs.log_map.LogMap.merged_below.Goals as goal
@@ -10,7 +10,8 @@ use Rattle.log_levels.proofs.log_map.LogMap.merged_below.Goals.{in-Some+in_ok-me
 pub loop-i-init : goal.loop-i-init
 loop-i-init g c = record {
   ascending = c.in_ok-merged.ensures.ascending;
-  lasts = λ entries cut. merged-none entries (length entries / 64) c.args.new.now c.args.self.now.buffer c.in_ok-merged.merged.items cut.buffer c.in_ok-merged.ensures;
+  lasts = λ entries cut. merged-none entries c.blocks_with-blocks.result (length entries / 64) c.args.new.now c.args.self.now.buffer c.in_ok-latest.latest.items c.in_ok-merged.merged.items
+      (c.blocks_with-blocks.ensures.blocks ∙ ap (λ k. k / 64) (omega (arith, cut.accepted))) cut.buffer c.in_ok-latest.ensures c.in_ok-merged.ensures.ascending c.in_ok-merged.ensures.keeps;
 }
 
 pub loop-i-preserved : goal.loop-i-preserved
