@@ -174,6 +174,9 @@ impl LogMap {
     }
 
     /// The map with new entries, which fill a block or more.
+    ///
+    /// Not inlined: most entries fill none, and then what this call would save is for nothing.
+    #[inline(never)]
     pub(crate) fn with_entries<B: Builder>(
         &self,
         builder: &B,
