@@ -1,5 +1,5 @@
 -- The keys of a level, and what it has at a key.
-use Rattle.std.proofs.Common.{◌≡◌, ℕ, ◌+◌, ◌<◌, ◌≤◌, List, length, slice_index_or, Option, Some, None, IsSome, is_some, All, true, if◌then◌else◌, refl, sym, ap, ◌∙◌, subst, inl, inr, arith}
+use Rattle.std.proofs.Common.{◌≡◌, ℕ, ◌+◌, ◌-◌, ◌<◌, ◌≤◌, List, length, slice_index_or, Option, Some, None, IsSome, is_some, All, true, if◌then◌else◌, refl, sym, ap, ◌∙◌, subst, inl, inr, arith}
 use Rattle.std.proofs.lemmas.List.{length-map, get_or-map, get_or_default}
 use Rattle.std.proofs.lemmas.Bool.{cases_lt, cases_eq, cases_order}
 use Rattle.std.specs.List.Sorted.{IsNonDecreasing}
@@ -60,6 +60,25 @@ missing-past entries key ascending end = missing-at entries key ascending (λ in
 
 pub missing-here : (entries : List Entry) (key : ℕ) (e : Entry) → IsAscending entries → slice_index_or entries (lb (level_keys entries) key) e ≡ e → (e.key ≡ key → ⊥) → entry_at entries key ≡ None
 missing-here entries key e ascending is other = missing-at entries key ascending (λ inside same. other (sym (key-at entries (lb (level_keys entries) key) 0 e inside ∙ ap (λ (x : Entry). x.key) is) ∙ same))
+
+-- between two neighbours stands none
+pub missing-beside : (list entries : List Entry) (key place : ℕ) → list ≡ entries → IsAscending entries → 0 < place → place < length list
+    → (slice_index_or list (place - 1) no_entry).key < key → key < (slice_index_or list place no_entry).key → entry_at entries key ≡ None
+missing-beside list entries key place same ascending some inside before behind = go (entry_at entries key) refl
+  where
+    go : (found : Option Entry) → entry_at entries key ≡ found → entry_at entries key ≡ None
+    go None is = is
+    go (Some e) is =
+        let (i, fits, at) = Contains-entry_at entries key e is in
+        let size = ap (λ (l : List Entry). length l) same in
+        let here : slice_index_or (level_keys entries) i 0 ≡ key = key-at entries i 0 e fits ∙ ap (λ (x : Entry). x.key) at ∙ key-entry_at entries key e is in
+        let count = length-level_keys entries in
+        let low = key-at entries (place - 1) 0 no_entry (omega (arith, inside, size)) ∙ ap (λ (l : List Entry). (slice_index_or l (place - 1) no_entry).key) (sym same) in
+        let high = key-at entries place 0 no_entry (omega (arith, inside, size)) ∙ ap (λ (l : List Entry). (slice_index_or l place no_entry).key) (sym same) in
+        elim (cases_lt i place) [
+          | inl less ↦ absurd (omega (arith, here, low, before, keys-never_fall entries ascending i (place - 1) 0 (omega (arith, less, some)) (omega (arith, inside, size, count))))
+          | inr at_least ↦ absurd (omega (arith, here, high, behind, keys-never_fall entries ascending place i 0 at_least (omega (arith, fits, count))))
+        ]
 
 -- the same for the keys that are read
 pub read-found : (keys : List ℕ) (list entries : List Entry) (key place : ℕ) → keys ≡ level_keys entries → list ≡ entries → IsAscending entries → place < length keys → slice_index_or keys place 0 ≡ key

@@ -13,6 +13,7 @@ ghost use Rattle.log_levels.specs.Shapes.{level_keys};
 
 use crate::builder::Builder;
 use crate::filter::Filter;
+use crate::guide::{Guide, LOOK};
 use crate::halving::lower_of;
 use budget::NoMemory;
 use levels::{Index, Keys};
@@ -29,25 +30,22 @@ pub const EPS_REC: u32 = 4;
 /// near cache, and then a search whose branches are foretold is faster, since it reads ahead.
 const SHORT: usize = 4096;
 
-/// So many entries are a group. The last key of each is its fence.
-const GROUP: usize = 8;
-
 /// Behind so many fences or fewer of those from the first group on stands a key, by its index: it
 /// leaves `2ε + 3` places.
 const FENCES: usize = 17;
 
-/// The entries of a level, by rising key, with the index of their keys, the fences between groups
-/// of them and a filter of them. Seen as the entries. It is never changed.
+/// The entries of a level, by rising key, with the index of their keys, a guide to them and a filter
+/// of them. Seen as the entries. It is never changed.
 ///
-/// Fences lie close together and in a near cache, and a group in few lines: so a search reads far
-/// memory once, where one among keys does at each halving, and then for the entry. No clause says
-/// of fences where anything is; what is found by them is looked at.
+/// What a guide reads lies close together and in a near cache, and the eight places that it leads to
+/// lie in few lines: so a search reads far memory once, where one among keys does at each halving,
+/// and then for the entry. No clause says of a guide where anything is; what is found is looked at.
 #[derive(Drop)]
 pub struct Level {
     entries: Vec<Entry>,
     index: Index,
     filter: Filter,
-    fences: Vec<u64>,
+    guide: Guide,
 }
 
 impl Model for Level {
@@ -84,12 +82,12 @@ impl Level {
         // The keys are in a nearer cache than the entries.
         let keys = index.keys().file();
         let filter = Filter::of(alloc, keys)?;
-        let fences = fences_of(alloc, keys)?;
+        let guide = Guide::of(alloc, keys)?;
         Ok(Level {
             entries,
             index,
             filter,
-            fences,
+            guide,
         })
     }
 
@@ -126,15 +124,15 @@ impl Level {
         self.index.position(q) as usize
     }
 
-    /// The place of a key, by the group in which it is said to be.
+    /// The place of a key, by the first of the eight places among which it is said to be.
     ///
     /// It is looked at: where the key's place isn't there, it is searched for.
     #[inline(always)]
-    pub fn place_by(&self, group: usize, key: u64) -> usize
+    pub fn place_by(&self, start: usize, key: u64) -> usize
         ensures { result ≡ lb (level_keys self.now) key }
     {
         let keys = self.keys();
-        let place = place_among(keys, group, key);
+        let place = place_among(keys, start, key);
         if is_place(keys, place, key) {
             return place;
         }
@@ -152,33 +150,56 @@ impl Level {
         self.filter.passes(hash, bits)
     }
 
-    /// The first of the groups among which a key is, by the index. It tells nothing.
+    /// The first of the groups among which a key is, by the index, where there are fences. It tells
+    /// nothing.
     #[inline(always)]
     pub fn first_group(&self, key: u64) -> usize {
+        match &self.guide {
+            Guide::Grid(_) => 0,
+            Guide::Fences(_) => self.group_near(key),
+        }
+    }
+
+    /// The same by the index.
+    #[inline(always)]
+    fn group_near(&self, key: u64) -> usize {
         if self.keys().is_empty() {
             return 0;
         }
-        self.index.start_near(key) as usize / GROUP
+        self.index.start_near(key) as usize / LOOK
     }
 
-    /// The group of a key, from the first one on, by the fences. It tells nothing.
+    /// The first of eight places among which a key is, from the first of its groups on. It tells
+    /// nothing.
     #[inline(always)]
-    pub fn group_from(&self, first: usize, key: u64) -> usize {
-        let fences = self.fences.as_slice();
-        if fences.len() < FENCES {
-            return below(fences, key);
+    pub fn start_from(&self, first: usize, key: u64) -> usize {
+        match &self.guide {
+            Guide::Grid(grid) => grid.start(key),
+            Guide::Fences(fences) => group_from(fences, first, key).wrapping_mul(LOOK),
         }
-        let first = first.min(fences.len() - FENCES);
-        first.wrapping_add(below(&fences[first..first + FENCES], key))
     }
 
-    /// The entry with a key, if it stands in this group.
+    /// The place of a key among the entries, if it is one of eight, or at their end.
     #[inline(always)]
-    pub fn entry_in(&self, group: usize, key: u64) -> Option<&Entry>
+    pub fn place_in(&self, start: usize, key: u64) -> usize {
+        let entries = self.entries.as_slice();
+        if entries.len() < LOOK {
+            return entries.len();
+        }
+        let first = start.min(entries.len() - LOOK);
+        let mut place = first;
+        for entry in &entries[first..first + LOOK] {
+            place = place.wrapping_add(usize::from(entry.key < key));
+        }
+        place
+    }
+
+    /// The entry with a key, if it stands at this place.
+    #[inline(always)]
+    pub fn entry_at(&self, place: usize, key: u64) -> Option<&Entry>
         ensures { IfSome result (λ entry. entry_at self.now key ≡ Some entry.now) }
     {
         let entries = self.entries();
-        let place = place_in(entries, group, key);
         if place >= entries.len() {
             return None;
         }
@@ -186,6 +207,18 @@ impl Level {
             return None;
         }
         Some(&entries[place])
+    }
+
+    /// Whether a key stands between the entry before a place and the one there, and so has none.
+    #[inline(always)]
+    fn lacks(&self, place: usize, key: u64) -> bool
+        ensures { IsTrue result → entry_at self.now key ≡ None }
+    {
+        let entries = self.entries();
+        if place == 0 || place >= entries.len() {
+            return false;
+        }
+        entries[place - 1].key < key && key < entries[place].key
     }
 
     /// The entry with a key, of which this is the hash with its bits, if there is one.
@@ -198,11 +231,14 @@ impl Level {
         if !self.may_have(key, hash, bits) {
             return None;
         }
-        let group = self.group_from(self.first_group(key), key);
-        match self.entry_in(group, key) {
-            Some(entry) => Some(entry),
-            None => self.entry_from(self.place(key), key),
+        let place = self.place_in(self.start_from(self.first_group(key), key), key);
+        if let Some(entry) = self.entry_at(place, key) {
+            return Some(entry);
         }
+        if self.lacks(place, key) {
+            return None;
+        }
+        self.entry_from(self.place(key), key)
     }
 
     /// The same, where the place of the key is known.
@@ -275,16 +311,6 @@ fn keys_of(alloc: Global, entries: &[Entry]) -> Result<Keys, NoMemory>
     Keys::of_distinct(alloc, keys)
 }
 
-/// The fences between groups of entries, by their keys.
-fn fences_of(alloc: Global, keys: &[u64]) -> Result<Vec<u64>, NoMemory> {
-    let count = keys.len() / GROUP;
-    let mut fences = Vec::with_capacity(alloc, count)?;
-    for i in 0..count {
-        fences.push(keys[i * GROUP + (GROUP - 1)])?;
-    }
-    Ok(fences)
-}
-
 /// How many of some keys are below a key.
 #[inline(always)]
 fn below(keys: &[u64], key: u64) -> usize {
@@ -295,31 +321,24 @@ fn below(keys: &[u64], key: u64) -> usize {
     count
 }
 
-/// Where a key stands in a whole group of entries, if it does, or the end of the entries.
+/// The group of a key, from the first one on, by the fences.
 #[inline(always)]
-fn place_in(entries: &[Entry], group: usize, key: u64) -> usize {
-    let len = entries.len();
-    if group >= len / GROUP {
-        return len;
+fn group_from(fences: &[u64], first: usize, key: u64) -> usize {
+    if fences.len() < FENCES {
+        return below(fences, key);
     }
-    let first = group * GROUP;
-    let mut place = first;
-    for entry in &entries[first..first + GROUP] {
-        place = place.wrapping_add(usize::from(entry.key < key));
-    }
-    place
+    let first = first.min(fences.len() - FENCES);
+    first.wrapping_add(below(&fences[first..first + FENCES], key))
 }
 
-/// How many keys are below a key, if its place is in this group of theirs or at its end.
+/// How many keys are below a key, if its place is among the eight from this one on or at their end.
 #[inline(always)]
-fn place_among(keys: &[u64], group: usize, key: u64) -> usize {
-    let whole = keys.len() / GROUP;
-    if group >= whole {
-        let first = whole * GROUP;
-        return first.wrapping_add(below(&keys[first..], key));
+fn place_among(keys: &[u64], start: usize, key: u64) -> usize {
+    if keys.len() < LOOK {
+        return below(keys, key);
     }
-    let first = group * GROUP;
-    first.wrapping_add(below(&keys[first..first + GROUP], key))
+    let first = start.min(keys.len() - LOOK);
+    first.wrapping_add(below(&keys[first..first + LOOK], key))
 }
 
 /// Whether as many keys are below a key: the one before the place is, and the one there isn't.

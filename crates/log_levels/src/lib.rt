@@ -17,6 +17,7 @@ mod builder;
 mod fault;
 mod filter;
 mod growth;
+mod guide;
 mod halving;
 mod latest;
 mod level;

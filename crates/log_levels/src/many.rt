@@ -51,15 +51,15 @@ impl LogMap {
             asked[lane] = keys[lane];
         }
         let levels = self.first_levels(&asked);
-        let mut groups = [0; LANES];
+        let mut starts = [0; LANES];
         for lane in 0..keys.len() {
-            groups[lane] = self.first_group(levels[lane], keys[lane]);
+            starts[lane] = self.first_group(levels[lane], keys[lane]);
         }
         for lane in 0..keys.len() {
-            groups[lane] = self.group_from(levels[lane], groups[lane], keys[lane]);
+            starts[lane] = self.start_from(levels[lane], starts[lane], keys[lane]);
         }
         for lane in 0..keys.len() {
-            into.push_reserved(self.value_by(levels[lane], groups[lane], keys[lane]));
+            into.push_reserved(self.value_by(levels[lane], starts[lane], keys[lane]));
         }
     }
 
@@ -87,7 +87,7 @@ impl LogMap {
         firsts
     }
 
-    /// The first of the groups among which a key is in a level. It tells nothing.
+    /// The first of the groups among which a key is in a level with fences. It tells nothing.
     #[inline(always)]
     pub(crate) fn first_group(&self, i: usize, key: u64) -> usize {
         match self.level(i) {
@@ -96,19 +96,20 @@ impl LogMap {
         }
     }
 
-    /// The group of a key in a level, from the first one on. It tells nothing.
+    /// The first of eight places among which a key is in a level, from the first of its groups on. It
+    /// tells nothing.
     #[inline(always)]
-    pub(crate) fn group_from(&self, i: usize, first: usize, key: u64) -> usize {
+    pub(crate) fn start_from(&self, i: usize, first: usize, key: u64) -> usize {
         match self.level(i) {
-            Some(level) => level.group_from(first, key),
+            Some(level) => level.start_from(first, key),
             None => 0,
         }
     }
 
-    /// The value at a key, by the level that has it, if one has, and its group there, both of which
-    /// are looked at: else it is searched for once more.
+    /// The value at a key, by the level that has it, if one has, and the first of eight places there,
+    /// both of which are looked at: else it is searched for once more.
     #[inline(always)]
-    fn value_by(&self, i: usize, group: usize, key: u64) -> Option<u64>
+    fn value_by(&self, i: usize, start: usize, key: u64) -> Option<u64>
         requires { HasReached self.now key i }
         ensures { (entries : List Entry) → IsCutOf self.now entries →
             result ≡ value_of (last_at entries key) }
@@ -120,7 +121,7 @@ impl LogMap {
             return None;
         }
         if let Some(level) = self.level(i) {
-            if let Some(entry) = level.entry_in(group, key) {
+            if let Some(entry) = level.entry_at(level.place_in(start, key), key) {
                 return entry.value;
             }
         }

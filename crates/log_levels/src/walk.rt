@@ -24,28 +24,27 @@ impl LogMap {
     pub(crate) fn places(&self, key: u64) -> Places
         ensures { ArePlaces self.now result key }
     {
-        let groups = self.groups(key);
         let mut places = [0; 26];
+        self.put_starts(&mut places, key);
         for i in 0..self.depth() {
             if let Some(level) = self.level(i) {
-                places[i] = level.place_by(groups[i], key);
+                places[i] = level.place_by(places[i], key);
             }
         }
         places
     }
 
-    /// The group of a key in each level. It tells nothing.
-    fn groups(&self, key: u64) -> Places {
+    /// Puts the first of eight places among which a key is in each level. It tells nothing.
+    #[inline(always)]
+    fn put_starts(&self, starts: &mut Places, key: u64) {
         let _ = &self.accepted;
         let depth = self.depth();
-        let mut groups = [0; 26];
         for i in 0..depth {
-            groups[i] = self.first_group(i, key);
+            starts[i] = self.first_group(i, key);
         }
         for i in 0..depth {
-            groups[i] = self.group_from(i, groups[i], key);
+            starts[i] = self.start_from(i, starts[i], key);
         }
-        groups
     }
 
     /// The least key from `from` on that the map has, with its value, if there is one, by the

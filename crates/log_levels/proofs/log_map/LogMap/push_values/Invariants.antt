@@ -13,10 +13,10 @@ invariant-loop-lane l = record {
 }
 
 abbrev pub invariant-loop-lane-2 : goal.invariant-loop-lane-2
-invariant-loop-lane-2 l = length l.groups ≡ 16
+invariant-loop-lane-2 l = length l.starts ≡ 16
 
 abbrev pub invariant-loop-lane-3 : goal.invariant-loop-lane-3
-invariant-loop-lane-3 l = length l.groups ≡ 16
+invariant-loop-lane-3 l = length l.starts ≡ 16
 
 abbrev pub invariant-loop-lane-4 : goal.invariant-loop-lane-4
 invariant-loop-lane-4 l = record {

@@ -20,9 +20,9 @@ returns-then-i-depth c = λ entries cut.
     let more : 2 ^ c.depth.result ≤ 2 ^ c.args.i = pow_mono c.if-i-depth.true in
     sym (reached-end c.args.self.now c.args.key c.args.i entries c.requires none cut (omega (arith, more, c.depth.ensures.below, ap (λ (n : ℕ). n / 64) cut.accepted)))
 
-pub returns-in-Some-entry_in : goal.returns-in-Some-entry_in
-returns-in-Some-entry_in c = λ entries cut.
+pub returns-in-Some-entry_at : goal.returns-in-Some-entry_at
+returns-in-Some-entry_at c = λ entries cut.
     let buffer = c.deref.ensures.value ∙ ap (λ (held : Held). held.buffer) c.self.view_is in
     let none : last_at c.args.self.now.buffer c.args.key ≡ None = subst (λ (list : List Entry). last_at list c.args.key ≡ None) buffer (sym c.in_default.ensures) in
-    sym (reached-found c.args.self.now c.args.key c.args.i c.in-Some-level.level.now c.in-Some-entry_in.entry.now entries (omega (arith, c.if-i-depth.false, c.depth.ensures.within)) c.requires none cut
-    (sym c.in-Some-level.ensures) c.in-Some-entry_in.ensures)
+    sym (reached-found c.args.self.now c.args.key c.args.i c.in-Some-level.level.now c.in-Some-entry_at.entry.now entries (omega (arith, c.if-i-depth.false, c.depth.ensures.within)) c.requires none cut
+    (sym c.in-Some-level.ensures) c.in-Some-entry_at.ensures)

@@ -1,0 +1,162 @@
+// What leads to a key in a level.
+ghost use Rattle.std.specs.Prelude.{◌<◌, ◌^◌, length};
+
+use budget::NoMemory;
+use std::alloc::Global;
+
+/// A key is looked for among so many places at once.
+pub const LOOK: usize = 8;
+
+/// One more than the greatest word.
+const WORDS: u128 = 1 << 64;
+
+/// So many keys a step has in the mean.
+const EACH: usize = 8;
+
+/// Of so many keys the last one is counted, and the count so is up to as many too low.
+const COUNTED: usize = 4;
+
+/// How far before the place that is told for a key the look for it begins: half of its places, less
+/// what counts are too low in the mean.
+const BEFORE: u64 = 2;
+
+/// A step with more keys is crowded.
+const CROWDED: u32 = 16;
+
+/// How keys from the least one on are cut into steps, all of one length.
+#[derive(Clone, Copy)]
+struct Scale {
+    least: u64,
+    range: u64,
+    /// Steps by a key's distance from the least one, in `2^-64` of a step.
+    factor: u64,
+}
+
+/// How many of a level's keys, nearly, are below each of even steps of their range.
+///
+/// Where keys are even a key's place is told by the counts of two neighbouring steps, and by how far
+/// between them the key is (Kipf et al., RadixSpline, aiDM 2020, of a table of that kind).
+#[derive(Drop)]
+pub struct Grid {
+    scale: Scale,
+    counts: Vec<u32>,
+}
+
+/// What leads to a key's place: a grid, where the keys are even, and else the fences between groups
+/// of them, of which the level's index leaves few.
+///
+/// It tells nothing by a clause: what is found where it leads is looked at.
+#[derive(Drop)]
+pub enum Guide {
+    Grid(Grid),
+    /// The last key of each whole group of eight.
+    Fences(Vec<u64>),
+}
+
+impl Guide {
+    /// The guide to keys.
+    pub fn of(alloc: Global, keys: &[u64]) -> Result<Guide, NoMemory>
+        requires { length keys.now < 2 ^ 32 }
+    {
+        match Grid::of(alloc, keys)? {
+            Some(grid) => Ok(Guide::Grid(grid)),
+            None => Ok(Guide::Fences(fences_of(alloc, keys)?)),
+        }
+    }
+}
+
+impl Grid {
+    /// The grid of keys, if they are even: if no more than an eighth of them is in crowded steps.
+    fn of(alloc: Global, keys: &[u64]) -> Result<Option<Grid>, NoMemory>
+        requires { length keys.now < 2 ^ 32 }
+    {
+        let len = keys.len();
+        if len < EACH {
+            return Ok(None);
+        }
+        let scale = Scale::of(keys[0], keys[len - 1], len / EACH);
+        let mut counts = vec![in alloc; 0; len / EACH + 2]?;
+        count(&mut counts, keys, &scale);
+        if add_up(&mut counts) > len as u64 / 8 {
+            return Ok(None);
+        }
+        Ok(Some(Grid { scale, counts }))
+    }
+
+    /// The first of eight places among which a key is said to be.
+    #[inline(always)]
+    pub fn start(&self, key: u64) -> usize {
+        let counts = self.counts.as_slice();
+        if counts.len() < 2 {
+            return 0;
+        }
+        let (step, part) = self.scale.step(key);
+        let step = step.min(counts.len() - 2);
+        let (low, high) = (u64::from(counts[step]), u64::from(counts[step + 1]));
+        let between = high.wrapping_sub(low).wrapping_mul(part) >> 8;
+        low.wrapping_add(between).saturating_sub(BEFORE) as usize
+    }
+}
+
+impl Scale {
+    /// The scale of so many steps over the keys from one to another.
+    fn of(least: u64, greatest: u64, steps: usize) -> Scale {
+        let range = greatest.wrapping_sub(least);
+        let factor = steps as u128 * WORDS / (u128::from(range) + 1);
+        Scale {
+            least,
+            range,
+            factor: factor.min(WORDS - 1) as u64,
+        }
+    }
+
+    /// The step of a key, and how far in the step it is, in 256ths.
+    #[inline(always)]
+    fn step(&self, key: u64) -> (usize, u64) {
+        let distance = key.saturating_sub(self.least).min(self.range);
+        let product = u128::from(distance) * u128::from(self.factor);
+        ((product / WORDS) as usize, (product % WORDS) as u64 >> 56)
+    }
+}
+
+/// Counts each fourth key at the end of its step, with all before it. The last count of a step stays.
+fn count(counts: &mut Vec<u32>, keys: &[u64], scale: &Scale)
+    requires { length keys.now < 2 ^ 32 }
+{
+    let scale = *scale;
+    for i in 0..keys.len() / COUNTED {
+        let place = i * COUNTED + (COUNTED - 1);
+        let (step, _) = scale.step(keys[place]);
+        let end = step.wrapping_add(1);
+        if end < counts.len() {
+            counts[end] = (place + 1) as u32;
+        }
+    }
+}
+
+/// Puts into each step without a key the count of the step before, and gives how many keys are in
+/// crowded steps.
+fn add_up(counts: &mut Vec<u32>) -> u64 {
+    let mut before = 0u32;
+    let mut crowded = 0u64;
+    for i in 0..counts.len() {
+        let count = counts[i].max(before);
+        let more = count.wrapping_sub(before);
+        if more > CROWDED {
+            crowded = crowded.wrapping_add(u64::from(more));
+        }
+        counts[i] = count;
+        before = count;
+    }
+    crowded
+}
+
+/// The fences between groups of keys.
+fn fences_of(alloc: Global, keys: &[u64]) -> Result<Vec<u64>, NoMemory> {
+    let count = keys.len() / LOOK;
+    let mut fences = Vec::with_capacity(alloc, count)?;
+    for i in 0..count {
+        fences.push(keys[i * LOOK + (LOOK - 1)])?;
+    }
+    Ok(fences)
+}
