@@ -12,6 +12,7 @@ pub mod LengthLemmas
 pub mod UpdateLemmas
 pub mod MapLemmas
 pub mod ValueLemmas
+pub mod OccupiedLemmas
 pub mod SearchLemmas
 pub mod WalkLemmas
 pub mod PlaceLemmas

@@ -8,7 +8,8 @@ ghost use Rattle.tombstones.specs.declared.entry.Entry.{Entry};
 ghost use Rattle.tombstones.specs.Entries.{IsAscending};
 ghost use Rattle.levels.specs.Indexes.{IsIndex};
 ghost use Rattle.log_levels.specs.declared.update.Update.{Update};
-ghost use Rattle.log_levels.specs.Shapes.{Held, StandsFor, capacity_of, level_of, level_keys};
+ghost use Rattle.log_levels.specs.Shapes.{Held, StandsFor, capacity_of};
+ghost use Rattle.log_levels.specs.Shapes.{level_of, level_keys, from_bit};
 ghost use Rattle.log_levels.specs.Maps.{map_after};
 ghost use Rattle.log_levels.specs.Accepted.{entries_of};
 
@@ -187,6 +188,18 @@ impl LogMap {
         highest_bit(blocks as usize) as usize + 1
     }
 
+    /// Which levels are occupied: bit `i` is 1 where level `i` is.
+    #[inline(always)]
+    pub(crate) fn occupied(&self) -> u64
+        ensures bits { result ≡ self.now.accepted / BLOCK }
+        ensures within { result < 2 ^ length self.now.levels }
+        ensures few { length self.now.levels ≤ 26 }
+        ensures free { (i : ℕ) → i < length self.now.levels → bit_at result i ≡ 0 →
+            level_of self.now i ≡ None }
+    {
+        self.accepted / BLOCK
+    }
+
     /// A level, if it is occupied.
     pub(crate) fn level(&self, i: usize) -> Option<&Level>
         ensures { option_copied result ≡ level_of self.now i }
@@ -196,6 +209,18 @@ impl LogMap {
             _ => None,
         }
     }
+}
+
+/// The place of the lowest bit that is 1, and the number without that bit.
+#[inline(always)]
+pub fn lowest_and_rest(bits: u64) -> (usize, u64)
+    requires { 0 < bits }
+    ensures set { bit_at bits result.0 ≡ 1 }
+    ensures lowest { from_bit result.0 bits ≡ bits }
+    ensures rest { result.1 ≡ from_bit (result.0 + 1) bits }
+    ensures less { result.1 < bits }
+{
+    (bits.trailing_zeros() as usize, bits & (bits - 1))
 }
 
 /// A map stands for one map and one number of entries: two lists of updates for which it stands

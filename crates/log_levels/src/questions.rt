@@ -10,7 +10,7 @@ ghost use Rattle.log_levels.specs.Shapes.{IsCutOf, StandsFor, last_at};
 ghost use Rattle.log_levels.specs.Kept.{value_of};
 
 use crate::filter::{bits, hash};
-use crate::log_map::LogMap;
+use crate::log_map::{LogMap, lowest_and_rest};
 use tombstones::Entry;
 
 impl LogMap {
@@ -74,12 +74,15 @@ impl LogMap {
     {
         let hash = hash(key);
         let bits = bits(hash);
-        for i in 0..self.depth() {
+        let mut rest = self.occupied();
+        while rest != 0 {
+            let (i, behind) = lowest_and_rest(rest);
             if let Some(level) = self.level(i) {
                 if let Some(entry) = level.entry(key, hash, bits) {
                     return entry.value;
                 }
             }
+            rest = behind;
         }
         None
     }

@@ -10,7 +10,7 @@ ghost use Rattle.tombstones.specs.Entries.{entry_at};
 ghost use Rattle.log_levels.specs.Kept.{ArePlaces, IsAbsent, IsBelow};
 ghost use Rattle.log_levels.specs.Kept.{IsNextLive, entry_in, value_of};
 
-use crate::log_map::LogMap;
+use crate::log_map::{LogMap, lowest_and_rest};
 use crate::questions::last_of;
 use tombstones::Entry;
 
@@ -77,8 +77,11 @@ impl LogMap {
         ensures places { IfSome result (λ key. ArePlaces self.now places.now key) }
     {
         let mut least = least_from(&self.buffer, from);
-        for i in 0..self.depth() {
+        let mut rest = self.occupied();
+        while rest != 0 {
+            let (i, behind) = lowest_and_rest(rest);
             least = lesser(least, self.key_in_level(i, places[i], from));
+            rest = behind;
         }
         least
     }
@@ -92,10 +95,13 @@ impl LogMap {
         if let Some(entry) = last_of(&self.buffer, key) {
             return entry.value;
         }
-        for i in 0..self.depth() {
+        let mut rest = self.occupied();
+        while rest != 0 {
+            let (i, behind) = lowest_and_rest(rest);
             if let Some(entry) = self.entry_in_level(i, places[i], key) {
                 return entry.value;
             }
+            rest = behind;
         }
         None
     }
@@ -115,10 +121,13 @@ impl LogMap {
         requires { ArePlaces self.now places.old key }
         ensures { ArePlaces self.now places.new (key + 1) }
     {
-        for i in 0..self.depth() {
+        let mut rest = self.occupied();
+        while rest != 0 {
+            let (i, behind) = lowest_and_rest(rest);
             if let Some(level) = self.level(i) {
                 places[i] = level.place_past(places[i], key);
             }
+            rest = behind;
         }
     }
 

@@ -1,13 +1,18 @@
-use Rattle.std.proofs.Common.{◌≡◌, ◌<◌, ◌≤◌, ℕ, List, Some, None, IfSome}
+use Rattle.std.proofs.Common.{◌≡◌, ◌^◌, ◌<◌, ◌≤◌, ℕ, List, Some, None, IfSome, length}
+use Rattle.std.specs.Int.{bit_at}
 use Rattle.tombstones.specs.declared.entry.Entry.{Entry}
 use Rattle.tombstones.specs.Entries.{entry_at}
 use Rattle.log_levels.specs.Shapes.{level_of, last_at}
 use Rattle.log_levels.specs.Kept.{IsBelow}
 use Rattle.log_levels.proofs.log_map.LogMap.least_key.Given as goal
 
-abbrev pub invariant-loop-i : goal.invariant-loop-i
-invariant-loop-i l = record {
+abbrev pub invariant-loop-rest : goal.invariant-loop-rest
+invariant-loop-rest l = record {
+  within : l.rest < 2 ^ length l.self.levels;
   from : IfSome l.least (λ key. l.from ≤ key);
   buffer : (key : ℕ) → l.from ≤ key → IsBelow key l.least → last_at l.self.buffer key ≡ None;
-  levels : (key i : ℕ) (level : List Entry) → l.from ≤ key → IsBelow key l.least → i < l.i → level_of l.self i ≡ Some level → entry_at level key ≡ None;
+  levels : (key i : ℕ) (level : List Entry) → l.from ≤ key → IsBelow key l.least → i < length l.self.levels → bit_at l.rest i ≡ 0 → level_of l.self i ≡ Some level → entry_at level key ≡ None;
 }
+
+abbrev pub decreases-loop-rest : goal.decreases-loop-rest
+decreases-loop-rest l = l.rest

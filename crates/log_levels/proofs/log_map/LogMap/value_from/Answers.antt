@@ -1,7 +1,8 @@
-use Rattle.std.proofs.Common.{◌≡◌, ◌/◌, ◌^◌, ◌<◌, length, subst, sym, ap, ◌∙◌, arith}
-use Rattle.log_levels.specs.Shapes.{Held, level_of}
+use Rattle.std.proofs.Common.{◌≡◌, ◌+◌, ◌^◌, ◌<◌, length, subst, sym, ap, ◌∙◌, arith}
+use Rattle.log_levels.specs.Shapes.{Held, last_at}
 use Rattle.log_levels.specs.Kept.{value_of}
-use Rattle.log_levels.proofs.SearchLemmas.{search-none, search-buffer, search-in-found, search-in-missed, search-end}
+use Rattle.log_levels.proofs.SearchLemmas.{search-buffer}
+use Rattle.log_levels.proofs.OccupiedLemmas.{IsReached, bit-within, reached-start, reached-found, reached-missed}
 use Rattle.log_levels.proofs.log_map.LogMap.value_from.Goals as goal
 
 pub returns-in-Some : goal.returns-in-Some
@@ -9,22 +10,40 @@ returns-in-Some c = λ entries cut.
     let is = c.deref.ensures.value ∙ ap (λ (held : Held). held.buffer) c.self.view_is ∙ cut.buffer in
     sym (ap value_of (search-buffer entries c.deref.result.now c.args.key c.in-Some.entry.now is (sym c.in-Some.ensures)))
 
-pub loop-i-init : goal.loop-i-init
-loop-i-init c = λ entries cut.
-    let is = c.deref.ensures.value ∙ ap (λ (held : Held). held.buffer) c.self.view_is ∙ cut.buffer in
-    ap value_of (search-none entries c.deref.result.now (length entries / 64) c.args.key is (sym c.in_default.ensures))
+pub loop-rest-init : goal.loop-rest-init
+loop-rest-init c = record {
+  within = c.occupied-rest.ensures.within;
+  reached = λ entries cut.
+      let is = c.deref.ensures.value ∙ ap (λ (held : Held). held.buffer) c.self.view_is in
+      subst (λ rest. IsReached entries c.args.key rest) (sym c.occupied-rest.ensures.bits)
+      (reached-start c.args.self.now entries c.args.key cut (ap (λ buffer. last_at buffer c.args.key) (sym is) ∙ sym c.in_default.ensures));
+}
+
+pub offset_bounds-places-i : goal.offset_bounds-places-i
+offset_bounds-places-i c =
+    omega (arith, bit-within c.loop-rest.rest (length c.args.self.now.levels) c.lowest_and_rest-i.result.0 c.loop-rest.invariant.within c.lowest_and_rest-i.ensures.set)
+
+pub bounds-places-i : goal.bounds-places-i
+bounds-places-i c =
+    omega (arith, bit-within c.loop-rest.rest (length c.args.self.now.levels) c.lowest_and_rest-i.result.0 c.loop-rest.invariant.within c.lowest_and_rest-i.ensures.set)
+
+pub entry_in_level-requires : goal.entry_in_level-requires
+entry_in_level-requires c = λ level is.
+    c.requires.each c.lowest_and_rest-i.result.0 level
+    (bit-within c.loop-rest.rest (length c.args.self.now.levels) c.lowest_and_rest-i.result.0 c.loop-rest.invariant.within c.lowest_and_rest-i.ensures.set) is
 
 pub returns-in-Some-entry_in_level : goal.returns-in-Some-entry_in_level
 returns-in-Some-entry_in_level c = λ entries cut.
-    sym (c.loop-i.invariant entries cut ∙ ap value_of (search-in-found entries (length entries / 64) c.loop-i.i c.args.key (level_of c.args.self.now c.loop-i.i) c.in-Some-entry_in_level.entry.now (cut.levels c.loop-i.i (omega arith)) c.in-Some-entry_in_level.ensures))
+    let is = c.lowest_and_rest-i.ensures in
+    reached-found c.args.self.now entries c.args.key c.loop-rest.rest c.lowest_and_rest-i.result.0 c.in-Some-entry_in_level.entry.now cut (c.loop-rest.invariant.reached entries cut) is.set is.lowest
+    c.in-Some-entry_in_level.ensures
 
-pub loop-i-preserved : goal.loop-i-preserved
-loop-i-preserved c = λ entries cut.
-    c.loop-i.invariant entries cut ∙ search-in-missed entries (length entries / 64) c.loop-i.i c.args.key (level_of c.args.self.now c.loop-i.i) (cut.levels c.loop-i.i (omega arith)) c.in_default-entry_in_level.ensures
-
-pub returns : goal.returns
-returns c = λ entries cut.
-    let f = length entries / 64 in
-    let end : c.depth-i-end.result ≡ c.loop-i.i = omega arith in
-    let small : f < 2 ^ c.loop-i.i = subst (λ k. f < 2 ^ k) end (omega (arith, c.depth-i-end.ensures.below, ap (λ n. n / 64) cut.accepted)) in
-    sym (c.loop-i.invariant entries cut ∙ ap value_of (search-end entries f c.loop-i.i c.args.key small))
+pub loop-rest-preserved : goal.loop-rest-preserved
+loop-rest-preserved c =
+    let is = c.lowest_and_rest-i.ensures in
+    record {
+      within = omega (arith, is.less, c.loop-rest.invariant.within);
+      reached = λ entries cut. subst (λ rest. IsReached entries c.args.key rest) (sym is.rest)
+          (reached-missed c.args.self.now entries c.args.key c.loop-rest.rest c.lowest_and_rest-i.result.0 cut (c.loop-rest.invariant.reached entries cut) is.set is.lowest
+          c.in_default-entry_in_level.ensures);
+    }
