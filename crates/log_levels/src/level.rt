@@ -12,10 +12,10 @@ ghost use Rattle.window_search.specs.Searches.{lb};
 ghost use Rattle.log_levels.specs.Shapes.{level_keys};
 
 use crate::builder::Builder;
-use crate::filter::Filter;
+use crate::filter::{Filter, keys_with_filter};
 use crate::halving::lower_of;
 use budget::NoMemory;
-use levels::{Index, Keys};
+use levels::Index;
 use std::alloc::Global;
 use std::marker::Model;
 use tombstones::Entry;
@@ -79,12 +79,10 @@ impl Level {
         requires few { vec_len entries < 2 ^ 32 }
         ensures { IfOk result (λ level. level ≡ entries.items) }
     {
-        let keys = keys_of(alloc, &entries)?;
+        let (keys, filter) = keys_with_filter(alloc, &entries)?;
         let index = builder.index(keys)?;
         // The keys are in a nearer cache than the entries.
-        let keys = index.keys().file();
-        let filter = Filter::of(alloc, keys)?;
-        let fences = fences_of(alloc, keys)?;
+        let fences = fences_of(alloc, index.keys().file())?;
         Ok(Level {
             entries,
             index,
@@ -260,19 +258,6 @@ impl Level {
         let _ = self.index.levels();
         &self.index
     }
-}
-
-/// The keys of entries.
-fn keys_of(alloc: Global, entries: &[Entry]) -> Result<Keys, NoMemory>
-    requires ascending { IsAscending entries.now }
-    requires few { length entries.now < 2 ^ 32 }
-    ensures { IfOk result (λ keys. keys ≡ level_keys entries.now) }
-{
-    let mut keys = Vec::with_capacity(alloc, entries.len())?;
-    for entry in entries {
-        keys.push_reserved(entry.key);
-    }
-    Keys::of_distinct(alloc, keys)
 }
 
 /// The fences between groups of entries, by their keys.

@@ -1,7 +1,7 @@
 ghost use Rattle.std.specs.Prelude.{◌≡◌, ◌<◌, ◌≤◌, ◌^◌, length};
 
 use super::builder::Here;
-use super::filter::{Filter, bits, hash};
+use super::filter::{Filter, bits, hash, keys_with_filter};
 use super::level::Level;
 use super::*;
 use budget::NoMemory;
@@ -48,12 +48,16 @@ fn full_at_the_capacity(rt: HostRuntime) -> Result<(), Fail> {
 // A program in another language counts as many odd numbers that pass.
 #[test]
 fn few_pass_a_filter_falsely(rt: HostRuntime) -> Result<(), Fail> {
-    let mut keys = Vec::new(rt.alloc());
+    let mut entries = Vec::new(rt.alloc());
     for key in 0..4096 {
-        keys.push(2 * key)?;
+        entries.push(Entry {
+            key: 2 * key,
+            value: None,
+        })?;
     }
-    assert!(rt; keys.len() < 5000);
-    let filter = Filter::of(rt.alloc(), &keys)?;
+    assert!(rt; is_ascending(&entries));
+    assert!(rt; entries.len() < 5000);
+    let (_, filter) = keys_with_filter(rt.alloc(), &entries)?;
     let mut passed = 0u64;
     for key in 0..4096 {
         assert!(rt; passes(&filter, 2 * key));
