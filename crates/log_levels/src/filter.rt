@@ -1,11 +1,15 @@
 // What a level can deny without a search.
 ghost use Rattle.std.specs.Prelude.{◌≡◌, ℕ, ◌+◌, ◌*◌, ◌<◌, ◌≤◌, ◌^◌, ◌↔◌};
 ghost use Rattle.std.specs.Prelude.{length, IfOk, IsTrue};
+ghost use Rattle.tombstones.specs.Entries.{IsAscending};
+ghost use Rattle.log_levels.specs.Shapes.{level_keys};
 ghost use Rattle.log_levels.specs.Filters.{hash_of, slot_of, bits_of, Passes, ArePassed};
 
 use budget::NoMemory;
+use levels::Keys;
 use std::alloc::Global;
 use std::marker::Model;
+use tombstones::Entry;
 
 /// `2^64` by the golden ratio.
 const FACTOR: u64 = 0x9E37_79B9_7F4A_7C15;
@@ -15,8 +19,8 @@ const WORDS: u128 = 1 << 64;
 
 /// A filter of keys: a few bits of one word for each key, set. Seen as the words.
 ///
-/// It denies no key that it was made of. Of others some five in a thousand pass, where the keys are
-/// scattered: there is a word of 64 bits for each four keys, and each key sets four. A question
+/// It denies no key that it was made of. Of others some eight in a thousand pass, where the keys
+/// are scattered: there is a word of 64 bits for each four keys, and each key sets three. A question
 /// looks at one word.
 ///
 /// Sources: Bloom, CACM 13(7), 1970; Putze, Sanders and Singler, Cache-, hash- and space-efficient
@@ -38,18 +42,6 @@ impl Model for Filter {
 }
 
 impl Filter {
-    /// The filter of keys.
-    pub fn of(alloc: Global, keys: &[u64]) -> Result<Filter, NoMemory>
-        requires { length keys.now < 2 ^ 32 }
-        ensures { IfOk result (λ filter. ArePassed filter keys.now) }
-    {
-        let mut words = vec![in alloc; 0; keys.len() / 4 + 1]?;
-        for key in keys {
-            set(&mut words, hash(*key));
-        }
-        Ok(Filter { words })
-    }
-
     /// Whether a key with this hash, of which these are the bits, may be among those that the filter
     /// was made of.
     #[inline(always)]
@@ -60,6 +52,22 @@ impl Filter {
         let words = self.words.as_slice();
         words[slot(hash, words.len())] & bits == bits
     }
+}
+
+/// The keys of entries with a filter of them, in one pass.
+pub fn keys_with_filter(alloc: Global, entries: &[Entry]) -> Result<(Keys, Filter), NoMemory>
+    requires ascending { IsAscending entries.now }
+    requires few { length entries.now < 2 ^ 32 }
+    ensures keys { IfOk result (λ pair. pair.0 ≡ level_keys entries.now) }
+    ensures filter { IfOk result (λ pair. ArePassed pair.1 (level_keys entries.now)) }
+{
+    let mut keys = Vec::with_capacity(alloc, entries.len())?;
+    let mut words = vec![in alloc; 0; entries.len() / 4 + 1]?;
+    for entry in entries {
+        keys.push_reserved(entry.key);
+        set(&mut words, hash(entry.key));
+    }
+    Ok((Keys::of_distinct(alloc, keys)?, Filter { words }))
 }
 
 /// The hash of a key.
@@ -102,6 +110,5 @@ fn slot(hash: u64, count: usize) -> usize
 pub fn bits(hash: u64) -> u64
     ensures { result ≡ bits_of hash }
 {
-    let low = 1 << (hash % 64) | 1 << (hash / 64 % 64);
-    low | (1 << (hash / 4096 % 64) | 1 << (hash / 262_144 % 64))
+    1 << (hash % 64) | 1 << (hash / 64 % 64) | 1 << (hash / 4096 % 64)
 }

@@ -12,11 +12,11 @@ ghost use Rattle.window_search.specs.Searches.{lb};
 ghost use Rattle.log_levels.specs.Shapes.{level_keys};
 
 use crate::builder::Builder;
-use crate::filter::Filter;
+use crate::filter::{Filter, keys_with_filter};
 use crate::guide::{Guide, LOOK};
 use crate::halving::lower_of;
 use budget::NoMemory;
-use levels::{Index, Keys};
+use levels::Index;
 use std::alloc::Global;
 use std::marker::Model;
 use tombstones::Entry;
@@ -77,12 +77,10 @@ impl Level {
         requires few { vec_len entries < 2 ^ 32 }
         ensures { IfOk result (λ level. level ≡ entries.items) }
     {
-        let keys = keys_of(alloc, &entries)?;
+        let (keys, filter) = keys_with_filter(alloc, &entries)?;
         let index = builder.index(keys)?;
         // The keys are in a nearer cache than the entries.
-        let keys = index.keys().file();
-        let filter = Filter::of(alloc, keys)?;
-        let guide = Guide::of(alloc, keys)?;
+        let guide = Guide::of(alloc, index.keys().file())?;
         Ok(Level {
             entries,
             index,
@@ -296,19 +294,6 @@ impl Level {
         let _ = self.index.levels();
         &self.index
     }
-}
-
-/// The keys of entries.
-fn keys_of(alloc: Global, entries: &[Entry]) -> Result<Keys, NoMemory>
-    requires ascending { IsAscending entries.now }
-    requires few { length entries.now < 2 ^ 32 }
-    ensures { IfOk result (λ keys. keys ≡ level_keys entries.now) }
-{
-    let mut keys = Vec::with_capacity(alloc, entries.len())?;
-    for entry in entries {
-        keys.push_reserved(entry.key);
-    }
-    Keys::of_distinct(alloc, keys)
 }
 
 /// How many of some keys are below a key.

@@ -1,7 +1,7 @@
 ghost use Rattle.std.specs.Prelude.{◌≡◌, ◌<◌, ◌≤◌, ◌^◌, length};
 
 use super::builder::Here;
-use super::filter::{Filter, bits, hash};
+use super::filter::{Filter, bits, hash, keys_with_filter};
 use super::level::Level;
 use super::*;
 use budget::NoMemory;
@@ -48,12 +48,16 @@ fn full_at_the_capacity(rt: HostRuntime) -> Result<(), Fail> {
 // A program in another language counts as many odd numbers that pass.
 #[test]
 fn few_pass_a_filter_falsely(rt: HostRuntime) -> Result<(), Fail> {
-    let mut keys = Vec::new(rt.alloc());
+    let mut entries = Vec::new(rt.alloc());
     for key in 0..4096 {
-        keys.push(2 * key)?;
+        entries.push(Entry {
+            key: 2 * key,
+            value: None,
+        })?;
     }
-    assert!(rt; keys.len() < 5000);
-    let filter = Filter::of(rt.alloc(), &keys)?;
+    assert!(rt; is_ascending(&entries));
+    assert!(rt; entries.len() < 5000);
+    let (_, filter) = keys_with_filter(rt.alloc(), &entries)?;
     let mut passed = 0u64;
     for key in 0..4096 {
         assert!(rt; passes(&filter, 2 * key));
@@ -61,7 +65,7 @@ fn few_pass_a_filter_falsely(rt: HostRuntime) -> Result<(), Fail> {
             passed = passed.wrapping_add(1);
         }
     }
-    assert_eq!(rt; passed, 23);
+    assert_eq!(rt; passed, 19);
     Ok(())
 }
 
@@ -70,26 +74,53 @@ fn passes(filter: &Filter, key: u64) -> bool {
     filter.passes(hash, bits(hash))
 }
 
-// No contract says that the fences lead to a key, so each key of a group is looked for by them.
+// No contract says that a guide leads to a key, so each key is looked for where it leads. Squares
+// are uneven, so that there are fences.
 #[test]
 fn fences_lead_to_each_key(rt: HostRuntime) -> Result<(), Fail> {
-    for count in [8, 9, 128, 135, 136, 137, 1000, 20_000] {
+    for count in [128, 135, 136, 137, 1000, 20_000] {
         let entries = squares(rt.alloc(), count)?;
         assert!(rt; is_ascending(&entries));
         assert!(rt; entries.len() < 100_000);
         let here = Here { alloc: rt.alloc() };
         let level = Level::of(&here, rt.alloc(), entries)?;
-        for root in 0..count {
+        for root in 0..count / 8 * 8 {
             let key = root.wrapping_mul(root);
-            let group = level.group_from(level.first_group(key), key);
-            assert_eq!(rt; group as u64, root / 8);
-            if root < count / 8 * 8 {
-                let entry = level.entry_in(group, key);
-                assert_eq!(rt; entry.map(|entry| entry.value), Some(Some(root)));
-            }
+            let start = level.start_from(level.first_group(key), key);
+            assert_eq!(rt; start as u64, root / 8 * 8);
+            let entry = level.entry_at(level.place_in(start, key), key);
+            assert_eq!(rt; entry.map(|entry| entry.value), Some(Some(root)));
         }
     }
     Ok(())
+}
+
+// The same of even keys, which a grid leads to: one in each 64 numbers.
+#[test]
+fn a_grid_leads_to_each_key(rt: HostRuntime) -> Result<(), Fail> {
+    for count in [8, 9, 64, 100, 1000, 20_000] {
+        let mut entries = Vec::new(rt.alloc());
+        for i in 0..count {
+            entries.push(Entry {
+                key: even_key(i),
+                value: Some(i),
+            })?;
+        }
+        assert!(rt; is_ascending(&entries));
+        assert!(rt; entries.len() < 100_000);
+        let here = Here { alloc: rt.alloc() };
+        let level = Level::of(&here, rt.alloc(), entries)?;
+        for i in 0..count {
+            let start = level.start_from(level.first_group(even_key(i)), even_key(i));
+            let entry = level.entry_at(level.place_in(start, even_key(i)), even_key(i));
+            assert_eq!(rt; entry.map(|entry| entry.value), Some(Some(i)));
+        }
+    }
+    Ok(())
+}
+
+fn even_key(i: u64) -> u64 {
+    i.wrapping_mul(64).wrapping_add(i.wrapping_mul(37) % 64)
 }
 
 /// So many squares from 0 on, each with its root.
@@ -105,7 +136,7 @@ fn squares(alloc: Global, count: u64) -> Result<Vec<Entry>, NoMemory> {
     Ok(entries)
 }
 
-// The even numbers stand in one level, where 23 odd ones pass its filter, and deletions of every
+// The even numbers stand in one level, where 19 odd ones pass its filter, and deletions of every
 // 64th of them in another above.
 #[test]
 fn keys_that_are_denied_or_deleted(rt: HostRuntime) -> Result<(), Fail> {
