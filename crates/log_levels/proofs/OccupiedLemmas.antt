@@ -2,7 +2,7 @@
 use Rattle.std.proofs.Common.{◌≡◌, ℕ, zero, suc, ◌+◌, ◌-◌, ◌*◌, ◌/◌, ◌%◌, ◌^◌, min, ◌<◌, ◌≤◌, List, length, take, Option, Some, None, refl, sym, ap, ◌∙◌, inl, inr, ◌⊎◌, arith, add-one}
 use Rattle.std.proofs.Math.Nat.{mul-div_cancel}
 use Rattle.std.proofs.lemmas.Nat.{pow_pos, shr-shr}
-use Rattle.std.proofs.lemmas.Nat.Bits.{bit_at-zero, bit_at_and, bit_at_above, bit_at_ones, bit_at_ones_above, bit_at_cat_low, bit_at_cat_high, bit_at-trailing_zeros, same_from_bits}
+use Rattle.std.proofs.lemmas.Nat.Bits.{bit_at-zero, bit_at_and, bit_at_above, bit_at_ones_above, bit_at_cat_low, bit_at_cat_high, bit_at-trailing_zeros, same_from_bits}
 use Rattle.std.proofs.lemmas.Bool.{cases_lt}
 use Rattle.std.specs.Int.{bit_at, trailing_zeros, w64}
 use Rattle.std.specs.Prelude.{bit_and}
@@ -40,8 +40,8 @@ from_bit-twice j t f below =
     let place : j + (t - j) ≡ t = omega arith in
     let part : from_bit j f / 2 ^ j ≡ f / 2 ^ j = mul-div_cancel (f / 2 ^ j) (pow_pos j) in
     let quotient : from_bit j f / 2 ^ t ≡ f / 2 ^ t =
-        ap (λ k. from_bit j f / 2 ^ k) (sym place) ∙ sym (shr-shr (from_bit j f) j (t - j)) ∙ ap (λ q. q / 2 ^ (t - j)) part
-        ∙ shr-shr f j (t - j) ∙ ap (λ k. f / 2 ^ k) place in
+    ap (λ k. from_bit j f / 2 ^ k) (sym place) ∙ sym (shr-shr (from_bit j f) j (t - j)) ∙ ap (λ q. q / 2 ^ (t - j)) part
+    ∙ shr-shr f j (t - j) ∙ ap (λ k. f / 2 ^ k) place in
     ap (λ q. q * 2 ^ t) quotient
 
 -- without its lowest bit that is 1 a number is what `n & (n - 1)` gives
@@ -147,8 +147,7 @@ reached-next entries key rest i reached set lowest =
     let from : j ≤ i = elim (cases_lt i j) [
       | inl less ↦ absurd (omega (arith, set, ap (λ n. bit_at n i) is ∙ bit-left_out j f i less))
       | inr le ↦ le
-    ] in
-    (
+    ] in (
       sym (from_bit-twice j i f from) ∙ ap (λ n. from_bit i n) (sym is) ∙ lowest,
       ap (λ n. from_bit (i + 1) n) is ∙ from_bit-twice j (i + 1) f (omega arith),
     )

@@ -1,5 +1,4 @@
-use Rattle.std.proofs.Common.{◌≡◌, ◌+◌, ap, sym, ◌∙◌, subst}
-use Rattle.tombstones.specs.declared.entry.Entry.{Entry}
+use Rattle.std.proofs.Common.{ap, sym, ◌∙◌, subst}
 use Rattle.log_levels.specs.Kept.{entry_in}
 use Rattle.log_levels.proofs.OccupiedLemmas.{IsReached, reached-start, reached-found, reached-missed}
 use Rattle.log_levels.proofs.log_map.LogMap.value_in_levels.Goals as goal
