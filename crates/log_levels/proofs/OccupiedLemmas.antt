@@ -1,5 +1,5 @@
 -- The occupied levels, from the newest on: the bits of a number that are 1, from the lowest on.
-use Rattle.std.proofs.Common.{◌≡◌, ℕ, zero, suc, ◌+◌, ◌-◌, ◌*◌, ◌/◌, ◌%◌, ◌^◌, min, ◌<◌, ◌≤◌, List, length, take, Option, Some, None, refl, sym, ap, ◌∙◌, inl, inr, ◌⊎◌, arith, add-one}
+use Rattle.std.proofs.Common.{◌≡◌, ℕ, zero, suc, ◌+◌, ◌-◌, ◌*◌, ◌/◌, ◌%◌, ◌^◌, min, ◌<◌, ◌≤◌, List, length, take, Option, Some, None, IsSome, rules, refl, sym, ap, ◌∙◌, inl, inr, ◌⊎◌, arith, add-one}
 use Rattle.std.proofs.Math.Nat.{mul-div_cancel}
 use Rattle.std.proofs.lemmas.Nat.{pow_pos, shr-shr}
 use Rattle.std.proofs.lemmas.Nat.Bits.{bit_at-zero, bit_at_and, bit_at_above, bit_at_ones_above, bit_at_cat_low, bit_at_cat_high, bit_at-trailing_zeros, same_from_bits}
@@ -123,6 +123,17 @@ level-free held entries i cut inside clear = go (level_of held i) (cut.levels i 
     go : (level : Option (List Entry)) → IsLevelFor entries (length entries / 64) i level → level ≡ None
     go None free = refl
     go (Some level) (set, last) = absurd (omega (arith, set, clear, ap (λ n. bit_at (n / 64) i) cut.accepted))
+
+-- and is taken where it is 1
+pub level-taken : (held : Held) (entries : List Entry) (i : ℕ) → IsCutOf held entries → bit_at (held.accepted / 64) i ≡ 1 → IsSome (level_of held i)
+level-taken held entries i cut set = go (level_of held i) (cut.levels i inside)
+  where
+    inside : i < length held.levels
+    inside = bit-within (held.accepted / 64) (length held.levels) i (omega (arith, blocks-few held entries cut, ap (λ n. n / 64) cut.accepted)) set
+
+    go : (level : Option (List Entry)) → IsLevelFor entries (length entries / 64) i level → IsSome level
+    go None free = absurd (omega (arith, free, set, ap (λ n. bit_at (n / 64) i) cut.accepted))
+    go (Some level) has = search rules
 
 -- how far a search has come: the last entry of the key is in the blocks of these bits, if any has a value
 pub record IsReached (entries : List Entry) (key rest : ℕ) : Type 0 where
