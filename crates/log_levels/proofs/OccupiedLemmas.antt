@@ -1,8 +1,8 @@
 -- The occupied levels, from the newest on: the bits of a number that are 1, from the lowest on.
-use Rattle.std.proofs.Common.{◌≡◌, ℕ, zero, suc, ◌+◌, ◌-◌, ◌*◌, ◌/◌, ◌%◌, ◌^◌, min, ◌<◌, ◌≤◌, List, length, take, Option, Some, None, refl, sym, ap, ◌∙◌, inl, inr, ◌⊎◌, arith, add-one}
+use Rattle.std.proofs.Common.{◌≡◌, ℕ, zero, suc, ◌+◌, ◌-◌, ◌*◌, ◌/◌, ◌%◌, ◌^◌, min, ◌<◌, ◌≤◌, List, length, take, Option, Some, None, IsSome, rules, refl, sym, ap, ◌∙◌, inl, inr, ◌⊎◌, arith, add-one}
 use Rattle.std.proofs.Math.Nat.{mul-div_cancel}
 use Rattle.std.proofs.lemmas.Nat.{pow_pos, shr-shr}
-use Rattle.std.proofs.lemmas.Nat.Bits.{bit_at-zero, bit_at_and, bit_at_above, bit_at_ones, bit_at_ones_above, bit_at_cat_low, bit_at_cat_high, bit_at-trailing_zeros, same_from_bits}
+use Rattle.std.proofs.lemmas.Nat.Bits.{bit_at-zero, bit_at_and, bit_at_above, bit_at_ones_above, bit_at_cat_low, bit_at_cat_high, bit_at-trailing_zeros, same_from_bits}
 use Rattle.std.proofs.lemmas.Bool.{cases_lt}
 use Rattle.std.specs.Int.{bit_at, trailing_zeros, w64}
 use Rattle.std.specs.Prelude.{bit_and}
@@ -40,8 +40,8 @@ from_bit-twice j t f below =
     let place : j + (t - j) ≡ t = omega arith in
     let part : from_bit j f / 2 ^ j ≡ f / 2 ^ j = mul-div_cancel (f / 2 ^ j) (pow_pos j) in
     let quotient : from_bit j f / 2 ^ t ≡ f / 2 ^ t =
-        ap (λ k. from_bit j f / 2 ^ k) (sym place) ∙ sym (shr-shr (from_bit j f) j (t - j)) ∙ ap (λ q. q / 2 ^ (t - j)) part
-        ∙ shr-shr f j (t - j) ∙ ap (λ k. f / 2 ^ k) place in
+    ap (λ k. from_bit j f / 2 ^ k) (sym place) ∙ sym (shr-shr (from_bit j f) j (t - j)) ∙ ap (λ q. q / 2 ^ (t - j)) part
+    ∙ shr-shr f j (t - j) ∙ ap (λ k. f / 2 ^ k) place in
     ap (λ q. q * 2 ^ t) quotient
 
 -- without its lowest bit that is 1 a number is what `n & (n - 1)` gives
@@ -124,6 +124,17 @@ level-free held entries i cut inside clear = go (level_of held i) (cut.levels i 
     go None free = refl
     go (Some level) (set, last) = absurd (omega (arith, set, clear, ap (λ n. bit_at (n / 64) i) cut.accepted))
 
+-- and is taken where it is 1
+pub level-taken : (held : Held) (entries : List Entry) (i : ℕ) → IsCutOf held entries → bit_at (held.accepted / 64) i ≡ 1 → IsSome (level_of held i)
+level-taken held entries i cut set = go (level_of held i) (cut.levels i inside)
+  where
+    inside : i < length held.levels
+    inside = bit-within (held.accepted / 64) (length held.levels) i (omega (arith, blocks-few held entries cut, ap (λ n. n / 64) cut.accepted)) set
+
+    go : (level : Option (List Entry)) → IsLevelFor entries (length entries / 64) i level → IsSome level
+    go None free = absurd (omega (arith, free, set, ap (λ n. bit_at (n / 64) i) cut.accepted))
+    go (Some level) has = search rules
+
 -- how far a search has come: the last entry of the key is in the blocks of these bits, if any has a value
 pub record IsReached (entries : List Entry) (key rest : ℕ) : Type 0 where
   pub place : (j : ℕ) × (rest ≡ from_bit j (length entries / 64))
@@ -147,8 +158,7 @@ reached-next entries key rest i reached set lowest =
     let from : j ≤ i = elim (cases_lt i j) [
       | inl less ↦ absurd (omega (arith, set, ap (λ n. bit_at n i) is ∙ bit-left_out j f i less))
       | inr le ↦ le
-    ] in
-    (
+    ] in (
       sym (from_bit-twice j i f from) ∙ ap (λ n. from_bit i n) (sym is) ∙ lowest,
       ap (λ n. from_bit (i + 1) n) is ∙ from_bit-twice j (i + 1) f (omega arith),
     )

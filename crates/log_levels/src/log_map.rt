@@ -196,8 +196,21 @@ impl LogMap {
         ensures few { length self.now.levels ≤ 26 }
         ensures free { (i : ℕ) → i < length self.now.levels → bit_at result i ≡ 0 →
             level_of self.now i ≡ None }
+        ensures taken { (i : ℕ) → bit_at result i ≡ 1 → IsSome (level_of self.now i) }
     {
         self.accepted / BLOCK
+    }
+
+    /// A level that is occupied.
+    #[inline(always)]
+    pub(crate) fn occupied_level(&self, i: usize) -> &Level
+        requires { IsSome (level_of self.now i) }
+        ensures { level_of self.now i ≡ Some result.now }
+    {
+        match self.level(i) {
+            Some(level) => level,
+            None => unreachable!(),
+        }
     }
 
     /// A level, if it is occupied.

@@ -77,10 +77,8 @@ impl LogMap {
         let mut rest = self.occupied();
         while rest != 0 {
             let (i, behind) = lowest_and_rest(rest);
-            if let Some(level) = self.level(i) {
-                if let Some(entry) = level.entry(key, hash, bits) {
-                    return entry.value;
-                }
+            if let Some(entry) = self.occupied_level(i).entry(key, hash, bits) {
+                return entry.value;
             }
             rest = behind;
         }

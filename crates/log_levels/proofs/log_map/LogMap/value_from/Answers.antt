@@ -1,4 +1,4 @@
-use Rattle.std.proofs.Common.{◌≡◌, ◌+◌, ◌^◌, ◌<◌, length, subst, sym, ap, ◌∙◌, arith}
+use Rattle.std.proofs.Common.{length, subst, sym, ap, ◌∙◌, arith}
 use Rattle.log_levels.specs.Shapes.{Held, last_at}
 use Rattle.log_levels.specs.Kept.{value_of}
 use Rattle.log_levels.proofs.SearchLemmas.{search-buffer}

@@ -1,29 +1,33 @@
-use Rattle.std.proofs.Common.{◌≡◌, ◌+◌, ap, sym, ◌∙◌, subst}
-use Rattle.tombstones.specs.declared.entry.Entry.{Entry}
+use Rattle.std.proofs.Common.{ap, sym, ◌∙◌, subst}
+use Rattle.std.specs.Int.{bit_at}
 use Rattle.log_levels.specs.Kept.{entry_in}
-use Rattle.log_levels.proofs.OccupiedLemmas.{IsReached, reached-start, reached-found, reached-missed}
+use Rattle.log_levels.proofs.OccupiedLemmas.{IsReached, bit-still, reached-start, reached-found, reached-missed}
 use Rattle.log_levels.proofs.log_map.LogMap.value_in_levels.Goals as goal
 
 pub loop-rest-init : goal.loop-rest-init
-loop-rest-init c = λ entries cut.
-    subst (λ rest. IsReached entries c.args.key rest) (sym c.occupied-rest.ensures.bits) (reached-start c.args.self.now entries c.args.key cut c.requires)
+loop-rest-init c = record {
+  taken = c.occupied-rest.ensures.taken;
+  reached = λ entries cut.
+      subst (λ rest. IsReached entries c.args.key rest) (sym c.occupied-rest.ensures.bits) (reached-start c.args.self.now entries c.args.key cut c.requires);
+}
 
-pub returns-in-Some-entry : goal.returns-in-Some-entry
-returns-in-Some-entry c = λ entries cut.
-    let is = c.lowest_and_rest-i.ensures in
-    reached-found c.args.self.now entries c.args.key c.loop-rest.rest c.lowest_and_rest-i.result.0 c.in-Some-entry.entry.now cut (c.loop-rest.invariant entries cut) is.set is.lowest
-    (c.in-Some-entry.ensures ∙ ap (λ level. entry_in level c.args.key) c.in-Some.ensures)
+pub occupied_level-requires : goal.occupied_level-requires
+occupied_level-requires c = c.loop-rest.invariant.taken c.lowest_and_rest-i.result.0 c.lowest_and_rest-i.ensures.set
 
-pub loop-rest-preserved-in_default-entry : goal.loop-rest-preserved-in_default-entry
-loop-rest-preserved-in_default-entry c = λ entries cut.
+pub returns-in-Some : goal.returns-in-Some
+returns-in-Some c = λ entries cut.
     let is = c.lowest_and_rest-i.ensures in
-    subst (λ rest. IsReached entries c.args.key rest) (sym is.rest)
-    (reached-missed c.args.self.now entries c.args.key c.loop-rest.rest c.lowest_and_rest-i.result.0 cut (c.loop-rest.invariant entries cut) is.set is.lowest
-    (c.in_default-entry.ensures ∙ ap (λ level. entry_in level c.args.key) c.in-Some.ensures))
+    reached-found c.args.self.now entries c.args.key c.loop-rest.rest c.lowest_and_rest-i.result.0 c.in-Some.entry.now cut (c.loop-rest.invariant.reached entries cut) is.set is.lowest
+    (c.in-Some.ensures ∙ ap (λ level. entry_in level c.args.key) (sym c.occupied_level.ensures))
 
 pub loop-rest-preserved : goal.loop-rest-preserved
-loop-rest-preserved c = λ entries cut.
+loop-rest-preserved c =
     let is = c.lowest_and_rest-i.ensures in
-    subst (λ rest. IsReached entries c.args.key rest) (sym is.rest)
-    (reached-missed c.args.self.now entries c.args.key c.loop-rest.rest c.lowest_and_rest-i.result.0 cut (c.loop-rest.invariant entries cut) is.set is.lowest
-    (ap (λ level. entry_in level c.args.key) c.in_default.ensures))
+    record {
+      taken = λ i set.
+          let (above, still) = bit-still c.loop-rest.rest c.lowest_and_rest-i.result.0 i (ap (λ n. bit_at n i) (sym is.rest) ∙ set) in
+          c.loop-rest.invariant.taken i still;
+      reached = λ entries cut. subst (λ rest. IsReached entries c.args.key rest) (sym is.rest)
+          (reached-missed c.args.self.now entries c.args.key c.loop-rest.rest c.lowest_and_rest-i.result.0 cut (c.loop-rest.invariant.reached entries cut) is.set is.lowest
+          (c.in_default.ensures ∙ ap (λ level. entry_in level c.args.key) (sym c.occupied_level.ensures)));
+    }
