@@ -25,25 +25,39 @@ impl LogMap {
         ensures { ArePlaces self.now result key }
     {
         let mut places = [0; 26];
+        self.put_groups(&mut places, key);
         self.put_starts(&mut places, key);
-        for i in 0..self.depth() {
+        let mut rest = self.occupied();
+        while rest != 0 {
+            let (i, behind) = lowest_and_rest(rest);
             if let Some(level) = self.level(i) {
                 places[i] = level.place_by(places[i], key);
             }
+            rest = behind;
         }
         places
     }
 
-    /// Puts the first of eight places among which a key is in each level. It tells nothing.
+    /// Puts the first of the groups among which a key is in each level with fences. It tells nothing.
+    #[inline(always)]
+    fn put_groups(&self, groups: &mut Places, key: u64) {
+        let mut rest = self.occupied();
+        while rest != 0 {
+            let (i, behind) = lowest_and_rest(rest);
+            groups[i] = self.first_group(i, key);
+            rest = behind;
+        }
+    }
+
+    /// Puts the first of eight places among which a key is in each level in place of its group. It
+    /// tells nothing.
     #[inline(always)]
     fn put_starts(&self, starts: &mut Places, key: u64) {
-        let _ = &self.accepted;
-        let depth = self.depth();
-        for i in 0..depth {
-            starts[i] = self.first_group(i, key);
-        }
-        for i in 0..depth {
+        let mut rest = self.occupied();
+        while rest != 0 {
+            let (i, behind) = lowest_and_rest(rest);
             starts[i] = self.start_from(i, starts[i], key);
+            rest = behind;
         }
     }
 

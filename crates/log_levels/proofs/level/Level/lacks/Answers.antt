@@ -1,5 +1,5 @@
 -- Between two neighbours in the list there is none.
-use Rattle.std.proofs.Common.{◌<◌, arith}
+use Rattle.std.proofs.Common.{arith}
 use Rattle.std.proofs.lemmas.Bool.{ltb-true}
 use Rattle.log_levels.proofs.LevelLemmas.{missing-beside}
 use Rattle.log_levels.proofs.level.Level.lacks.Goals as goal
