@@ -187,6 +187,3 @@ reached-missed held entries key rest i cut reached set lowest missed =
       place = (i + 1, behind);
       value = reached.value ∙ ap value_in (sym same) ∙ search-in-missed entries f i key (level_of held i) has missed ∙ ap value_in (sym behind);
     }
-
-pub reached-end : (entries : List Entry) (key rest : ℕ) → IsReached entries key rest → rest ≡ 0 → None ≡ value_of (last_at entries key)
-reached-end entries key rest reached end = sym (reached.value ∙ ap (λ k. value_of (last_at (take (64 * k) entries) key)) end)

@@ -207,7 +207,7 @@ impl LogMap {
         requires { IsSome (level_of self.now i) }
         ensures { level_of self.now i ≡ Some result.now }
     {
-        match self.level(i) {
+        match &self.stored[i] {
             Some(level) => level,
             None => unreachable!(),
         }

@@ -138,9 +138,7 @@ impl LogMap {
         let mut rest = self.occupied();
         while rest != 0 {
             let (i, behind) = lowest_and_rest(rest);
-            if let Some(level) = self.level(i) {
-                places[i] = level.place_past(places[i], key);
-            }
+            places[i] = self.occupied_level(i).place_past(places[i], key);
             rest = behind;
         }
     }
