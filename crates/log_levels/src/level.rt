@@ -229,6 +229,16 @@ impl Level {
         if !self.may_have(key, hash, bits) {
             return None;
         }
+        self.entry_with(key)
+    }
+
+    /// The entry with a key, which the filter doesn't deny, if there is one.
+    ///
+    /// Not inlined: so the loop over the filters of all levels keeps what it needs in registers.
+    #[inline(never)]
+    fn entry_with(&self, key: u64) -> Option<&Entry>
+        ensures { option_copied result ≡ entry_at self.now key }
+    {
         let place = self.place_in(self.start_from(self.first_group(key), key), key);
         if let Some(entry) = self.entry_at(place, key) {
             return Some(entry);
