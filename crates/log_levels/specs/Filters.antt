@@ -10,9 +10,9 @@ hash_of key = bit_xor (key * 11400714819323198485 % 2 ^ 64) (key * 1140071481932
 unfoldable pub slot_of : ℕ → ℕ → ℕ
 slot_of hash count = hash / 2 ^ 32 * count / 2 ^ 32
 
--- the bits of a hash, three or fewer, by its low half
+-- the bits of a hash, four or fewer, by its low half
 unfoldable pub bits_of : ℕ → ℕ
-bits_of hash = bit_or (bit_or (2 ^ (hash % 64)) (2 ^ (hash / 64 % 64))) (2 ^ (hash / 4096 % 64))
+bits_of hash = bit_or (bit_or (2 ^ (hash % 64)) (2 ^ (hash / 64 % 64))) (bit_or (2 ^ (hash / 4096 % 64)) (2 ^ (hash / 262144 % 64)))
 
 -- the bits of the hash are set
 abbrev pub Passes : List ℕ → ℕ → Type 0

@@ -19,8 +19,8 @@ const WORDS: u128 = 1 << 64;
 
 /// A filter of keys: a few bits of one word for each key, set. Seen as the words.
 ///
-/// It denies no key that it was made of. Of others some eight in a thousand pass, where the keys
-/// are scattered: there is a word of 64 bits for each four keys, and each key sets three. A question
+/// It denies no key that it was made of. Of others some five in a thousand pass, where the keys are
+/// scattered: there is a word of 64 bits for each four keys, and each key sets four. A question
 /// looks at one word.
 ///
 /// Sources: Bloom, CACM 13(7), 1970; Putze, Sanders and Singler, Cache-, hash- and space-efficient
@@ -110,5 +110,6 @@ fn slot(hash: u64, count: usize) -> usize
 pub fn bits(hash: u64) -> u64
     ensures { result ≡ bits_of hash }
 {
-    1 << (hash % 64) | 1 << (hash / 64 % 64) | 1 << (hash / 4096 % 64)
+    let low = 1 << (hash % 64) | 1 << (hash / 64 % 64);
+    low | (1 << (hash / 4096 % 64) | 1 << (hash / 262_144 % 64))
 }

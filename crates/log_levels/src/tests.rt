@@ -65,7 +65,7 @@ fn few_pass_a_filter_falsely(rt: HostRuntime) -> Result<(), Fail> {
             passed = passed.wrapping_add(1);
         }
     }
-    assert_eq!(rt; passed, 19);
+    assert_eq!(rt; passed, 23);
     Ok(())
 }
 
@@ -136,7 +136,7 @@ fn squares(alloc: Global, count: u64) -> Result<Vec<Entry>, NoMemory> {
     Ok(entries)
 }
 
-// The even numbers stand in one level, where 19 odd ones pass its filter, and deletions of every
+// The even numbers stand in one level, where 23 odd ones pass its filter, and deletions of every
 // 64th of them in another above.
 #[test]
 fn keys_that_are_denied_or_deleted(rt: HostRuntime) -> Result<(), Fail> {
