@@ -148,13 +148,13 @@ impl Level {
         self.filter.passes(hash, bits)
     }
 
-    /// The first of the groups among which a key is, by the index, where there are fences. It tells
-    /// nothing.
+    /// The first of the groups among which a key is, by the index, where there are so many fences
+    /// that not all are looked at. It tells nothing.
     #[inline(always)]
     pub fn first_group(&self, key: u64) -> usize {
         match &self.guide {
-            Guide::Grid(_) => 0,
-            Guide::Fences(_) => self.group_near(key),
+            Guide::Fences(fences) if fences.len() > FENCES => self.group_near(key),
+            _ => 0,
         }
     }
 
