@@ -1,5 +1,5 @@
 // What leads to a key in a level.
-ghost use Rattle.std.specs.Prelude.{◌<◌, ◌^◌, length};
+ghost use Rattle.std.specs.Prelude.{◌<◌, ◌≤◌, ◌^◌, length};
 
 use budget::NoMemory;
 use std::alloc::Global;
@@ -74,8 +74,12 @@ impl Grid {
         if len < EACH {
             return Ok(None);
         }
-        let scale = Scale::of(keys[0], keys[len - 1], len / EACH);
-        let mut counts = vec![in alloc; 0; len / EACH + 2]?;
+        let steps = len / EACH;
+        let scale = Scale::of(keys[0], keys[len - 1], steps);
+        if !are_spread(keys, &scale, steps) {
+            return Ok(None);
+        }
+        let mut counts = vec![in alloc; 0; steps + 2]?;
         count(&mut counts, keys, &scale);
         if add_up(&mut counts) > len as u64 / 8 {
             return Ok(None);
@@ -117,6 +121,20 @@ impl Scale {
         let product = u128::from(distance) * u128::from(self.factor);
         ((product / WORDS) as usize, (product % WORDS) as u64 >> 56)
     }
+}
+
+/// Whether a quarter, a half and three quarters of the keys are in about as much of the steps. Most
+/// lists of uneven keys are told so without a pass over them.
+fn are_spread(keys: &[u64], scale: &Scale, steps: usize) -> bool
+    requires { 4 ≤ length keys.now }
+{
+    for quarter in 1..4 {
+        let (step, _) = scale.step(keys[keys.len() / 4 * quarter]);
+        if step.abs_diff(steps / 4 * quarter) > steps / 8 + 2 {
+            return false;
+        }
+    }
+    true
 }
 
 /// Counts each fourth key at the end of its step, with all before it. The last count of a step stays.
