@@ -185,9 +185,10 @@ impl Level {
             return entries.len();
         }
         let first = start.min(entries.len() - LOOK);
-        let mut place = first;
+        // Those that aren't below are taken off: of a sum of the others the compiler makes more.
+        let mut place = first + LOOK;
         for entry in &entries[first..first + LOOK] {
-            place = place.wrapping_add(usize::from(entry.key < key));
+            place = place.wrapping_sub(usize::from(entry.key >= key));
         }
         place
     }
