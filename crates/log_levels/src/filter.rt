@@ -42,8 +42,8 @@ impl Model for Filter {
 }
 
 impl Filter {
-    /// Whether a key with this hash, of which these are the bits, may be among those that the filter
-    /// was made of.
+    /// Whether a key with this hash, of which these are the bits, may be among those that the
+    /// filter was made of.
     #[inline(always)]
     pub fn passes(&self, hash: u64, bits: u64) -> bool
         requires { bits ≡ bits_of hash }

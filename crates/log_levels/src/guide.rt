@@ -13,7 +13,7 @@ const WORDS: u128 = 1 << 64;
 /// So many keys a step has in the mean.
 const EACH: usize = 8;
 
-/// Of so many keys the last one is counted, and the count so is up to as many too low.
+/// Of so many keys the last one is counted, so that a count is up to three too low.
 const COUNTED: usize = 4;
 
 /// How far before the place that is told for a key the look for it begins: half of its places, less
@@ -34,8 +34,8 @@ struct Scale {
 
 /// How many of a level's keys, nearly, are below each of even steps of their range.
 ///
-/// Where keys are even a key's place is told by the counts of two neighbouring steps, and by how far
-/// between them the key is (Kipf et al., RadixSpline, aiDM 2020, of a table of that kind).
+/// Where keys are even a key's place is told by the counts of two neighbouring steps, and by how
+/// far between them the key is. Source of such tables: Kipf et al., RadixSpline, aiDM 2020.
 #[derive(Drop)]
 pub struct Grid {
     scale: Scale,
@@ -137,7 +137,8 @@ fn are_spread(keys: &[u64], scale: &Scale, steps: usize) -> bool
     true
 }
 
-/// Counts each fourth key at the end of its step, with all before it. The last count of a step stays.
+/// Counts each fourth key at the end of its step, with all before it. The last count of a step
+/// stays.
 fn count(counts: &mut Vec<u32>, keys: &[u64], scale: &Scale)
     requires { length keys.now < 2 ^ 32 }
 {

@@ -34,12 +34,13 @@ const SHORT: usize = 4096;
 /// leaves `2ε + 3` places.
 const FENCES: usize = 17;
 
-/// The entries of a level, by rising key, with the index of their keys, a guide to them and a filter
-/// of them. Seen as the entries. It is never changed.
+/// The entries of a level, by rising key, with the index of their keys, a guide to them and a
+/// filter of them. Seen as the entries. It is never changed.
 ///
-/// What a guide reads lies close together and in a near cache, and the eight places that it leads to
-/// lie in few lines: so a search reads far memory once, where one among keys does at each halving,
-/// and then for the entry. No clause says of a guide where anything is; what is found is looked at.
+/// What a guide reads lies close together and in a near cache, and the eight places that it leads
+/// to lie in few lines: so a search reads far memory once, where one among keys does at each
+/// halving, and then for the entry. No clause says of a guide where anything is; what is found is
+/// looked at.
 #[derive(Drop)]
 pub struct Level {
     entries: Vec<Entry>,

@@ -96,8 +96,8 @@ impl LogMap {
         }
     }
 
-    /// The first of eight places among which a key is in a level, from the first of its groups on. It
-    /// tells nothing.
+    /// The first of eight places among which a key is in a level, from the first of its groups on.
+    /// It tells nothing.
     #[inline(always)]
     pub(crate) fn start_from(&self, i: usize, first: usize, key: u64) -> usize {
         match self.level(i) {
@@ -106,8 +106,8 @@ impl LogMap {
         }
     }
 
-    /// The value at a key, by the level that has it, if one has, and the first of eight places there,
-    /// both of which are looked at: else it is searched for once more.
+    /// The value at a key, by the level that has it, if one has, and the first of eight places
+    /// there, both of which are looked at: else it is searched for once more.
     #[inline(always)]
     fn value_by(&self, i: usize, start: usize, key: u64) -> Option<u64>
         requires { HasReached self.now key i }

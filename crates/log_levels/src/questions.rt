@@ -16,8 +16,9 @@ use tombstones::Entry;
 impl LogMap {
     /// The value at a key, if the map has the key.
     ///
-    /// The buffer is gone through from its end, and then the levels are searched by their indexes,
-    /// the newest first, up to the first entry with the key. Takes no memory.
+    /// The buffer is gone through from its end, and then the levels are searched, the newest first,
+    /// up to the first entry with the key: each whose filter doesn't deny the key, by a grid where
+    /// its keys are even, and else by its index. Takes no memory.
     pub fn get(&self, key: u64) -> Option<u64>
         ensures { (updates : List Update) → StandsFor self.now updates →
             result ≡ value_at (map_after updates) key }
@@ -30,9 +31,9 @@ impl LogMap {
 
     /// The least key from `q` on that the map has, with its value, if there is one.
     ///
-    /// Each level is searched once by its index, and from there on gone along key by key, past keys
-    /// that were deleted: at worst past each key from `q` on that the levels and the buffer have,
-    /// and at each the levels and the buffer are looked at once. Takes no memory.
+    /// Each level is searched once, by its grid or its index, and from there on gone along key by
+    /// key, past keys that were deleted: at worst past each key from `q` on that the levels and the
+    /// buffer have, and at each the levels and the buffer are looked at once. Takes no memory.
     pub fn next(&self, q: u64) -> Option<(u64, u64)>
         ensures { (updates : List Update) → StandsFor self.now updates →
             result ≡ next_from (map_after updates) q }
@@ -44,9 +45,9 @@ impl LogMap {
     /// How many keys from `low` to `high` the map has, both included; none where `low` is above
     /// `high`.
     ///
-    /// Each level is searched once by its index, and from there on gone along key by key, past keys
-    /// that were deleted: at each key in the range that the levels and the buffer have, and at one
-    /// past it, the levels and the buffer are looked at once. Takes no memory.
+    /// Each level is searched once, by its grid or its index, and from there on gone along key by
+    /// key, past keys that were deleted: at each key in the range that the levels and the buffer
+    /// have, and at one past it, the levels and the buffer are looked at once. Takes no memory.
     pub fn count(&self, low: u64, high: u64) -> u64
         ensures { (updates : List Update) → StandsFor self.now updates →
             result ≡ count_between (map_after updates) low high }

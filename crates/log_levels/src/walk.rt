@@ -38,7 +38,8 @@ impl LogMap {
         places
     }
 
-    /// Puts the first of the groups among which a key is in each level with fences. It tells nothing.
+    /// Puts the first of the groups among which a key is in each level with fences. It tells
+    /// nothing.
     #[inline(always)]
     fn put_groups(&self, groups: &mut Places, key: u64) {
         let mut rest = self.occupied();
