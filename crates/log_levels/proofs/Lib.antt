@@ -6,6 +6,7 @@ pub mod PutLemmas
 pub mod ResultLemmas
 pub mod LevelLemmas
 pub mod FilterLemmas
+pub mod MarkLemmas
 pub mod HalvingLemmas
 pub mod GrowthLemmas
 pub mod LengthLemmas

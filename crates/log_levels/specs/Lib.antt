@@ -6,4 +6,5 @@ pub use Rattle.levels.specs.Indexes
 pub mod Kept
 pub mod Builders
 pub mod Filters
+pub mod Marks
 pub mod Words

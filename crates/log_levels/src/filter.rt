@@ -15,7 +15,7 @@ use tombstones::Entry;
 const FACTOR: u64 = 0x9E37_79B9_7F4A_7C15;
 
 /// One more than the greatest word.
-const WORDS: u128 = 1 << 64;
+pub const WORDS: u128 = 1 << 64;
 
 /// A filter of keys: a few bits of one word for each key, set. Seen as the words.
 ///

@@ -1,14 +1,12 @@
 // What leads to a key in a level.
 ghost use Rattle.std.specs.Prelude.{◌<◌, ◌≤◌, ◌^◌, length};
 
+use crate::filter::WORDS;
 use budget::NoMemory;
 use std::alloc::Global;
 
 /// A key is looked for among so many places at once.
 pub const LOOK: usize = 8;
-
-/// One more than the greatest word.
-const WORDS: u128 = 1 << 64;
 
 /// So many keys a step has in the mean.
 const EACH: usize = 8;
@@ -25,11 +23,11 @@ const CROWDED: u32 = 16;
 
 /// How keys from the least one on are cut into steps, all of one length.
 #[derive(Clone, Copy)]
-struct Scale {
-    least: u64,
+pub struct Scale {
+    pub least: u64,
     range: u64,
     /// Steps by a key's distance from the least one, in `2^-64` of a step.
-    factor: u64,
+    pub factor: u64,
 }
 
 /// How many of a level's keys, nearly, are below each of even steps of their range.
@@ -104,7 +102,7 @@ impl Grid {
 
 impl Scale {
     /// The scale of so many steps over the keys from one to another.
-    fn of(least: u64, greatest: u64, steps: usize) -> Scale {
+    pub fn of(least: u64, greatest: u64, steps: usize) -> Scale {
         let range = greatest.wrapping_sub(least);
         let factor = steps as u128 * WORDS / (u128::from(range) + 1);
         Scale {
@@ -125,7 +123,7 @@ impl Scale {
 
 /// Whether a quarter, a half and three quarters of the keys are in about as much of the steps. Most
 /// lists of uneven keys are told so without a pass over them.
-fn are_spread(keys: &[u64], scale: &Scale, steps: usize) -> bool
+pub fn are_spread(keys: &[u64], scale: &Scale, steps: usize) -> bool
     requires { 4 ≤ length keys.now }
 {
     for quarter in 1..4 {

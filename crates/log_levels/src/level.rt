@@ -15,6 +15,7 @@ use crate::builder::Builder;
 use crate::filter::{Filter, keys_with_filter};
 use crate::guide::{Guide, LOOK};
 use crate::halving::lower_of;
+use crate::marks::{Look, Rows};
 use budget::NoMemory;
 use levels::Index;
 use std::alloc::Global;
@@ -47,6 +48,7 @@ pub struct Level {
     index: Index,
     filter: Filter,
     guide: Guide,
+    rows: Option<Rows>,
 }
 
 impl Model for Level {
@@ -59,19 +61,23 @@ impl Model for Level {
 
     ghost view = { λ level. level.entries.items };
 
+    ghost use Rattle.std.specs.Prelude.{IfSome};
     ghost use Rattle.log_levels.specs.Filters.{ArePassed};
+    ghost use Rattle.log_levels.specs.Marks.{AreMarked};
     ghost use Rattle.log_levels.specs.Shapes.{level_keys};
 
     ghost invariant = { λ level. IsIndexed level.entries.items level.index ×
-        ArePassed level.filter (level_keys level.entries.items) };
+        ArePassed level.filter (level_keys level.entries.items) ×
+        IfSome level.rows (λ rows. AreMarked rows (level_keys level.entries.items)) };
 }
 
 impl Level {
-    /// A level of entries.
+    /// A level of entries, with marks where it is deep.
     pub fn of<B: Builder>(
         builder: &B,
         alloc: Global,
         entries: Vec<Entry>,
+        is_deep: bool,
     ) -> Result<Level, NoMemory>
         requires ready { B.ready builder.now }
         requires ascending { IsAscending entries.items }
@@ -82,11 +88,17 @@ impl Level {
         let index = builder.index(keys)?;
         // The keys are in a nearer cache than the entries.
         let guide = Guide::of(alloc, index.keys().file())?;
+        let rows = if is_deep {
+            Rows::of(alloc, index.keys().file())?
+        } else {
+            None
+        };
         Ok(Level {
             entries,
             index,
             filter,
             guide,
+            rows,
         })
     }
 
@@ -219,6 +231,37 @@ impl Level {
             return false;
         }
         entries[place - 1].key < key && key < entries[place].key
+    }
+
+    /// Looks for a key, of which this is the hash with its bits: by its mark, where there are marks.
+    #[inline(always)]
+    pub fn look(&self, key: u64, hash: u64, bits: u64) -> Look
+        requires hash { hash ≡ hash_of key }
+        requires bits { bits ≡ bits_of hash }
+        ensures { OnFalse result.may (entry_at self.now key ≡ None) }
+    {
+        match &self.rows {
+            Some(rows) => rows.look(key, hash),
+            None => Look {
+                may: self.may_have(key, hash, bits),
+                place: usize::MAX,
+            },
+        }
+    }
+
+    /// The entry with a key, by what a look told, if there is one.
+    #[inline(always)]
+    pub fn entry_by(&self, look: Look, key: u64) -> Option<&Entry>
+        requires { OnFalse look.may (entry_at self.now key ≡ None) }
+        ensures { option_copied result ≡ entry_at self.now key }
+    {
+        if !look.may {
+            return None;
+        }
+        if let Some(entry) = self.entry_at(look.place, key) {
+            return Some(entry);
+        }
+        self.entry_with(key)
     }
 
     /// The entry with a key, of which this is the hash with its bits, if there is one.

@@ -23,6 +23,7 @@ mod latest;
 mod level;
 mod log_map;
 mod many;
+mod marks;
 mod questions;
 mod update;
 mod updates;

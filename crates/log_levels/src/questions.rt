@@ -1,16 +1,19 @@
 // Questions to a map.
 ghost use Rattle.std.specs.Prelude.{◌≡◌, ◌+◌, ◌*◌, ◌/◌, ◌<◌, ◌≤◌};
 ghost use Rattle.std.specs.Prelude.{◌==◌, ℕ, List, length, reverse};
-ghost use Rattle.std.specs.Prelude.{Option, Some, None, drop, find};
+ghost use Rattle.std.specs.Prelude.{Option, Some, None, IsSome, true, drop, find};
+ghost use Rattle.std.specs.Bool.{OnFalse};
 ghost use Rattle.std.specs.Option.{option_copied};
 ghost use Rattle.tombstones.specs.declared.entry.Entry.{Entry};
 ghost use Rattle.log_levels.specs.declared.update.Update.{Update};
 ghost use Rattle.log_levels.specs.Maps.{map_after, value_at, next_from, count_between};
-ghost use Rattle.log_levels.specs.Shapes.{IsCutOf, StandsFor, last_at};
-ghost use Rattle.log_levels.specs.Kept.{value_of};
+ghost use Rattle.log_levels.specs.Filters.{hash_of, bits_of};
+ghost use Rattle.log_levels.specs.Shapes.{IsCutOf, StandsFor, last_at, level_of};
+ghost use Rattle.log_levels.specs.Kept.{entry_in, value_of};
 
 use crate::filter::{bits, hash};
 use crate::log_map::{LogMap, lowest_and_rest};
+use crate::marks::Look;
 use tombstones::Entry;
 
 impl LogMap {
@@ -68,6 +71,9 @@ impl LogMap {
     }
 
     /// The same, where the buffer has no entry with the key.
+    ///
+    /// The two deepest levels, which have most keys, are looked at first, so that their memory is on
+    /// its way while the newer ones are asked.
     pub(crate) fn value_in_levels(&self, key: u64) -> Option<u64>
         requires { last_at self.now.buffer key ≡ None }
         ensures { (entries : List Entry) → IsCutOf self.now entries →
@@ -76,14 +82,87 @@ impl LogMap {
         let hash = hash(key);
         let bits = bits(hash);
         let mut rest = self.occupied();
-        while rest != 0 {
+        let last = self.look_at_deepest(rest, key, hash, bits);
+        let above = rest ^ last.bit;
+        let before = self.look_at_deepest(above, key, hash, bits);
+        let deep = last.bit | before.bit;
+        while rest > deep {
             let (i, behind) = lowest_and_rest(rest);
             if let Some(entry) = self.occupied_level(i).entry(key, hash, bits) {
                 return entry.value;
             }
             rest = behind;
         }
+        while rest != 0 {
+            let (i, behind) = lowest_and_rest(rest);
+            let seen = if behind == 0 { last } else { before };
+            if let Some(entry) = self.entry_seen(i, seen, key, hash, bits) {
+                return entry.value;
+            }
+            rest = behind;
+        }
         None
+    }
+
+    /// Looks for a key, of which this is the hash with its bits, in the deepest of some levels.
+    #[inline(always)]
+    fn look_at_deepest(&self, levels: u64, key: u64, hash: u64, bits: u64) -> Seen
+        requires hash { hash ≡ hash_of key }
+        requires bits { bits ≡ bits_of hash }
+        ensures { OnFalse result.look.may (entry_in (level_of self.now result.level) key ≡ None) }
+    {
+        if levels == 0 {
+            return Seen::nothing();
+        }
+        let i = 63 - levels.leading_zeros();
+        let level = i as usize;
+        match self.level(level) {
+            Some(found) => Seen {
+                level,
+                bit: 1 << i,
+                look: found.look(key, hash, bits),
+            },
+            None => Seen::nothing(),
+        }
+    }
+
+    /// The entry with a key, of which this is the hash with its bits, in a level, by what a look
+    /// told if it was at this one.
+    #[inline(always)]
+    fn entry_seen(&self, i: usize, seen: Seen, key: u64, hash: u64, bits: u64) -> Option<&Entry>
+        requires taken { IsSome (level_of self.now i) }
+        requires seen { OnFalse seen.look.may (entry_in (level_of self.now seen.level) key ≡ None) }
+        requires hash { hash ≡ hash_of key }
+        requires bits { bits ≡ bits_of hash }
+        ensures { option_copied result ≡ entry_in (level_of self.now i) key }
+    {
+        let level = self.occupied_level(i);
+        if seen.level != i {
+            return level.entry(key, hash, bits);
+        }
+        level.entry_by(seen.look, key)
+    }
+}
+
+/// What a look at a level told, and which level it was, also as a bit.
+#[derive(Clone, Copy)]
+struct Seen {
+    level: usize,
+    bit: u64,
+    look: Look,
+}
+
+impl Seen {
+    /// No level was looked at.
+    #[inline(always)]
+    fn nothing() -> Seen
+        ensures { result.look.may ≡ true }
+    {
+        Seen {
+            level: usize::MAX,
+            bit: 0,
+            look: Look { may: true, place: 0 },
+        }
     }
 }
 

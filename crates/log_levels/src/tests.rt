@@ -83,7 +83,7 @@ fn fences_lead_to_each_key(rt: HostRuntime) -> Result<(), Fail> {
         assert!(rt; is_ascending(&entries));
         assert!(rt; entries.len() < 100_000);
         let here = Here { alloc: rt.alloc() };
-        let level = Level::of(&here, rt.alloc(), entries)?;
+        let level = Level::of(&here, rt.alloc(), entries, false)?;
         for root in 0..count / 8 * 8 {
             let key = root.wrapping_mul(root);
             let start = level.start_from(level.first_group(key), key);
@@ -109,7 +109,7 @@ fn a_grid_leads_to_each_key(rt: HostRuntime) -> Result<(), Fail> {
         assert!(rt; is_ascending(&entries));
         assert!(rt; entries.len() < 100_000);
         let here = Here { alloc: rt.alloc() };
-        let level = Level::of(&here, rt.alloc(), entries)?;
+        let level = Level::of(&here, rt.alloc(), entries, false)?;
         for i in 0..count {
             let start = level.start_from(level.first_group(even_key(i)), even_key(i));
             let entry = level.entry_at(level.place_in(start, even_key(i)), even_key(i));

@@ -53,7 +53,7 @@ fn watch<M: MapName + Send + Sync, R: Wait + Sync, G: Gate>(
             length: look.seen(),
             answer: look.answer(questions[turn]),
         };
-        push_within_capacity(&mut sightings, sighting);
+        sightings.push_reserved(sighting);
         reader = look.leave();
     }
     Watched {
@@ -76,18 +76,6 @@ pub fn look_until<R: Wait>(rt: &R, reader: Reader, door: &mut PlainDoor) -> Look
         }
     }
     unreachable!()
-}
-
-/// Appends a sighting where there is room for it, so that no memory is asked for.
-fn push_within_capacity(sightings: &mut Vec<Sighting>, sighting: Sighting)
-    requires { vec_len sightings.old < vec_capacity sightings.old }
-    ensures items { sightings.new.items ≡ sightings.old.items ++ sighting ∷ [] }
-    ensures len { vec_len sightings.new ≡ vec_len sightings.old + 1 }
-    ensures capacity { vec_capacity sightings.old ≤ vec_capacity sightings.new }
-{
-    if sightings.push(sighting).is_err() {
-        unreachable!()
-    }
 }
 
 /// Starts a reader in a thread of the scope, or lets it go through its questions here.

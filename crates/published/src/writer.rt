@@ -138,19 +138,7 @@ fn seat_all<R: Wait>(
 {
     for _reader in 0..readers {
         let place = seated(rt, copies);
-        push_within_capacity(seats, Reader::at(place, front.again()));
-    }
-}
-
-/// Appends a reader where there is room for one, so that no memory is asked for.
-fn push_within_capacity(seats: &mut Vec<Reader>, reader: Reader)
-    requires { vec_len seats.old < vec_capacity seats.old }
-    ensures items { seats.new.items ≡ seats.old.items ++ reader ∷ [] }
-    ensures len { vec_len seats.new ≡ vec_len seats.old + 1 }
-    ensures capacity { vec_capacity seats.old ≤ vec_capacity seats.new }
-{
-    if seats.push(reader).is_err() {
-        unreachable!()
+        seats.push_reserved(Reader::at(place, front.again()));
     }
 }
 

@@ -29,9 +29,9 @@ loop-turn-preserved g c =
     begins c.seen.ensures (c.answer.ensures (map_after (updates_of look.batches)) refl) c.loop-turn.invariant.asked in
     record {
       own = ap (λ (r : Front). r.origin) c.leave-reader.ensures ∙ (c.look_until-look.ensures.own ∙ known.1);
-      count = omega (arith, c.push_within_capacity.ensures.len, c.loop-turn.invariant.count);
-      room = omega (arith, c.push_within_capacity.ensures.capacity, c.loop-turn.invariant.room);
-      asked = subst (λ (r : Front). WasAsked r.batches (take (turn + 1) questions) c.push_within_capacity.new.sightings.items) (sym c.leave-reader.ensures)
-          (subst (λ (s : List Sighting). WasAsked look.batches (take (turn + 1) questions) s) (sym c.push_within_capacity.ensures.items)
+      count = omega (arith, c.push_reserved.ensures.len, c.loop-turn.invariant.count);
+      room = omega (arith, c.push_reserved.ensures.capacity, c.loop-turn.invariant.room);
+      asked = subst (λ (r : Front). WasAsked r.batches (take (turn + 1) questions) c.push_reserved.new.self.items) (sym c.leave-reader.ensures)
+          (subst (λ (s : List Sighting). WasAsked look.batches (take (turn + 1) questions) s) (sym c.push_reserved.ensures.items)
           (subst (λ (q : List Question). WasAsked look.batches q (c.loop-turn.sightings.items ++ sighting ∷ [])) (sym (take_more questions turn (Get 0) (omega arith))) asked));
     }

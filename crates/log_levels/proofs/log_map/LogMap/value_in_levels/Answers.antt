@@ -31,3 +31,21 @@ loop-rest-preserved c =
           (reached-missed c.args.self.now entries c.args.key c.loop-rest.rest c.lowest_and_rest-i.result.0 cut (c.loop-rest.invariant.reached entries cut) is.set is.lowest
           (c.in_default.ensures ∙ ap (λ level. entry_in level c.args.key) (sym c.occupied_level.ensures)));
     }
+
+pub returns-in-Some-entry_seen : goal.returns-in-Some-entry_seen
+returns-in-Some-entry_seen c = λ entries cut.
+    let is = c.lowest_and_rest-i-in-loop-rest-2.ensures in
+    reached-found c.args.self.now entries c.args.key c.loop-rest-2.rest c.lowest_and_rest-i-in-loop-rest-2.result.0 c.in-Some-entry_seen.entry.now cut (c.loop-rest-2.invariant.reached entries cut) is.set is.lowest
+    c.in-Some-entry_seen.ensures
+
+pub loop-rest-2-preserved : goal.loop-rest-2-preserved
+loop-rest-2-preserved c =
+    let is = c.lowest_and_rest-i-in-loop-rest-2.ensures in
+    record {
+      taken = λ i set.
+          let (above, still) = bit-still c.loop-rest-2.rest c.lowest_and_rest-i-in-loop-rest-2.result.0 i (ap (λ n. bit_at n i) (sym is.rest) ∙ set) in
+          c.loop-rest-2.invariant.taken i still;
+      reached = λ entries cut. subst (λ rest. IsReached entries c.args.key rest) (sym is.rest)
+          (reached-missed c.args.self.now entries c.args.key c.loop-rest-2.rest c.lowest_and_rest-i-in-loop-rest-2.result.0 cut (c.loop-rest-2.invariant.reached entries cut) is.set is.lowest
+          c.in_default-entry_seen.ensures);
+    }
