@@ -8,6 +8,7 @@ ghost use Rattle.levels.specs.Indexes.{IsIndex};
 ghost use Rattle.tombstones.specs.Entries.{IsAscending, entry_at};
 ghost use Rattle.log_levels.specs.Kept.{IsBelow};
 ghost use Rattle.log_levels.specs.Filters.{hash_of, bits_of};
+ghost use Rattle.log_levels.specs.Marks.{mark_of, lanes_of};
 ghost use Rattle.window_search.specs.Searches.{lb};
 ghost use Rattle.log_levels.specs.Shapes.{level_keys};
 
@@ -20,6 +21,7 @@ use budget::NoMemory;
 use levels::Index;
 use std::alloc::Global;
 use std::marker::Model;
+use std::simd::prelude::*;
 use tombstones::Entry;
 
 /// The error bounds of a level's index: of its level 0 and of the levels above.
@@ -233,32 +235,31 @@ impl Level {
         entries[place - 1].key < key && key < entries[place].key
     }
 
-    /// Looks for a key, of which this is the hash with its bits: by its mark, where there are marks.
+    /// Looks for a key by what is sought for its mark, if the level has marks.
     #[inline(always)]
-    pub fn look(&self, key: u64, hash: u64, bits: u64) -> Look
-        requires hash { hash ≡ hash_of key }
-        requires bits { bits ≡ bits_of hash }
-        ensures { OnFalse result.may (entry_at self.now key ≡ None) }
+    pub fn look(&self, key: u64, sought: u8x16) -> Option<Look>
+        requires { sought ≡ lanes_of (mark_of (hash_of key)) }
+        ensures { IfSome result (λ look. look.places ≡ 0 → entry_at self.now key ≡ None) }
     {
         match &self.rows {
-            Some(rows) => rows.look(key, hash),
-            None => Look {
-                may: self.may_have(key, hash, bits),
-                place: usize::MAX,
-            },
+            Some(rows) => Some(rows.look(key, sought)),
+            None => None,
         }
     }
 
     /// The entry with a key, by what a look told, if there is one.
     #[inline(always)]
     pub fn entry_by(&self, look: Look, key: u64) -> Option<&Entry>
-        requires { OnFalse look.may (entry_at self.now key ≡ None) }
+        requires { look.places ≡ 0 → entry_at self.now key ≡ None }
         ensures { option_copied result ≡ entry_at self.now key }
     {
-        if !look.may {
+        if look.places == 0 {
             return None;
         }
-        if let Some(entry) = self.entry_at(look.place, key) {
+        let place = look
+            .first
+            .wrapping_add(look.places.trailing_zeros() as usize);
+        if let Some(entry) = self.entry_at(place, key) {
             return Some(entry);
         }
         self.entry_with(key)

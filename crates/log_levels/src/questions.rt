@@ -1,19 +1,20 @@
 // Questions to a map.
 ghost use Rattle.std.specs.Prelude.{◌≡◌, ◌+◌, ◌*◌, ◌/◌, ◌<◌, ◌≤◌};
 ghost use Rattle.std.specs.Prelude.{◌==◌, ℕ, List, length, reverse};
-ghost use Rattle.std.specs.Prelude.{Option, Some, None, IsSome, true, drop, find};
-ghost use Rattle.std.specs.Bool.{OnFalse};
+ghost use Rattle.std.specs.Prelude.{Option, Some, None, IsSome, drop, find};
 ghost use Rattle.std.specs.Option.{option_copied};
 ghost use Rattle.tombstones.specs.declared.entry.Entry.{Entry};
 ghost use Rattle.log_levels.specs.declared.update.Update.{Update};
 ghost use Rattle.log_levels.specs.Maps.{map_after, value_at, next_from, count_between};
 ghost use Rattle.log_levels.specs.Filters.{hash_of, bits_of};
+ghost use Rattle.log_levels.specs.Marks.{mark_of, lanes_of};
 ghost use Rattle.log_levels.specs.Shapes.{IsCutOf, StandsFor, last_at, level_of};
 ghost use Rattle.log_levels.specs.Kept.{entry_in, value_of};
 
 use crate::filter::{bits, hash};
 use crate::log_map::{LogMap, lowest_and_rest};
-use crate::marks::Look;
+use crate::marks::{Look, mark, sought};
+use std::simd::prelude::*;
 use tombstones::Entry;
 
 impl LogMap {
@@ -81,10 +82,10 @@ impl LogMap {
     {
         let hash = hash(key);
         let bits = bits(hash);
+        let sought = sought(mark(hash));
         let mut rest = self.occupied();
-        let last = self.look_at_deepest(rest, key, hash, bits);
-        let above = rest ^ last.bit;
-        let before = self.look_at_deepest(above, key, hash, bits);
+        let last = self.look_at_deepest(rest, key, sought);
+        let before = self.look_at_deepest(rest & !last.bit, key, sought);
         let deep = last.bit | before.bit;
         while rest > deep {
             let (i, behind) = lowest_and_rest(rest);
@@ -104,26 +105,27 @@ impl LogMap {
         None
     }
 
-    /// Looks for a key, of which this is the hash with its bits, in the deepest of some levels.
+    /// Looks for a key by what is sought for its mark in the deepest of some levels, if it has marks.
     #[inline(always)]
-    fn look_at_deepest(&self, levels: u64, key: u64, hash: u64, bits: u64) -> Seen
-        requires hash { hash ≡ hash_of key }
-        requires bits { bits ≡ bits_of hash }
-        ensures { OnFalse result.look.may (entry_in (level_of self.now result.level) key ≡ None) }
+    fn look_at_deepest(&self, levels: u64, key: u64, sought: u8x16) -> Seen
+        requires { sought ≡ lanes_of (mark_of (hash_of key)) }
+        ensures { result.look.places ≡ 0 → entry_in (level_of self.now result.level) key ≡ None }
     {
         if levels == 0 {
-            return Seen::nothing();
+            return Seen::NOTHING;
         }
         let i = 63 - levels.leading_zeros();
         let level = i as usize;
-        match self.level(level) {
-            Some(found) => Seen {
-                level,
-                bit: 1 << i,
-                look: found.look(key, hash, bits),
-            },
-            None => Seen::nothing(),
+        if let Some(found) = self.level(level) {
+            if let Some(look) = found.look(key, sought) {
+                return Seen {
+                    level,
+                    bit: 1 << i,
+                    look,
+                };
+            }
         }
+        Seen::NOTHING
     }
 
     /// The entry with a key, of which this is the hash with its bits, in a level, by what a look
@@ -131,7 +133,7 @@ impl LogMap {
     #[inline(always)]
     fn entry_seen(&self, i: usize, seen: Seen, key: u64, hash: u64, bits: u64) -> Option<&Entry>
         requires taken { IsSome (level_of self.now i) }
-        requires seen { OnFalse seen.look.may (entry_in (level_of self.now seen.level) key ≡ None) }
+        requires seen { seen.look.places ≡ 0 → entry_in (level_of self.now seen.level) key ≡ None }
         requires hash { hash ≡ hash_of key }
         requires bits { bits ≡ bits_of hash }
         ensures { option_copied result ≡ entry_in (level_of self.now i) key }
@@ -154,16 +156,14 @@ struct Seen {
 
 impl Seen {
     /// No level was looked at.
-    #[inline(always)]
-    fn nothing() -> Seen
-        ensures { result.look.may ≡ true }
-    {
-        Seen {
-            level: usize::MAX,
-            bit: 0,
-            look: Look { may: true, place: 0 },
-        }
-    }
+    const NOTHING: Seen = Seen {
+        level: usize::MAX,
+        bit: 0,
+        look: Look {
+            places: 1,
+            first: 0,
+        },
+    };
 }
 
 /// The last of the entries with a key, if there is one.
