@@ -86,18 +86,24 @@ impl LogMap {
         let mut rest = self.occupied();
         let last = self.look_at_deepest(rest, key, sought);
         let before = self.look_at_deepest(rest & !last.bit, key, sought);
-        let deep = last.bit | before.bit;
-        while rest > deep {
+        while rest > last.bit | before.bit {
             let (i, behind) = lowest_and_rest(rest);
             if let Some(entry) = self.occupied_level(i).entry(key, hash, bits) {
                 return entry.value;
             }
             rest = behind;
         }
+        // Each with branches of its own, which are foretold better so.
+        if rest > last.bit {
+            let (i, behind) = lowest_and_rest(rest);
+            if let Some(entry) = self.entry_seen(i, before, key, hash, bits) {
+                return entry.value;
+            }
+            rest = behind;
+        }
         while rest != 0 {
             let (i, behind) = lowest_and_rest(rest);
-            let seen = if behind == 0 { last } else { before };
-            if let Some(entry) = self.entry_seen(i, seen, key, hash, bits) {
+            if let Some(entry) = self.entry_seen(i, last, key, hash, bits) {
                 return entry.value;
             }
             rest = behind;
