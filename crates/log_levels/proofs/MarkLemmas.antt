@@ -1,5 +1,5 @@
 -- What a mark that is put leaves, and that a row without a mark has no key with it.
-use Rattle.std.proofs.Common.{◌≡◌, ◌≢◌, ℕ, ◌+◌, ◌*◌, ◌/◌, ◌%◌, ◌^◌, ◌<◌, ◌≤◌, eqb, Bool, true, false, cond, List, length, slice_index, slice_set, get_or, replicate, map, Option, Some, None, refl, sym, ap, ap₂, ◌∙◌, subst, inl, inr, arith, w8}
+use Rattle.std.proofs.Common.{◌≡◌, ◌≢◌, ℕ, ◌+◌, ◌*◌, ◌/◌, ◌%◌, ◌^◌, ◌<◌, ◌≤◌, eqb, Bool, true, false, cond, List, length, slice_index, slice_set, get_or, replicate, map, Option, Some, None, refl, sym, ap, ◌∙◌, subst, inl, inr, arith, w8}
 use Rattle.std.proofs.lemmas.List.{get_or-set_same, get_or-set_other, length-set}
 use Rattle.std.proofs.lemmas.Bool.{eqb-false, eq-eqb, ne_eqb, cond-true, cond-false, cases_eq}
 use Rattle.std.proofs.lemmas.Nat.Bits.{bit_at-zero}
@@ -10,7 +10,7 @@ use Rattle.tombstones.specs.Entries.{entry_at}
 use Rattle.tombstones.proofs.CallerLemmas.{key-entry_at, Contains-entry_at}
 use Rattle.log_levels.specs.Shapes.{level_keys}
 use Rattle.log_levels.specs.Filters.{hash_of}
-use Rattle.log_levels.specs.Marks.{Marking, HasMark, IsMarked, AreMarked, row_of, mark_of, sought_at, lanes_of}
+use Rattle.log_levels.specs.Marks.{Marking, HasMark, IsMarked, AreMarked, mark_of, sought_at, lanes_of}
 use Rattle.log_levels.proofs.LevelLemmas.{key-at, length-level_keys}
 
 -- a byte at a place that was free leaves the marks

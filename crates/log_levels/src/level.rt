@@ -37,8 +37,9 @@ const SHORT: usize = 4096;
 /// leaves `2ε + 3` places.
 const FENCES: usize = 17;
 
-/// The entries of a level, by rising key, with the index of their keys, a guide to them and a
-/// filter of them. Seen as the entries. It is never changed.
+/// The entries of a level, by rising key, with the index of their keys, a guide to them, a filter
+/// of them, and marks where the level is one of the two deepest and its keys are many and even.
+/// Seen as the entries. It is never changed.
 ///
 /// What a guide reads lies close together and in a near cache, and the eight places that it leads
 /// to lie in few lines: so a search reads far memory once, where one among keys does at each

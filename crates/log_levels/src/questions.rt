@@ -21,8 +21,9 @@ impl LogMap {
     /// The value at a key, if the map has the key.
     ///
     /// The buffer is gone through from its end, and then the levels are searched, the newest first,
-    /// up to the first entry with the key: each whose filter doesn't deny the key, by a grid where
-    /// its keys are even, and else by its index. Takes no memory.
+    /// up to the first entry with the key: of the two deepest those of which a mark says that they
+    /// may have it, where they have marks, and of the others those whose filter doesn't deny it.
+    /// Takes no memory.
     pub fn get(&self, key: u64) -> Option<u64>
         ensures { (updates : List Update) → StandsFor self.now updates →
             result ≡ value_at (map_after updates) key }

@@ -3,6 +3,7 @@ ghost use Rattle.std.specs.Prelude.{◌≡◌, ◌<◌, ◌≤◌, ◌^◌, leng
 use super::builder::Here;
 use super::filter::{Filter, bits, hash, keys_with_filter};
 use super::level::Level;
+use super::marks::{mark, sought};
 use super::*;
 use budget::NoMemory;
 use edge::{Gate, OpenGate, Place};
@@ -117,6 +118,90 @@ fn a_grid_leads_to_each_key(rt: HostRuntime) -> Result<(), Fail> {
         }
     }
     Ok(())
+}
+
+// No contract says that a mark tells the place of its key, so each key is looked for where it is
+// told to be, and so are as many that aren't there. Keys of 200 numbers side by side find no room
+// in the rows of the others.
+#[test]
+fn marks_lead_to_each_key(rt: HostRuntime) -> Result<(), Fail> {
+    let mut entries = Vec::new(rt.alloc());
+    for i in 0..20_000 {
+        entries.push(Entry {
+            key: spread_key(i),
+            value: Some(i),
+        })?;
+    }
+    assert!(rt; is_ascending(&entries));
+    assert!(rt; entries.len() < 100_000);
+    let here = Here { alloc: rt.alloc() };
+    let level = Level::of(&here, rt.alloc(), entries, true)?;
+    let (mut told, mut seeming) = (0u64, 0u64);
+    for i in 0..20_000 {
+        let key = spread_key(i);
+        let Some(look) = level.look(key, sought(mark(hash(key)))) else {
+            panic!(rt; "the level has no marks");
+        };
+        let place = look
+            .first
+            .wrapping_add(look.places.trailing_zeros() as usize);
+        told = told.wrapping_add(u64::from(place as u64 == i));
+        let entry = level.entry_by(look, key);
+        assert_eq!(rt; entry.map(|entry| entry.value), Some(Some(i)));
+
+        let other = key.wrapping_add(3);
+        let Some(look) = level.look(other, sought(mark(hash(other)))) else {
+            panic!(rt; "the level has no marks");
+        };
+        seeming = seeming.wrapping_add(u64::from(look.places != 0));
+        assert!(rt; level.entry_by(look, other).is_none());
+    }
+    assert!(rt; told > 19_000);
+    assert!(rt; seeming < 1_200);
+    Ok(())
+}
+
+/// A key in about each 1000 numbers, but that 200 of them stand side by side, with steps of 4.
+fn spread_key(i: u64) -> u64 {
+    if i < 10_000 {
+        i.wrapping_mul(1000).wrapping_add(i.wrapping_mul(37) % 512)
+    } else if i < 10_200 {
+        i.wrapping_mul(4).wrapping_add(10_000_000)
+    } else {
+        i.wrapping_mul(1000).wrapping_add(i.wrapping_mul(37) % 512)
+    }
+}
+
+// Of 50,000 scattered keys the two deepest levels have marks. Later entries of the same keys, and
+// deletions of others, stand in newer levels and in the buffer.
+#[test]
+fn newer_entries_win_over_marked_ones(rt: HostRuntime) -> Result<(), Fail> {
+    let mut map = LogMap::new(rt.alloc(), 12)?;
+    for i in 0..50_000 {
+        let put = map.put(rt.alloc(), scattered(i), i);
+        assert_eq!(rt; put, Ok(()));
+    }
+    for i in 0..500 {
+        let put = map.put(rt.alloc(), scattered(100 * i), i + 1);
+        assert_eq!(rt; put, Ok(()));
+        let del = map.del(rt.alloc(), scattered(100 * i + 50));
+        assert_eq!(rt; del, Ok(()));
+    }
+    for i in 0..50_000 {
+        let value = match i % 100 {
+            0 => Some(i / 100 + 1),
+            50 => None,
+            _ => Some(i),
+        };
+        assert_eq!(rt; map.get(scattered(i)), value);
+        assert_eq!(rt; map.get(scattered(i + 50_000)), None);
+    }
+    Ok(())
+}
+
+/// No two numbers below 2^32 give one key, since the factor is odd.
+fn scattered(i: u64) -> u64 {
+    i.wrapping_mul(0x9E37_79B9_7F4A_7C15)
 }
 
 fn even_key(i: u64) -> u64 {

@@ -1,9 +1,9 @@
-use Rattle.std.proofs.Common.{◌≡◌, ◌≤◌, ◌<◌, ◌+◌, ◌-◌, ◌/◌, ◌%◌, ℕ, leb, length, take, slice_index, ap, sym, ◌∙◌, subst, arith}
+use Rattle.std.proofs.Common.{◌≤◌, ◌+◌, ◌-◌, ◌/◌, ◌%◌, ℕ, leb, length, take, slice_index, ap, ◌∙◌, subst, arith}
 use Rattle.std.proofs.lemmas.Bool.{OnTrue_from}
 use Rattle.std.proofs.lemmas.List.{take_all, take_more, length-set}
 use Rattle.std.proofs.lemmas.List.Elements.{All-same, All-push}
 use Rattle.log_levels.specs.Filters.{hash_of}
-use Rattle.log_levels.specs.Marks.{Marking, HasMark, IsMarked, AreMarked, row_of, mark_of}
+use Rattle.log_levels.specs.Marks.{Marking, HasMark, IsMarked, AreMarked, mark_of}
 use Rattle.log_levels.proofs.marks.mark_all.Goals as goal
 
 pub loop-i-preserved : goal.loop-i-preserved

@@ -1,4 +1,4 @@
-use Rattle.log_levels.proofs.MarkLemmas.{mark-stays, mark-put}
+use Rattle.log_levels.proofs.MarkLemmas.{mark-put}
 use Rattle.log_levels.proofs.marks.put_free.Goals as goal
 
 pub returns-clause-has : goal.returns-clause-has
