@@ -122,7 +122,7 @@ fn a_grid_leads_to_each_key(rt: HostRuntime) -> Result<(), Fail> {
 
 // No contract says that a mark tells the place of its key, so each key is looked for where it is
 // told to be, and so are as many that aren't there. Keys of 200 numbers side by side find no room
-// in the rows of the others.
+// in the rows of the others. A program in another language counts 19,816 and 1,598.
 #[test]
 fn marks_lead_to_each_key(rt: HostRuntime) -> Result<(), Fail> {
     let mut entries = Vec::new(rt.alloc());
@@ -156,8 +156,8 @@ fn marks_lead_to_each_key(rt: HostRuntime) -> Result<(), Fail> {
         seeming = seeming.wrapping_add(u64::from(look.places != 0));
         assert!(rt; level.entry_by(look, other).is_none());
     }
-    assert!(rt; told > 19_000);
-    assert!(rt; seeming < 1_200);
+    assert!(rt; told > 19_815);
+    assert!(rt; seeming < 1_599);
     Ok(())
 }
 
