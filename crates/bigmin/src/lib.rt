@@ -17,6 +17,3 @@ mod jump;
 mod openings;
 
 pub use jump::{next_by_corners, next_in_box};
-
-#[cfg(test)]
-mod tests;

@@ -62,7 +62,8 @@ not_less xs ys i up up' same within within' less =
     let beyond : i < lb xs q = ⊎_elim (λ before. before) (λ from. absurd (omega (arith, one.from i from within))) (cases_lt i (lb xs q)) in
     omega (arith, two.before i (omega (arith, same q)))
 
-same_sorted : (xs ys : List ℕ) → IsNonDecreasing xs → IsNonDecreasing ys → length xs ≡ length ys → ((q : ℕ) → lb xs q ≡ lb ys q) → xs ≡ ys
+-- sorted lists of the same numbers are one
+pub same_sorted : (xs ys : List ℕ) → IsNonDecreasing xs → IsNonDecreasing ys → length xs ≡ length ys → ((q : ℕ) → lb xs q ≡ lb ys q) → xs ≡ ys
 same_sorted xs ys up up' long same = ext_get_or 0 xs ys long (λ i within.
     let within' : i < length ys = omega arith in
     ⊎_elim (λ equal. equal)

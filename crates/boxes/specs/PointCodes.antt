@@ -3,6 +3,7 @@ use Rattle.std.specs.Prelude.{ℕ, ◌/◌, List, length, map, All}
 use Rattle.std.specs.Fork.{slice_chunk}
 use Rattle.std.specs.List.{range_with_len}
 use Rattle.std.specs.List.Sorted.{IsNonDecreasing, IsPermutation}
+use Rattle.levels.specs.Indexes.{PgmIndex}
 use Rattle.zorder.specs.Codes.{IsCode, IsDimension, code}
 
 -- the codes of points of d coordinates, in the points' order: that of point i is made of the d coordinates from d * i on
@@ -14,10 +15,11 @@ pub record AreSortedCodes (d : ℕ) (coords codes : List ℕ) : Type 0 where
   pub never_falls : IsNonDecreasing codes
   pub same : IsPermutation (codes_of d coords) codes
 
--- sorted codes of d coordinates
+-- sorted codes of d coordinates, and an index over them
 pub record PointCodes : Type 0 where
   pub dims : ℕ
   pub codes : List ℕ
+  pub index : PgmIndex
 
 -- points have two, three or four coordinates, and each code is one of points of that many
 pub record AreCodes (d : ℕ) (codes : List ℕ) : Type 0 where

@@ -3,6 +3,7 @@ ghost use Rattle.std.specs.Prelude.{◌≡◌, ◌+◌, ◌*◌, ◌<◌, ◌≤
 ghost use Rattle.std.specs.List.Sorted.{IsNonDecreasing};
 ghost use Rattle.zorder.specs.Codes.{IsCode, IsDimension};
 ghost use Rattle.zorder.specs.Points.{ArePoints};
+ghost use Rattle.levels.specs.Indexes.{IsIndex};
 ghost use Rattle.window_search.specs.Searches.{lb};
 ghost use Rattle.boxes.specs.PointCodes.{AreSortedCodes};
 
@@ -22,11 +23,12 @@ const EPSILON: u32 = 64;
 const EPSILON_ABOVE: u32 = 4;
 
 /// Points of two, three or four coordinates, kept for the search of boxes. Seen as a record of
-/// their number of coordinates and of their codes, sorted, each as often as there are points with
-/// it.
+/// their number of coordinates, of their codes, sorted, each as often as there are points with it,
+/// and of the index over the codes.
 ///
 /// 1. The codes never fall, and are fewer than 2^32.
-/// 2. They stand once, as the keys of an index.
+/// 2. They stand once, as the keys of the index.
+/// 3. The index has the error bound 64 at level 0, and 4 above it.
 #[derive(Drop)]
 pub struct Boxes {
     d: u32,
@@ -38,7 +40,11 @@ impl Model for Boxes {
 
     ghost Value = { PointCodes };
 
-    ghost view = { λ boxes. record { dims = boxes.d; codes = boxes.index.keys } };
+    ghost view = { λ boxes. record {
+      dims = boxes.d;
+      codes = boxes.index.keys;
+      index = boxes.index;
+    } };
 
     ghost invariant = { λ boxes. AreCodes boxes.d boxes.index.keys };
 }
@@ -65,6 +71,7 @@ impl Boxes {
         ensures dims { IfOk result (λ boxes. boxes.dims ≡ d) }
         ensures codes { IfOk result (λ boxes. AreSortedCodes d points.now boxes.codes) }
         ensures each { IfOk result (λ boxes. All (λ z. IsCode d z) boxes.codes) }
+        ensures index { IfOk result (λ boxes. IsIndex boxes.codes 64 4 boxes.index.levels) }
     {
         let codes = sorted_codes(rt, alloc, d, points)?;
         let keys = Keys::of(alloc, codes)?;
@@ -118,7 +125,8 @@ fn indexed<L: Ledger>(alloc: Global, keys: Keys, blank: Blank) -> Result<Index, 
     requires name { blank.name ≡ L.name }
     requires parts { blank.parts ≡ L.parts }
     requires one { blank.parts ≡ 1 }
-    ensures { IfOk result (λ index. index.keys ≡ keys) }
+    ensures keys { IfOk result (λ index. index.keys ≡ keys) }
+    ensures index { IfOk result (λ index. IsIndex keys 64 4 index.levels) }
 {
     let mut steps = Steps::<L>::new(blank);
     Index::build_here(alloc, keys, EPSILON, EPSILON_ABOVE, &mut steps)

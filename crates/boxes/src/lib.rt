@@ -26,6 +26,3 @@ pub use answer::one_answer;
 pub use boxes::Boxes;
 pub use found::Found;
 pub use walk::Walk;
-
-#[cfg(test)]
-mod tests;

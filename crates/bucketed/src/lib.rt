@@ -16,6 +16,3 @@ mod positions;
 mod table;
 
 pub use buckets::{Buckets, MAX_BITS};
-
-#[cfg(test)]
-mod tests;

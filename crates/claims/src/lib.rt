@@ -16,6 +16,3 @@ mod seats;
 mod views;
 
 pub use seats::{Claims, Seat};
-
-#[cfg(test)]
-mod tests;

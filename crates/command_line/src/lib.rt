@@ -10,8 +10,6 @@
 
 mod definition;
 mod request;
-#[cfg(test)]
-mod tests;
 mod words;
 
 pub use request::{Building, Drilling, Replaying, Request, Searching, Table};

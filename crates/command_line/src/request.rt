@@ -102,7 +102,8 @@ pub enum Request<'a> {
         building: Building<'a>,
         /// The name of the script of questions.
         script: &'a str,
-        /// Write the windows that are searched, too.
+        /// Write the windows along each question's lookup in the index, too: those of the
+        /// definition, whatever finds its position.
         windows: bool,
         /// How the segments are found.
         table: Table,

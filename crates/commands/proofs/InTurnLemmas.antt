@@ -1,8 +1,8 @@
 -- Questions answered one after the other.
 --
--- Main results: the answer to a question behind others (`each_more`), answers behind answers (`each_append`), and that questions
--- which each have an answer are answered (`some_each`).
-use Rattle.std.proofs.Common.{ℕ, List, [], ◌∷◌, ◌++◌, refl, sym, ap, subst, ◌∙◌, append_assoc}
+-- Main results: the answer to a question behind others (`each_more`), answers behind answers (`each_append`), that questions
+-- which each have an answer are answered (`some_each`), and that there is one text where each question has one (`one_each`).
+use Rattle.std.proofs.Common.{◌≡◌, ℕ, List, [], ◌∷◌, ◌++◌, refl, sym, ap, subst, ◌∙◌, append_assoc}
 use Rattle.std.specs.Prelude.{All}
 use Rattle.std.proofs.lemmas.List.{append-nil}
 use Rattle.std.proofs.lemmas.List.Elements.{All-head, All-tail}
@@ -35,3 +35,11 @@ module _ {A : Type 0} (Tells : A → List (List ℕ) → Type 0) where
       let first : (pieces : List (List ℕ)) × Tells question pieces = All-head Has question questions each in
       let others = some_each questions (All-tail Has question questions each) in
       (first.0 ++ others.0, (first.0, others.0, first.1, others.1, refl))
+
+  pub one_each : ((question : A) (pieces others : List (List ℕ)) → Tells question pieces → Tells question others → pieces ≡ others) →
+      (questions : List A) (pieces others : List (List ℕ)) → TellsEach Tells questions pieces → TellsEach Tells questions others → pieces ≡ others
+  one_each one [] pieces others none nothing = none ∙ sym nothing
+  one_each one (question ∷ questions) pieces others (first, rest, told, tells, is) (first', rest', told', tells', is') =
+      let same = one question first first' told told' in
+      let later = one_each one questions rest rest' tells tells' in
+      is ∙ ap (λ (p : List (List ℕ)). p ++ rest) same ∙ ap (λ (p : List (List ℕ)). first' ++ p) later ∙ sym is'

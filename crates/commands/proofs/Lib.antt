@@ -7,3 +7,4 @@ pub mod ReplayLemmas
 pub mod SearchLemmas
 pub mod WritingLemmas
 pub mod OneDrill
+pub mod OneText

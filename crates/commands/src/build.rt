@@ -1,9 +1,9 @@
 // The command `build`.
-ghost use Rattle.std.specs.Prelude.{◌≡◌, ◌∷◌, [], ℕ, length, OnOk, OnErr};
+ghost use Rattle.std.specs.Prelude.{◌≡◌, ◌∷◌, [], ℕ, List, length, OnOk, OnErr};
 ghost use Rattle.std.specs.List.{flat_map};
 ghost use Rattle.exact_cross.specs.Points.{places};
 ghost use Rattle.written.specs.Writing.{Writes, BreaksOff, WritesText};
-ghost use Rattle.commands.specs.Tasks.{bounds_of};
+ghost use Rattle.commands.specs.Tasks.{Bounds as TaskBounds, bounds_of};
 ghost use Rattle.commands.specs.Texts.Indexing.{tells_levels};
 ghost use Rattle.commands.specs.Texts.Build.{IsBuilt, built_level};
 
@@ -71,3 +71,10 @@ fn write_levels<S: Sink>(
     }
     Ok(())
 }
+
+/// Keys and error bounds have one text of `build`: it depends on nothing else, so not on how many
+/// workers there are. It does nothing.
+pub fn one_build()
+    ensures { (keys : List ℕ) (bounds : TaskBounds) (one two : List (List ℕ)) →
+        IsBuilt keys bounds one → IsBuilt keys bounds two → one ≡ two }
+{}

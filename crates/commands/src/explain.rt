@@ -1,7 +1,7 @@
 // The command `explain`.
 ghost use Rattle.std.specs.Prelude.{◌≡◌, ◌∷◌, ◌<◌, ◌≤◌};
 ghost use Rattle.std.specs.Prelude.{◌^◌, ◌+◌, ◌++◌};
-ghost use Rattle.std.specs.Prelude.{ℕ, length, drop, codes};
+ghost use Rattle.std.specs.Prelude.{ℕ, List, length, drop, codes};
 ghost use Rattle.std.specs.Prelude.{decimal};
 ghost use Rattle.std.specs.Prelude.{OnOk, OnErr};
 ghost use Rattle.std.specs.Fmt.{signed_decimal};
@@ -12,7 +12,7 @@ ghost use Rattle.exact_cross.specs.Covers.{run_end};
 ghost use Rattle.exact_cross.specs.Segments.{starts_of};
 ghost use Rattle.levels.specs.Indexes.{IsIndex};
 ghost use Rattle.written.specs.Writing.{Writes, BreaksOff, WritesText};
-ghost use Rattle.commands.specs.Tasks.{bounds_of};
+ghost use Rattle.commands.specs.Tasks.{Bounds as TaskBounds, bounds_of};
 ghost use Rattle.commands.specs.Texts.Indexing.{tells_levels};
 ghost use Rattle.commands.specs.Texts.Explain.{IsExplained, level_lines, ending};
 ghost use Rattle.commands.specs.Texts.Explain.{run_line, run_lines};
@@ -188,3 +188,10 @@ fn push_ending(text: &mut TextLine, cut: &Option<Witness>)
         }
     }
 }
+
+/// Keys and error bounds have one text of `explain`: it depends on nothing else, so not on how many
+/// workers there are. It does nothing.
+pub fn one_explain()
+    ensures { (keys : List ℕ) (bounds : TaskBounds) (one two : List (List ℕ)) →
+        IsExplained keys bounds one → IsExplained keys bounds two → one ≡ two }
+{}

@@ -27,9 +27,13 @@ mod regions;
 mod replay;
 mod task;
 
+pub use build::one_build;
 pub use drill::one_drill;
 use edge::{Gate, Sink};
+pub use explain::one_explain;
 pub use map_replay::Question;
+pub use query::one_query;
+pub use regions::one_box;
 use std::alloc::Global;
 use std::sync::Wait;
 use std::thread::Threads;

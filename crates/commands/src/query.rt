@@ -1,11 +1,12 @@
 // The command `query`.
-ghost use Rattle.std.specs.Prelude.{◌≡◌, ◌∷◌, ◌≤◌, [], ℕ, List, Option};
+ghost use Rattle.std.specs.Prelude.{◌≡◌, ◌∷◌, ◌≤◌, [], ℕ, Bool, List, Option};
 ghost use Rattle.std.specs.Prelude.{false, is_some, length, map, IfSome, OnOk, OnErr};
 ghost use Rattle.std.specs.Prelude.{vec_capacity};
+ghost use Rattle.std.specs.List.Sorted.{IsNonDecreasing};
 ghost use Rattle.window_search.specs.Searches.{lb};
 ghost use Rattle.written.specs.Writing.{Writes, BreaksOff, WritesText};
 ghost use Rattle.commands.specs.Finders.{IsIndexOf};
-ghost use Rattle.commands.specs.Tasks.{bounds_of};
+ghost use Rattle.commands.specs.Tasks.{Bounds as TaskBounds, bounds_of};
 ghost use Rattle.commands.specs.Texts.Query.{IsAnswered, TellsAnswer, TellsWindows};
 ghost use Rattle.commands.specs.Texts.Query.{find_line, window_line, window_lines};
 
@@ -19,7 +20,7 @@ use std::alloc::Global;
 use std::thread::Threads;
 use written::{TextLine, Unfinished, hand_over};
 
-// A level, and the first and the last place that is searched there.
+// A level, and the first and the last place of its window.
 type Window = (u32, u32, u32);
 
 /// Writes how many keys are below each question, and the windows where they are asked for.
@@ -204,3 +205,13 @@ fn fill_window_line(line: &mut TextLine, level: u32, low: u32, high: u32)
     line.push_u64(u64::from(high));
     line.push(b"\n");
 }
+
+/// Keys that never fall, error bounds and questions have one text of `query`, with windows or
+/// without: it depends on nothing else, so neither on workers nor on what finds the positions. It
+/// does nothing.
+pub fn one_query()
+    ensures { (keys : List ℕ) (bounds : TaskBounds) (questions : List ℕ) (windows : Bool)
+        (one two : List (List ℕ)) → IsNonDecreasing keys
+        → IsAnswered keys bounds questions windows one
+        → IsAnswered keys bounds questions windows two → one ≡ two }
+{}

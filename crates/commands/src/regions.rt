@@ -4,6 +4,7 @@ ghost use Rattle.std.specs.Prelude.{length, map, OnOk, OnErr};
 ghost use Rattle.std.specs.Prelude.{◌+◌, ◌*◌, ◌++◌, codes, decimal, vec_capacity};
 ghost use Rattle.std.specs.List.{join_with_byte};
 ghost use Rattle.zorder.specs.Codes.{IsCode, IsDimension};
+ghost use Rattle.zorder.specs.declared.regions.Region.{Region as SearchedRegion};
 ghost use Rattle.boxes.specs.BoxAnswers.{codes_inside};
 ghost use Rattle.written.specs.Writing.{Writes, BreaksOff, WritesText};
 ghost use Rattle.commands.specs.PointRegions.{IsRegionOf};
@@ -167,3 +168,11 @@ fn push_coordinates(line: &mut TextLine, d: u32, code: u64)
         line.push_number(coordinates[c as usize]);
     }
 }
+
+/// Points and regions have one text of `box`: it depends on nothing else, so not on the order in
+/// which threads sort. It does nothing.
+pub fn one_box()
+    ensures { (d : ℕ) (coords : List ℕ) (regions : List SearchedRegion)
+        (one two : List (List ℕ)) → IsSearched d coords regions one
+        → IsSearched d coords regions two → one ≡ two }
+{}

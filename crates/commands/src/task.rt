@@ -55,7 +55,8 @@ pub struct Search {
     pub ghost each: { All (IsRegionOf dims) regions.items },
 }
 
-/// Whether a table takes the place of the levels above level 0. No text depends on it.
+/// Whether a table takes the place of the levels above level 0. It is looked into where the table of
+/// the index leaves more than three runs open, and no text depends on it.
 #[derive(Clone, Copy, Debug)]
 pub struct Table {
     /// How many bits of a key the table goes by, at most 20; 0 where there is no table.
@@ -111,7 +112,8 @@ pub enum Task {
         bounds: Bounds,
         workers: Workers,
     },
-    /// Write the position of each question's key, and, where asked for, the windows searched.
+    /// Write the position of each question's key, and, where asked for, the windows along its
+    /// lookup in the index: those of the definition, whatever finds the position.
     Query {
         keys: SortedKeys,
         bounds: Bounds,

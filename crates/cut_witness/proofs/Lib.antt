@@ -1,2 +1,4 @@
-pub mod CheckedRuns
+pub mod ShownRuns
 pub mod Sides
+pub mod Gaps
+pub mod PairGaps

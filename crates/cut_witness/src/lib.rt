@@ -5,28 +5,33 @@
 //! 0` the run `0..3` ends with the places 0, 1 and 3: the line through the first two passes far
 //! above the rank of the key 10.
 //!
-//! Main clause: `certified` of [`check_cover`]. The words of the clauses are those of
-//! `exact_cross`. No call takes memory.
+//! Main clauses: `certified` of [`check_cover`] and of [`slack`], and `exact` of [`is_steep`] and
+//! [`is_flat`], which judge the pairs of a run. The words of the clauses are those of `exact_cross`.
+//! No call takes memory.
 #![tactic(auto)]
 
 ghost use Rattle.std.specs.List.Sorted.{IsStrictlyIncreasing, IsNonDecreasing};
-ghost use Rattle.std.specs.Prelude.{◌≡◌, ◌<◌, ◌≤◌, ◌^◌, ◌↔◌, length, IsTrue};
+ghost use Rattle.std.specs.Prelude.{◌≡◌, ◌-◌, ◌<◌, ◌≤◌, ◌^◌, ◌↔◌, length, IsTrue};
+ghost use Rattle.std.specs.Prelude.{IsSome, IfSome};
 ghost use Rattle.exact_cross.specs.Points.{points_of};
 ghost use Rattle.exact_cross.specs.Lines.{RationalLine, IsWithin};
 ghost use Rattle.exact_cross.specs.Witnesses.{IsBeyond, IsWitness};
 ghost use Rattle.exact_cross.specs.Segments.{starts_of};
-ghost use Rattle.exact_cross.specs.Checked.{IsCutShort, AreChecked, IsLeastCover};
-ghost use Rattle.cut_witness.specs.Runs.{IsCheckedRun};
+ghost use Rattle.exact_cross.specs.Checked.{IsCutIfAny, AreChecked, AreShown};
+ghost use Rattle.exact_cross.specs.Checked.{IsLeastCover, IsCoverWithin, uncut};
+ghost use Rattle.cut_witness.specs.Runs.{IsShownRun};
 
+mod pairs;
 #[cfg(test)]
 mod tests;
 
 use exact_cross::{MAX_EPSILON, Segment, Side, Witness};
+pub use pairs::{is_flat, is_steep};
 
 /// Whether the three places are in order, below the list's length, and beyond every line by the
 /// side's inequality.
 ///
-/// The place `j` is the point `(xs[j], ys[j])`, and `eps` the error bound `ε`, in ranks. Over: the
+/// The place `j` is the point `(xs[j], ys[j])`, and `eps` the error bound `ε`, in places. Over: the
 /// chord of `ε` below the outer two points passes more than `ε` above the middle one. Under: the
 /// chord of `ε` above them passes more than `ε` below it. The inequalities are exact.
 pub fn holds(w: &Witness, xs: &[u64], ys: &[u32], eps: u32) -> bool
@@ -52,7 +57,7 @@ pub fn holds(w: &Witness, xs: &[u64], ys: &[u32], eps: u32) -> bool
 /// in range and within `ε` at each place of its run, the last segment has no cut, and each other
 /// one has a cut that holds, from its start on and with the next start as its `r`. No points need
 /// no segments. The place `j` is the point `(xs[j], ys[j])`, and `eps` the error bound `ε`, in
-/// ranks. Source of such covers: Ferragina and Vinciguerra, PVLDB 13(8), 2020, section 3.1;
+/// places. Source of such covers: Ferragina and Vinciguerra, PVLDB 13(8), 2020, section 3.1;
 /// O'Rourke, CACM 24(9), 1981.
 pub fn check_cover(xs: &[u64], ys: &[u32], eps: u32, segments: &[Segment]) -> bool
     requires same_length { length ys.now ≡ length xs.now }
@@ -65,15 +70,47 @@ pub fn check_cover(xs: &[u64], ys: &[u32], eps: u32, segments: &[Segment]) -> bo
     ensures certified { IsTrue result → IsLeastCover (points_of xs.now ys.now) eps 0
         (length xs.now) (starts_of segments.now) }
 {
+    match slack(xs, ys, eps, segments) {
+        Some(slack) => slack == 0,
+        None => false,
+    }
+}
+
+/// How many runs fewer another cover could have at most, where these segments show as much by
+/// themselves: of segments that were made in pieces, side by side, what that may have cost.
+///
+/// Some exactly where what [`check_cover`] asks is so, but that any segment may lack its cut: then
+/// the segments are a cover, and the answer is how many have none, less the last one's. Every cover
+/// has at least as many runs as there are segments, less the answer, whoever made them. Of no
+/// segments for no points it is 0. The place `j` is the point `(xs[j], ys[j])`, and `eps` the error
+/// bound `ε`, in places.
+pub fn slack(xs: &[u64], ys: &[u32], eps: u32, segments: &[Segment]) -> Option<u32>
+    requires same_length { length ys.now ≡ length xs.now }
+    requires rising { IsStrictlyIncreasing xs.now }
+    requires never_falls { IsNonDecreasing ys.now }
+    requires few { length xs.now < 2 ^ 32 }
+    requires bounded { eps ≤ MAX_EPSILON }
+    ensures exact { IsSome result ↔ AreShown (points_of xs.now ys.now) eps segments.now }
+    ensures count { IfSome result (λ slack. slack ≡ uncut segments.now - 1) }
+    // Whoever made the segments.
+    ensures certified { IfSome result (λ slack. IsCoverWithin slack (points_of xs.now ys.now) eps 0
+        (length xs.now) (starts_of segments.now)) }
+{
     let mut end = xs.len() as u32;
+    let mut uncut = 0u32;
     for i in (0..segments.len()).rev() {
         let segment = &segments[i];
-        if !is_checked_run(xs, ys, eps, segment, end) {
-            return false;
+        if !is_shown_run(xs, ys, eps, segment, end) {
+            return None;
         }
+        uncut += u32::from(segment.cut.is_none());
         end = segment.start;
     }
-    end == 0
+    if end == 0 {
+        Some(uncut.saturating_sub(1))
+    } else {
+        None
+    }
 }
 
 /// Whether the middle place of three in order lies beyond all lines within `ε` at the other two, by
@@ -105,38 +142,44 @@ fn is_beyond(w: &Witness, xs: &[u64], ys: &[u32], eps: u32) -> bool
 }
 
 /// Whether the run from the segment's start to `end` has a place or more, a line in range that fits
-/// it, and its cut.
-fn is_checked_run(xs: &[u64], ys: &[u32], eps: u32, segment: &Segment, end: u32) -> bool
+/// it, and a cut that holds, if it has one.
+fn is_shown_run(xs: &[u64], ys: &[u32], eps: u32, segment: &Segment, end: u32) -> bool
     requires same_length { length ys.now ≡ length xs.now }
     requires rising { IsStrictlyIncreasing xs.now }
     requires never_falls { IsNonDecreasing ys.now }
     requires few { length xs.now < 2 ^ 32 }
     requires bounded { eps ≤ MAX_EPSILON }
     requires within { end ≤ length xs.now }
-    ensures exact { IsTrue result ↔ IsCheckedRun (points_of xs.now ys.now) eps
+    ensures exact { IsTrue result ↔ IsShownRun (points_of xs.now ys.now) eps
         (length xs.now) segment.now end }
 {
     segment.start < end
         && segment.line.in_range()
         && segment.line.fits(xs, ys, segment.start, end, eps)
-        && is_cut_short(xs, ys, eps, segment, end)
+        && is_cut_if_any(xs, ys, eps, segment, end)
 }
 
-/// Whether a run that ends before the list does has a cut at its end that holds, and the last run
-/// has none.
-fn is_cut_short(xs: &[u64], ys: &[u32], eps: u32, segment: &Segment, end: u32) -> bool
+/// Whether a run's cut, if it has one, lies between its start and its end, and holds. That of the
+/// last run wouldn't: a witness's `r` is a place of the list.
+fn is_cut_if_any(xs: &[u64], ys: &[u32], eps: u32, segment: &Segment, end: u32) -> bool
     requires same_length { length ys.now ≡ length xs.now }
     requires rising { IsStrictlyIncreasing xs.now }
     requires never_falls { IsNonDecreasing ys.now }
     requires few { length xs.now < 2 ^ 32 }
     requires bounded { eps ≤ MAX_EPSILON }
     requires within { end ≤ length xs.now }
-    ensures exact { IsTrue result ↔ IsCutShort (points_of xs.now ys.now) eps
+    ensures exact { IsTrue result ↔ IsCutIfAny (points_of xs.now ys.now) eps
         (length xs.now) segment.now end }
 {
     match segment.cut {
-        None => end as usize == xs.len(),
-        // The witness's `r` is a place of the list, so the run isn't the last one.
-        Some(w) => segment.start <= w.p && w.r == end && holds(&w, xs, ys, eps),
+        None => true,
+        Some(w) => is_inside(&w, segment.start, end) && holds(&w, xs, ys, eps),
     }
+}
+
+/// Whether the places lie from a run's start on, and the last of them at its end.
+fn is_inside(w: &Witness, start: u32, end: u32) -> bool
+    ensures { IsTrue result ↔ ((start ≤ w.now.p) × (w.now.r ≡ end)) }
+{
+    start <= w.p && w.r == end
 }

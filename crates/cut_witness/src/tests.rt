@@ -57,11 +57,19 @@ fn expect_holds<R: Abort>(rt: &R, points: Points, eps: u32, w: Witness, want: bo
     assert_eq!(rt; holds(&w, xs, ys, eps), want);
 }
 
-fn expect_cover<R: Abort>(rt: &R, points: Points, eps: u32, segments: &[Segment], want: bool) {
+/// Compares the slack that segments show. A least cover is one that shows none.
+fn expect_slack<R: Abort>(
+    rt: &R,
+    points: Points,
+    eps: u32,
+    segments: &[Segment],
+    want: Option<u32>,
+) {
     let (xs, ys) = points;
     assert!(rt; rises(xs) && never_falls(ys));
     assert!(rt; eps <= 1_048_576 && xs.len() < 1000 && xs.len() == ys.len());
-    assert_eq!(rt; check_cover(xs, ys, eps, segments), want);
+    assert_eq!(rt; slack(xs, ys, eps, segments), want);
+    assert_eq!(rt; check_cover(xs, ys, eps, segments), want == Some(0));
 }
 
 #[test]
@@ -96,28 +104,80 @@ fn worked_covers(rt: HostRuntime) {
     let cut = Some(witness(0, 1, 3, Side::Under));
     let first = row(0, 0, 1, line(0, 0, 1, 1), cut);
     let last = row(3, 3, 3, line(10, 3, 0, 1), None);
-    expect_cover(&rt, four, 0, &[first, last], true);
-    expect_cover(&rt, four, 1, &[first, last], false);
-    expect_cover(&rt, four, 0, &[], false);
-    expect_cover(&rt, four, 0, &[first], false);
-    expect_cover(&rt, four, 0, &[last], false);
+    expect_slack(&rt, four, 0, &[first, last], Some(0));
+    expect_slack(&rt, four, 1, &[first, last], None);
+    expect_slack(&rt, four, 0, &[], None);
+    expect_slack(&rt, four, 0, &[first], None);
+    expect_slack(&rt, four, 0, &[last], None);
 
     let uncut = row(0, 0, 1, line(0, 0, 1, 1), None);
     let cut_at_the_end = row(3, 3, 3, line(10, 3, 0, 1), cut);
     let no_run = row(3, 3, 3, line(10, 3, 0, 0), None);
     let too_low = row(3, 3, 3, line(10, -1_048_577, 0, 1), None);
-    expect_cover(&rt, four, 0, &[uncut, last], false);
-    expect_cover(&rt, four, 0, &[first, cut_at_the_end], false);
-    expect_cover(&rt, four, 0, &[first, no_run], false);
-    expect_cover(&rt, four, 0, &[first, too_low], false);
+    expect_slack(&rt, four, 0, &[uncut, last], Some(1));
+    expect_slack(&rt, four, 0, &[first, cut_at_the_end], None);
+    expect_slack(&rt, four, 0, &[first, no_run], None);
+    expect_slack(&rt, four, 0, &[first, too_low], None);
 
-    expect_cover(&rt, (&[], &[]), 0, &[], true);
-    expect_cover(&rt, (&[], &[]), 0, &[last], false);
-    expect_cover(
+    expect_slack(&rt, (&[], &[]), 0, &[], Some(0));
+    expect_slack(&rt, (&[], &[]), 0, &[last], None);
+    expect_slack(
         &rt,
         (&[7], &[0]),
         0,
         &[row(0, 0, 0, line(7, 0, 0, 1), None)],
-        true,
+        Some(0),
     );
+}
+
+/// Whether the pair is the steep one of the run, and whether the flat one.
+fn expect_pair<R: Abort>(
+    rt: &R,
+    points: Points,
+    eps: u32,
+    run: (u32, u32),
+    pair: (u32, u32),
+    want: (bool, bool),
+) {
+    let (xs, ys) = points;
+    let (s, e) = run;
+    let (a, b) = pair;
+    let (steep, flat) = want;
+    assert!(rt; rises(xs) && never_falls(ys));
+    assert!(rt; eps <= 1_048_576 && xs.len() < 1000 && xs.len() == ys.len());
+    assert!(rt; s < e && e as usize <= xs.len());
+    assert_eq!(rt; is_steep(xs, ys, eps, s, e, a, b), steep);
+    if e - s > 1 {
+        assert_eq!(rt; is_flat(xs, ys, eps, s, e, a, b), flat);
+    }
+}
+
+#[test]
+fn worked_pairs(rt: HostRuntime) {
+    let four: Points = (&[0, 1, 2, 10], &[0, 1, 2, 3]);
+    // Of equal slopes the first; no line fits all four exactly.
+    expect_pair(&rt, four, 0, (0, 3), (0, 1), (true, true));
+    expect_pair(&rt, four, 0, (0, 3), (0, 2), (false, false));
+    expect_pair(&rt, four, 0, (0, 3), (1, 2), (false, false));
+    expect_pair(&rt, four, 0, (0, 4), (0, 1), (false, false));
+    expect_pair(&rt, four, 0, (0, 4), (2, 3), (false, false));
+    // The steep slopes up to the place 3 are 5/10, 4/9 and 3/8, the flat ones 1/10, 0 and -1/8.
+    expect_pair(&rt, four, 1, (0, 4), (2, 3), (true, false));
+    expect_pair(&rt, four, 1, (0, 4), (0, 3), (false, true));
+    // One place, and pairs that aren't of the run.
+    expect_pair(&rt, four, 0, (2, 3), (2, 2), (true, false));
+    expect_pair(&rt, four, 0, (2, 3), (2, 3), (false, false));
+    expect_pair(&rt, four, 0, (1, 3), (0, 1), (false, false));
+    expect_pair(&rt, four, 0, (0, 2), (0, 2), (false, false));
+    expect_pair(&rt, four, 0, (0, 2), (1, 0), (false, false));
+    // Two pairs up to the last place have the steep slope 1, 3/3 and 2/2, or the flat slope 1.
+    let level: Points = (&[0, 1, 3], &[0, 1, 1]);
+    expect_pair(&rt, level, 1, (0, 3), (0, 2), (true, true));
+    expect_pair(&rt, level, 1, (0, 3), (1, 2), (false, false));
+    let leap: Points = (&[0, 1, 3], &[0, 1, 5]);
+    expect_pair(&rt, leap, 1, (0, 3), (0, 2), (true, true));
+    expect_pair(&rt, leap, 1, (0, 3), (1, 2), (false, false));
+    // The greatest x and heights.
+    let ends: Points = (&[0, u64::MAX], &[0, u32::MAX]);
+    expect_pair(&rt, ends, 1_048_576, (0, 2), (0, 1), (true, true));
 }

@@ -19,6 +19,3 @@ mod lists;
 
 pub use generator::Generator;
 pub use inputs::{Inputs, searched_region};
-
-#[cfg(test)]
-mod tests;

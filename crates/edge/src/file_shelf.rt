@@ -57,6 +57,9 @@ impl<'a, R: Files> Shelf for FileShelf<'a, R> {
     }
 
     fn read(&mut self, buf: &mut [u8]) -> Result<usize, Failed> {
+        if buf.is_empty() {
+            return Ok(0);
+        }
         let Some(file) = &mut self.taken else {
             return Ok(0);
         };

@@ -36,8 +36,8 @@ impl MemShelf {
 
     /// A shelf of these files, the first of each name, with no fault counted and none taken.
     ///
-    /// The calls whose numbers are in `failing` fail, and one read gives at most `most` bytes.
-    /// Takes no memory.
+    /// The calls whose numbers are in `failing` fail, but for a read into an empty buffer, and one
+    /// read gives at most `most` bytes. Takes no memory.
     pub fn new(files: Vec<(String, Vec<u8>)>, failing: Vec<u64>, most: usize) -> Self
         requires { 1 ≤ most }
         ensures device { device_of result ≡ fresh_device failing.items most }
@@ -95,7 +95,11 @@ impl Shelf for MemShelf {
     }
 
     fn read(&mut self, buf: &mut [u8]) -> Result<usize, Failed> {
-        if is_listed(&mut self.calls, &self.failing) {
+        let listed = is_listed(&mut self.calls, &self.failing);
+        if buf.is_empty() {
+            return Ok(0);
+        }
+        if listed {
             self.taken = None;
             return Err(raise(&mut self.faults));
         }

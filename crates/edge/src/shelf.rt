@@ -45,7 +45,7 @@ pub trait Shelf {
         ensures cause { HasCause (faults self.old) (faults self.new) result };
 
     /// Reads the next bytes of the taken file into the front of `buf`, at least one unless `buf` is
-    /// empty or nothing is left, and answers how many.
+    /// empty or nothing is left, and answers how many. A read into an empty buffer gives 0.
     ///
     /// # Errors
     ///
@@ -54,6 +54,7 @@ pub trait Shelf {
         ensures within { IfOk result (λ n. n ≤ length buf.old) }
         ensures next { IfOk result
             (λ n. ReadsNext (rest self.old) (length buf.old) n buf.new (rest self.new)) }
+        ensures nothing { length buf.old ≡ 0 → result ≡ Ok 0 }
         ensures failed { OnErr result (HasNothingLeft (rest self.new)) }
         ensures files { files self.new ≡ files self.old }
         ensures tells { TellsAsBefore (rest self.old) (rest self.new) }

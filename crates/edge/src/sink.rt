@@ -1,5 +1,6 @@
 // Where text is written.
-ghost use Rattle.std.specs.Prelude.{◌≡◌, ◌<◌, ◌≤◌, ℕ, List, length, Option, Result, IfOk, OnErr};
+ghost use Rattle.std.specs.Prelude.{◌≡◌, ◌<◌, ◌≤◌, ℕ, List, length, Option, Result, Ok, IfOk};
+ghost use Rattle.std.specs.Prelude.{OnErr};
 ghost use Rattle.edge.specs.declared.failed.Failed.{Failed};
 ghost use Rattle.edge.specs.Counts.{HasCause};
 ghost use Rattle.edge.specs.Sink.{TakesPart};
@@ -20,7 +21,7 @@ pub trait Sink {
     ghost puts: { Self → List ℕ → Result ℕ Failed → Self → Type 0 };
 
     /// Takes a front part of the piece, at least one byte unless the piece is empty, and answers
-    /// how many bytes.
+    /// how many bytes. Of an empty piece it takes 0.
     ///
     /// # Errors
     ///
@@ -28,6 +29,7 @@ pub trait Sink {
     fn put(&mut self, piece: &[u8]) -> Result<usize, Failed>
         ensures within { IfOk result (λ n. n ≤ length piece.now) }
         ensures some { IfOk result (λ n. 0 < length piece.now → 0 < n) }
+        ensures nothing { length piece.now ≡ 0 → result ≡ Ok 0 }
         ensures taken { IfOk result
             (λ n. TakesPart (written self.old) piece.now n (written self.new)) }
         ensures failed { OnErr result (written self.new ≡ written self.old) }

@@ -5,11 +5,12 @@ pub use Rattle.exact_cross.proofs.SlopeOrder.{IsAtMost-refl, IsAtMost-trans, IsA
 pub use Rattle.exact_cross.proofs.KeyPoints.{slice_index-rises, IsAscending-points_of, IsNonDecreasing-places, IsNonDecreasing-from_neighbours, length-places, slice_index-places, places-more}
 pub use Rattle.exact_cross.proofs.LineSlopes.{flat_at_most_steep}
 pub use Rattle.exact_cross.proofs.StoredLine.{some_line-one_place, some_line-from_pairs, line_of_pair-level, line_of_pair-rising, line_of_pair-positive, segment_line_fits, IsFitted-from_steep}
-pub use Rattle.exact_cross.proofs.RunLemmas.{SomeLineFits-part, run_end-push, CutsInto-push, starts_of-push, EachRun-push}
+pub use Rattle.exact_cross.proofs.RunLemmas.{SomeLineFits-part, run_end-first, run_end-push, CutsInto-push, starts_of-push, EachRun-push}
+pub use Rattle.exact_cross.proofs.PairOrder.{IsAtMost-decided, IsSteepPair-some, IsFlatPair-some}
 pub use Rattle.exact_cross.proofs.PairLemmas.{IsSteepPair-unique, IsFlatPair-unique}
 pub use Rattle.exact_cross.proofs.GreedyLemmas.{CutsInto-rises, IsGreedy-least, IsGreedy-unique}
 pub use Rattle.exact_cross.proofs.LeastCover.{IsCover-from_greedy, IsLeastCover-from_greedy}
 pub use Rattle.exact_cross.proofs.SideLemmas.{IsFollowed, IsOver-in, IsOver-out, IsUnder-in, IsUnder-out, IsOver-no_line, IsUnder-no_line, sides_exclude, some_line-longer, some_line-two_places}
 pub use Rattle.exact_cross.proofs.CheckedLemmas.{EachRun-implies, StartsRise-from_cuts, IsWitness-from_cut, IsCutShort-from_cut, IsInRange-from_steep, AreChecked-from_greedy}
 pub use Rattle.exact_cross.proofs.WitnessLines.{IsOver-sums, IsOver-from_sums, IsUnder-sums, IsUnder-from_sums, no_line_at_witness}
-pub use Rattle.exact_cross.proofs.Certificate.{run_end-within, StartsRise-from_first, run_end-from_checked, IsCover-from_fitted, at_most-from_cuts, IsLeastCover-from_checked}
+pub use Rattle.exact_cross.proofs.Certificate.{run_end-within, StartsRise-from_first, run_end-from_shown, IsCover-from_fitted, IsCoverWithin-from_shown, AreShown-from_checked, AreChecked-from_shown, IsLeastCover-from_checked}

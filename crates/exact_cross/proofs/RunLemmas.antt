@@ -10,6 +10,11 @@ use Rattle.exact_cross.specs.Segments.{starts_of, EachRun}
 pub SomeLineFits-part : (p : Points) (eps s e from to : ℕ) → s ≤ from → to ≤ e → SomeLineFits p eps s e → SomeLineFits p eps from to
 SomeLineFits-part p eps s e from to low high fits = (fits.0, λ j above below. fits.1 j (omega arith) (omega arith))
 
+-- where no run is before them, they begin where they cut from
+pub run_end-first : (R : ℕ → ℕ → Type 0) (starts : List ℕ) (from to : ℕ) → CutsInto R from to starts → run_end starts to ≡ from
+run_end-first R [] from to cuts = sym cuts
+run_end-first R (start ∷ later) from to cuts = cuts.0
+
 -- with one more run behind them, each run ends where it did
 pub run_end-push : (later : List ℕ) (s e : ℕ) → run_end (later ++ s ∷ []) e ≡ run_end later s
 run_end-push [] s e = refl

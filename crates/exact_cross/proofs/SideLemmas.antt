@@ -31,7 +31,7 @@ use Rattle.exact_cross.proofs.Cleared.{difference_times, products_le-out, produc
 use Rattle.exact_cross.proofs.SteepLine.{IsWide, IsWide-from_pair, rising_line, rising_line_fits}
 use Rattle.exact_cross.proofs.LineSlopes.{flat_at_most_steep}
 use Rattle.exact_cross.proofs.SlopeOrder.{IsAtMost-refl, IsAtMost-trans, IsAtMost-total}
-use Rattle.exact_cross.proofs.PairOrder.{one_pair_steep, flat_at_most_own_steep, IsSteepPair-longer}
+use Rattle.exact_cross.proofs.PairOrder.{flat_at_most_own_steep, IsSteepPair-two_places, IsSteepPair-some}
 use Rattle.exact_cross.proofs.StoredLine.{some_line-from_pairs}
 
 -- the gaps of three places
@@ -264,14 +264,15 @@ flat_at_most_steep-longer p eps s e a b c d run over under i j k l first second 
 pub some_line-longer : (p : Points) (eps s e a b c d : ℕ) → IsFollowed p eps s e a b c d →
     IsAtMost (flat_slope p eps b e) (steep_slope p eps a b) → IsAtMost (flat_slope p eps c d) (steep_slope p eps d e) → SomeLineFits p eps s (e + 1)
 some_line-longer p eps s e a b c d run not_over not_under =
-    let longer = IsSteepPair-longer p eps s e a b run.ascends run.inside run.steep in
+    let pair = run.steep.pair in
+    let longer = IsSteepPair-some p eps s (e + 1) run.ascends (omega (arith, pair.from_start, pair.rises, pair.to_end)) (omega (arith, run.inside)) in
     some_line-from_pairs p eps s (e + 1) longer.0 longer.1 run.ascends (omega (arith, run.inside)) longer.2
     (λ k l pair. flat_at_most_steep-longer p eps s e a b c d run not_over not_under k l longer.0 longer.1 pair longer.2.pair)
 
 -- some line fits any two places
 pub some_line-two_places : (p : Points) (eps s : ℕ) → IsAscending p → s + 2 ≤ p.count → SomeLineFits p eps s (s + 2)
 some_line-two_places p eps s ascends inside =
-    some_line-from_pairs p eps s (s + 2) s (s + 1) ascends inside (one_pair_steep p eps s) (λ c d pair.
+    some_line-from_pairs p eps s (s + 2) s (s + 1) ascends inside (IsSteepPair-two_places p eps s) (λ c d pair.
     let low : c ≡ s = omega (arith, pair.from_start, pair.rises, pair.to_end) in
     let high : d ≡ s + 1 = omega (arith, pair.from_start, pair.rises, pair.to_end) in
     rw (low, high) (flat_at_most_own_steep p eps s (s + 1)))

@@ -1,5 +1,6 @@
 -- What the searches on a hull's vertices say of the points that the vertices stand for.
-use Rattle.std.proofs.Common.{◌≡◌, ℕ, zero, suc, ◌+◌, ◌*◌, ◌-◌, ◌<◌, ◌≤◌, ◌∙◌, List, [], ◌∷◌, ◌++◌, length, take, get_or, inl, inr, refl, ap, subst, sym, arith}
+use Rattle.std.specs.Bool.{OnTrue, OnFalse}
+use Rattle.std.proofs.Common.{◌≡◌, Bool, true, false, ℕ, ◌+◌, ◌*◌, ◌-◌, ◌<◌, ◌≤◌, ◌∙◌, List, [], ◌∷◌, ◌++◌, length, take, get_or, inl, inr, refl, ap, subst, sym, arith}
 use Rattle.std.proofs.lemmas.Bool.{cases_lt}
 use Rattle.std.proofs.lemmas.List.{get_or_read, get_or-take, get_or_append_left, get_or_push, length-take-le, length-append}
 use Rattle.exact_cross.specs.declared.slope.Slope.{Slope}
@@ -12,7 +13,7 @@ use Rattle.hulls.specs.Vertices.{vertex_at, lifted_slope, AreLeftOf, IsNoTurn}
 use Rattle.hulls.specs.Hull.{IsUnderChord, IsUpperHull, IsUnderLine, IsVertexOf, IsPairOf, IsHullOn, IsHullUpTo, IsHullOf, IsFittable, IsShadowed, IsNextVertex, lower_of}
 use Rattle.hulls.proofs.RaisedSlopes.{at_least-out, at_least-in, under-out, under-in}
 use Rattle.hulls.proofs.Tangents.{IsTangent, place_before, not_right, chord_gaps, chord_from_gaps}
-use Rattle.hulls.proofs.PairSteps.{slope_positive, IsPairOf-takes}
+use Rattle.hulls.proofs.PairSteps.{slope_positive, IsPairOf-keeps, IsPairOf-takes}
 use Rattle.hulls.proofs.Growth.{IsKept, IsUpperHull-later, IsUpperHull-skips, IsUpperHull-grows}
 
 -- the vertex that was read, and the slope from it
@@ -31,12 +32,12 @@ pub run_positive : (low next : Vertex) (lift : ℕ) (slope : Slope) → low.x < 
 run_positive low next lift slope right own = rw own (omega arith)
 
 -- the slope between two vertices is that of their points
-pub lifted_is_steep : (q : Points) (eps lift : ℕ) (low high : Vertex) → IsVertexOf q low → IsVertexOf q high → lift ≡ 2 * eps →
+lifted_is_steep : (q : Points) (eps lift : ℕ) (low high : Vertex) → IsVertexOf q low → IsVertexOf q high → lift ≡ 2 * eps →
     lifted_slope low high lift ≡ steep_slope q eps low.place high.place
 lifted_is_steep q eps lift low high is_low is_high same = rw (is_low.x, is_low.height, is_high.x, is_high.height, same) refl
 
 -- the vertices from the tangent's on rise to the new point
-pub place_of_next : (q : Points) (eps s e paired k : ℕ) (hull : Hull) → IsHullUpTo q eps s e paired hull → hull.tangent ≤ k → k < length hull.vertices.items →
+place_of_next : (q : Points) (eps s e paired k : ℕ) (hull : Hull) → IsHullUpTo q eps s e paired hull → hull.tangent ≤ k → k < length hull.vertices.items →
     (vertex_at hull.vertices.items k).place < e
 place_of_next q eps s e paired k hull is low inside =
     place_before q eps s (λ n. (vertex_at hull.vertices.items n).place) hull.tangent (length hull.vertices.items - 1) e k is.upper_hull low (omega arith)
@@ -62,24 +63,47 @@ pub pair_positive : (q : Points) (eps s e : ℕ) (hull : Hull) (next : Vertex) �
 pair_positive q eps s e hull next is new =
     slope_positive q eps s e (lower_of hull) hull.upper hull.slope.slope new.right (omega (arith, new.place, new.point.inside)) is.pair
 
--- the new point lies under a line from the low one exactly where the slope to it is at most the line's
-pub under_line-from_slope : (q : Points) (e : ℕ) (low next : Vertex) (m : Slope) → IsVertexOf q low → low.place < e → IsNextVertex q e next →
-    IsAtMost (lifted_slope low next 0) m → IsUnderLine q low.place m e
-under_line-from_slope q e low next m point before new most =
-    let at_place : IsAtMost (steep_slope q 0 low.place next.place) m = rw (lifted_is_steep q 0 0 low next point new.point refl) at most in
+-- the new point lies under the pair's line exactly where the slope to it is at most the pair's
+pub under_line-from_slope : (q : Points) (eps s e : ℕ) (hull : Hull) (next : Vertex) → IsHullOf q eps s e hull → IsNextVertex q e next →
+    IsAtMost (lifted_slope (vertex_at hull.vertices.items hull.tangent) next 0) hull.slope.slope → IsUnderLine q (lower_of hull) hull.slope.slope e
+under_line-from_slope q eps s e hull next is new most =
+    let low = vertex_at hull.vertices.items hull.tangent in
+    let m = hull.slope.slope in
+    let place = place_of_next q eps s e e hull.tangent hull is (omega arith) is.inside in
+    let at_place : IsAtMost (steep_slope q 0 low.place next.place) m = rw (lifted_is_steep q 0 0 low next (is.are_points hull.tangent (omega arith) is.inside) new.point refl) at most in
     let at_e : IsAtMost (steep_slope q 0 low.place e) m = rw new.place at at_place in
     let inside : e < q.count = omega (arith, new.place, new.point.inside) in
     under-in q low.place m e (omega (arith, at_least-out q 0 low.place e m (not_right q low.place e new.right (omega arith) inside) at_e))
 
-pub slope-from_under_line : (q : Points) (e : ℕ) (low next : Vertex) (m : Slope) → IsVertexOf q low → low.place < e → IsNextVertex q e next →
-    IsUnderLine q low.place m e → IsAtMost (lifted_slope low next 0) m
-slope-from_under_line q e low next m point before new under =
+pub slope-from_under_line : (q : Points) (eps s e : ℕ) (hull : Hull) (next : Vertex) → IsHullOf q eps s e hull → IsNextVertex q e next →
+    IsUnderLine q (lower_of hull) hull.slope.slope e → IsAtMost (lifted_slope (vertex_at hull.vertices.items hull.tangent) next 0) hull.slope.slope
+slope-from_under_line q eps s e hull next is new under =
+    let low = vertex_at hull.vertices.items hull.tangent in
+    let m = hull.slope.slope in
+    let place = place_of_next q eps s e e hull.tangent hull is (omega arith) is.inside in
     let inside : e < q.count = omega (arith, new.place, new.point.inside) in
     let at_e : IsAtMost (steep_slope q 0 low.place e) m = at_least-in q 0 low.place e m (not_right q low.place e new.right (omega arith) inside) (omega (arith, under-out q low.place m e under)) in
-    rw (lifted_is_steep q 0 0 low next point new.point refl, new.place) at_e
+    rw (lifted_is_steep q 0 0 low next (is.are_points hull.tangent (omega arith) is.inside) new.point refl, new.place) at_e
+
+-- the pair stays
+pub IsHullUpTo-keeps : (q : Points) (eps s e lift : ℕ) (hull : Hull) (next : Vertex) → IsHullOf q eps s e hull → IsNextVertex q e next → lift ≡ 2 * eps → eps ≤ 1048576 →
+    IsUnderLine q (lower_of hull) hull.slope.slope e → IsAtMost hull.slope.slope (lifted_slope (vertex_at hull.vertices.items hull.tangent) next lift) →
+    IsHullUpTo q eps s e (e + 1) hull
+IsHullUpTo-keeps q eps s e lift hull next is new twice bounded under most =
+    let low = vertex_at hull.vertices.items hull.tangent in
+    let m = hull.slope.slope in
+    let at_place : IsAtMost m (steep_slope q eps low.place next.place) = rw (lifted_is_steep q eps lift low next (is.are_points hull.tangent (omega arith) is.inside) new.point twice) at most in
+    let at_e : IsAtMost m (steep_slope q eps low.place e) = rw new.place at at_place in
+    record {
+      inside = is.inside;
+      few = is.few;
+      are_points = is.are_points;
+      upper_hull = is.upper_hull;
+      pair = IsPairOf-keeps q eps s e low.place hull.upper m new.right (omega (arith, new.place, new.point.inside)) (omega (arith, new.low, new.point.height, ap q.y new.place)) bounded is.pair under at_e;
+    }
 
 -- what the walk says of the places
-IsTangent-from_walk : (q : Points) (eps s e lift at : ℕ) (hull : Hull) (next : Vertex) → IsHullUpTo q eps s e e hull → IsNextVertex q e next → lift ≡ 2 * eps →
+IsTangent-from_walk : (q : Points) (eps s e lift at : ℕ) (hull : Hull) (next : Vertex) → IsHullOf q eps s e hull → IsNextVertex q e next → lift ≡ 2 * eps →
     hull.tangent ≤ at → at < length hull.vertices.items →
     ((k : ℕ) → hull.tangent ≤ k → k < at → IsAtMost (lifted_slope (vertex_at hull.vertices.items k) next lift) (lifted_slope (vertex_at hull.vertices.items (k + 1)) next lift) → ⊥) →
     (at + 1 < length hull.vertices.items → IsAtMost (lifted_slope (vertex_at hull.vertices.items at) next lift) (lifted_slope (vertex_at hull.vertices.items (at + 1)) next lift)) →
@@ -97,19 +121,22 @@ IsTangent-from_walk q eps s e lift at hull next is new twice onward inside falls
     }
 
 -- the vertex that the walk found and the new point are the pair
-pub IsHullUpTo-takes : (q : Points) (eps s e lift at : ℕ) (hull : Hull) (next : Vertex) (slope : Slope) → IsHullUpTo q eps s e e hull → IsNextVertex q e next → lift ≡ 2 * eps → IsFittable q eps s e →
-    (IsAtMost hull.slope.slope (steep_slope q eps (vertex_at hull.vertices.items hull.tangent).place e) → ⊥) →
+pub IsHullUpTo-takes : (q : Points) (eps s e lift at : ℕ) (hull : Hull) (next : Vertex) (slope : Slope) → IsHullOf q eps s e hull → IsNextVertex q e next → lift ≡ 2 * eps → IsFittable q eps s e →
+    (IsAtMost hull.slope.slope (lifted_slope (vertex_at hull.vertices.items hull.tangent) next lift) → ⊥) →
     hull.tangent ≤ at → at < length hull.vertices.items →
     ((k : ℕ) → hull.tangent ≤ k → k < at → IsAtMost (lifted_slope (vertex_at hull.vertices.items k) next lift) (lifted_slope (vertex_at hull.vertices.items (k + 1)) next lift) → ⊥) →
     (at + 1 < length hull.vertices.items → IsAtMost (lifted_slope (vertex_at hull.vertices.items at) next lift) (lifted_slope (vertex_at hull.vertices.items (at + 1)) next lift)) →
     slope ≡ lifted_slope (vertex_at hull.vertices.items at) next lift → IsHullOn q eps s e (e + 1) hull.vertices.items at next.place slope
 IsHullUpTo-takes q eps s e lift at hull next slope is new twice servable below onward inside falls stops own =
     let vertices = hull.vertices.items in
+    let low = vertex_at vertices hull.tangent in
+    let low_slope : lifted_slope low next lift ≡ steep_slope q eps low.place e =
+    lifted_is_steep q eps lift low next (is.are_points hull.tangent (omega arith) is.inside) new.point twice ∙ ap (steep_slope q eps low.place) new.place in
     let new_slope : lifted_slope (vertex_at vertices at) next lift ≡ steep_slope q eps (vertex_at vertices at).place e =
     lifted_is_steep q eps lift (vertex_at vertices at) next (is.are_points at onward inside) new.point twice ∙ ap (steep_slope q eps (vertex_at vertices at).place) new.place in
     let in_points : e < q.count = omega (arith, new.place, new.point.inside) in
     let pair = IsPairOf-takes q eps s e hull.upper hull.slope.slope (λ k. (vertex_at vertices k).place) hull.tangent (length vertices - 1) at new.right in_points servable is.pair is.upper_hull
-    (IsTangent-from_walk q eps s e lift at hull next is new twice onward inside falls stops) below in
+    (IsTangent-from_walk q eps s e lift at hull next is new twice onward inside falls stops) (rw low_slope at below) in
     record {
       inside = inside;
       few = is.few;
@@ -136,24 +163,24 @@ no_turn-from_under q first second third is_first is_second is_third left right u
     rw (lifted_is_steep q 0 0 first second is_first is_second refl, lifted_is_steep q 0 0 second third is_second is_third refl) order
 
 -- the vertices that stay, and the new one
-pub kept_vertex : (vertices : List Vertex) (next : Vertex) (kept k : ℕ) → kept ≤ length vertices → k < kept → vertex_at (take kept vertices ++ next ∷ []) k ≡ vertex_at vertices k
+kept_vertex : (vertices : List Vertex) (next : Vertex) (kept k : ℕ) → kept ≤ length vertices → k < kept → vertex_at (take kept vertices ++ next ∷ []) k ≡ vertex_at vertices k
 kept_vertex vertices next kept k within low =
     let there : k < length (take kept vertices) = omega (arith, length-take-le kept vertices within) in
     get_or_append_left (take kept vertices) (next ∷ []) _ k there ∙ get_or-take kept vertices k _ low
 
-pub new_vertex : (vertices : List Vertex) (next : Vertex) (kept k : ℕ) → kept ≤ length vertices → k ≡ kept → vertex_at (take kept vertices ++ next ∷ []) k ≡ next
+new_vertex : (vertices : List Vertex) (next : Vertex) (kept k : ℕ) → kept ≤ length vertices → k ≡ kept → vertex_at (take kept vertices ++ next ∷ []) k ≡ next
 new_vertex vertices next kept k within here = get_or_push (take kept vertices) next _ k (length-take-le kept vertices within ∙ sym here)
 
-pub grown_length : (vertices : List Vertex) (next : Vertex) (kept : ℕ) → kept ≤ length vertices → length (take kept vertices ++ next ∷ []) ≡ kept + 1
+grown_length : (vertices : List Vertex) (next : Vertex) (kept : ℕ) → kept ≤ length vertices → length (take kept vertices ++ next ∷ []) ≡ kept + 1
 grown_length vertices next kept within = length-append (take kept vertices) (next ∷ []) ∙ ap (λ (n : ℕ). n + 1) (length-take-le kept vertices within)
 
 -- the hull with the new point, and without the vertices that it covers
-pub IsHullUpTo-covers : (q : Points) (eps s e paired kept : ℕ) (hull : Hull) (next : Vertex) (grown : List Vertex) → IsHullUpTo q eps s e paired hull → IsNextVertex q e next →
+pub IsHullOf-covers : (q : Points) (eps s e kept : ℕ) (hull : Hull) (next : Vertex) (grown : List Vertex) → IsHullUpTo q eps s e (e + 1) hull → IsNextVertex q e next →
     hull.tangent < kept → kept ≤ length hull.vertices.items →
     ((k : ℕ) → kept ≤ k + 1 → k + 1 < length hull.vertices.items → IsNoTurn (vertex_at hull.vertices.items k) (vertex_at hull.vertices.items (k + 1)) next) →
     ((k : ℕ) → hull.tangent ≤ k → k + 2 ≡ kept → IsNoTurn (vertex_at hull.vertices.items k) (vertex_at hull.vertices.items (k + 1)) next → ⊥) →
-    grown ≡ take kept hull.vertices.items ++ next ∷ [] → IsHullOn q eps s (e + 1) paired grown hull.tangent hull.upper hull.slope.slope
-IsHullUpTo-covers q eps s e paired kept hull next grown is new some within dropped turns same =
+    grown ≡ take kept hull.vertices.items ++ next ∷ [] → IsHullOn q eps s (e + 1) (e + 1) grown hull.tangent hull.upper hull.slope.slope
+IsHullOf-covers q eps s e kept hull next grown is new some within dropped turns same =
     let old = hull.vertices.items in
     let items = take kept old ++ next ∷ [] in
     let long : length items ≡ kept + 1 = grown_length old next kept within in
@@ -161,7 +188,7 @@ IsHullUpTo-covers q eps s e paired kept hull next grown is new some within dropp
     let newest : (vertex_at items (kept - 1 + 1)).place ≡ e = ap (λ (v : Vertex). v.place) (new_vertex old next kept (kept - 1 + 1) within (omega arith)) ∙ new.place in
     let in_points : e < q.count = omega (arith, new.place, new.point.inside) in
     let right_of : (k : ℕ) → hull.tangent ≤ k → k < length old → q.x (vertex_at old k).place ≤ q.x next.place = λ k low high.
-    omega (arith, new.right.rises (vertex_at old k).place next.place (omega (arith, new.place, place_of_next q eps s e paired k hull is low high)) new.point.inside) in
+    omega (arith, new.right.rises (vertex_at old k).place next.place (omega (arith, new.place, place_of_next q eps s e (e + 1) k hull is low high)) new.point.inside) in
     let rises : (k : ℕ) → hull.tangent ≤ k → k + 1 < length old → q.x (vertex_at old k).place ≤ q.x (vertex_at old (k + 1)).place = λ k low high.
     omega (arith, new.right.rises (vertex_at old k).place (vertex_at old (k + 1)).place (is.upper_hull.rise k low (omega arith)) (is.are_points (k + 1) (omega arith) high).inside) in
     let kept_to : IsKept q (λ k. (vertex_at old k).place) hull.tangent (length old - 1) e (kept - 1) = record {
@@ -179,7 +206,7 @@ IsHullUpTo-covers q eps s e paired kept hull next grown is new some within dropp
     let upper_hull = subst (λ (n : ℕ). IsUpperHull q eps s (λ k. (vertex_at items k).place) hull.tangent n (e + 1)) last
     (IsUpperHull-grows q eps s (λ k. (vertex_at old k).place) (λ k. (vertex_at items k).place) hull.tangent (length old - 1) e hull.tangent (kept - 1) new.right in_points is.upper_hull
     (omega arith) (omega arith) kept_to place newest) in
-    subst (λ (vertices : List Vertex). IsHullOn q eps s (e + 1) paired vertices hull.tangent hull.upper hull.slope.slope) (sym same) (record {
+    subst (λ (vertices : List Vertex). IsHullOn q eps s (e + 1) (e + 1) vertices hull.tangent hull.upper hull.slope.slope) (sym same) (record {
       inside = omega (arith, long);
       few = omega (arith, long, is.few);
       are_points = λ k from to. elim (cases_lt k kept) [
@@ -187,12 +214,27 @@ IsHullUpTo-covers q eps s e paired kept hull next grown is new some within dropp
         | inr here ↦ subst (λ (v : Vertex). IsVertexOf q v) (sym (new_vertex old next kept k within (omega (arith, long)))) new.point
       ];
       upper_hull = upper_hull;
-      pair = subst (λ (v : Vertex). IsPairOf q eps s paired v.place hull.upper hull.slope.slope) (sym (kept_vertex old next kept hull.tangent within some)) is.pair;
+      pair = subst (λ (v : Vertex). IsPairOf q eps s (e + 1) v.place hull.upper hull.slope.slope) (sym (kept_vertex old next kept hull.tangent within some)) is.pair;
     })
 
+-- what the test says of every run that the hull is of
+pub over-from_test : (b : Bool) (hull : Hull) (next low : Vertex) (slope : Slope) → hull.tangent < length hull.vertices.items → low ≡ get_or hull.vertices.items hull.tangent low → slope ≡ lifted_slope low next 0 →
+    OnTrue b (IsAtMost slope hull.slope.slope → ⊥) →
+    OnTrue b ((q : Points) (eps s e : ℕ) → IsHullOf q eps s e hull → IsNextVertex q e next → IsUnderLine q (lower_of hull) hull.slope.slope e → ⊥)
+over-from_test true hull next low slope inside is own above = λ q eps s e hull_of new under.
+    above (rw (read_slope hull.vertices.items hull.tangent 0 low next slope inside is own) (slope-from_under_line q eps s e hull next hull_of new under))
+over-from_test false hull next low slope inside is own above = tt
+
+pub not_over-from_test : (b : Bool) (hull : Hull) (next low : Vertex) (slope : Slope) → hull.tangent < length hull.vertices.items → low ≡ get_or hull.vertices.items hull.tangent low → slope ≡ lifted_slope low next 0 →
+    OnFalse b (IsAtMost slope hull.slope.slope) →
+    OnFalse b ((q : Points) (eps s e : ℕ) → IsHullOf q eps s e hull → IsNextVertex q e next → IsUnderLine q (lower_of hull) hull.slope.slope e)
+not_over-from_test true hull next low slope inside is own most = tt
+not_over-from_test false hull next low slope inside is own most = λ q eps s e hull_of new.
+    under_line-from_slope q eps s e hull next hull_of new (rw (read_slope hull.vertices.items hull.tangent 0 low next slope inside is own) at most)
+
 -- a shadowed point stays off the hull
-pub IsHullUpTo-skips : (q : Points) (eps s e paired : ℕ) (hull : Hull) → IsHullUpTo q eps s e paired hull → IsShadowed q eps s e → IsHullUpTo q eps s (e + 1) paired hull
-IsHullUpTo-skips q eps s e paired hull is shadow = record {
+pub IsHullOf-skips : (q : Points) (eps s e : ℕ) (hull : Hull) → IsHullUpTo q eps s e (e + 1) hull → IsShadowed q eps s e → IsHullOf q eps s (e + 1) hull
+IsHullOf-skips q eps s e hull is shadow = record {
   inside = is.inside;
   few = omega (arith, is.few);
   are_points = is.are_points;
@@ -200,10 +242,10 @@ IsHullUpTo-skips q eps s e paired hull is shadow = record {
   pair = is.pair;
 }
 
--- and so do several
-pub IsHullUpTo-skips_to : (q : Points) (eps s paired : ℕ) (hull : Hull) (gap h e : ℕ) → h + gap ≡ e → ((j : ℕ) → h ≤ j → j < e → IsShadowed q eps s j) →
-    IsHullUpTo q eps s h paired hull → IsHullUpTo q eps s e paired hull
-IsHullUpTo-skips_to q eps s paired hull zero h e here shadowed is = let same : h ≡ e = omega arith in subst (λ (n : ℕ). IsHullUpTo q eps s n paired hull) same is
-IsHullUpTo-skips_to q eps s paired hull (suc gap) h e here shadowed is =
-    IsHullUpTo-skips_to q eps s paired hull gap (h + 1) e (omega arith) (λ j low high. shadowed j (omega arith) high)
-    (IsHullUpTo-skips q eps s h paired hull is (shadowed h (omega arith) (omega arith)))
+-- where the pair stays, its slope is at most that from its lower place to the lifted new point
+pub stays-from_test : (b : Bool) (hull : Hull) (next low : Vertex) (lift : ℕ) (slope : Slope) → hull.tangent < length hull.vertices.items → low ≡ get_or hull.vertices.items hull.tangent low → slope ≡ lifted_slope low next lift →
+    OnFalse b (IsAtMost hull.slope.slope slope) →
+    OnFalse b ((q : Points) (eps s e : ℕ) → IsHullOf q eps s e hull → IsNextVertex q e next → lift ≡ 2 * eps → IsAtMost hull.slope.slope (steep_slope q eps (lower_of hull) e))
+stays-from_test true hull next low lift slope inside is own most = tt
+stays-from_test false hull next low lift slope inside is own most = λ q eps s e hull_of new twice.
+    rw (read_slope hull.vertices.items hull.tangent lift low next slope inside is own, lifted_is_steep q eps lift (vertex_at hull.vertices.items hull.tangent) next (hull_of.are_points hull.tangent (omega arith) inside) new.point twice, new.place) at most

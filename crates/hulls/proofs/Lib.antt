@@ -4,8 +4,6 @@ pub mod Tangents
 pub mod PairSteps
 pub mod Growth
 pub mod HullSteps
-pub mod Edges
-pub mod Waiting
 pub mod Mirrored
 pub mod NewPoint
 pub mod PairLine

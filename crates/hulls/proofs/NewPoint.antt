@@ -1,10 +1,9 @@
 -- What the tests of a new point against the two lines say of the run with that point.
-use Rattle.std.proofs.Common.{◌≡◌, Bool, true, false, not, ℕ, zero, suc, refl, min, add-zero, ◌+◌, ◌*◌, ◌-◌, ◌^◌, ◌<◌, ◌≤◌, ◌∙◌, pos, ◌-ℤ◌, inl, inr, ap, subst, sym, arith}
-use Rattle.std.specs.Bool.{OnTrue, OnFalse}
+use Rattle.std.proofs.Common.{◌≡◌, Bool, true, false, ℕ, ◌+◌, ◌*◌, ◌-◌, ◌^◌, ◌<◌, ◌≤◌, ◌∙◌, pos, ◌-ℤ◌, inl, inr, ap, subst, sym, arith}
+use Rattle.std.specs.Bool.{OnFalse}
 use Rattle.std.proofs.lemmas.Int.{ints}
-use Rattle.std.proofs.lemmas.Bool.{cases_lt, true≢false, false≢true}
+use Rattle.std.proofs.lemmas.Bool.{cases_lt}
 use borrow.Author.Differences.{up, down}
-use Rattle.exact_cross.specs.declared.slope.Slope.{Slope}
 use Rattle.exact_cross.specs.declared.segment.Side.TheVariants.{Over, Under}
 use Rattle.exact_cross.specs.declared.segment.Witness.{Witness}
 use Rattle.exact_cross.specs.Points.{Points, IsAscending}
@@ -13,16 +12,14 @@ use Rattle.exact_cross.specs.Slopes.{IsAtMost, steep_slope, flat_slope}
 use Rattle.exact_cross.specs.Steep.{IsFlatPair}
 use Rattle.exact_cross.specs.Witnesses.{IsOver, IsUnder}
 use Rattle.exact_cross.specs.Cuts.{IsCutOf}
-use Rattle.exact_cross.proofs.CallerLemmas.{IsAtMost-out, IsAtMost-in, IsAtMost-trans, IsFollowed, IsOver-in, IsUnder-in, IsOver-no_line, IsUnder-no_line, sides_exclude, flat_at_most_steep, some_line-longer, some_line-two_places, some_line-one_place}
+use Rattle.exact_cross.proofs.CallerLemmas.{IsAtMost-out, IsAtMost-in, IsFollowed, IsOver-in, IsUnder-in, IsOver-no_line, IsUnder-no_line, sides_exclude, flat_at_most_steep, some_line-longer, some_line-two_places, some_line-one_place}
 use Rattle.hulls.specs.declared.hull.Hull.{Hull}
 use Rattle.hulls.specs.declared.fitting.Hulls.{Hulls}
 use Rattle.hulls.specs.Slopes.{steepest}
-use Rattle.hulls.specs.Vertices.{StaysUnder}
 use Rattle.hulls.specs.Hull.{IsUnderLine, IsHullOf, IsFittable, IsShadowed, IsNextVertex, RiseRight, lower_of}
-use Rattle.hulls.specs.Hulls.{StandsFor, IsNext, AreNext, mirrored, IsOutside}
-use Rattle.hulls.proofs.RaisedSlopes.{at_most-out, at_most-in, under-out, under-in, on_own_line}
-use Rattle.hulls.proofs.Waiting.{low_point, IsHullWith-keeps, IsHullWith-skips}
-use Rattle.hulls.proofs.PairSteps.{lower_place, slope_positive, steepest_above}
+use Rattle.hulls.specs.Hulls.{StandsFor, IsNext, mirrored}
+use Rattle.hulls.proofs.RaisedSlopes.{under-out, under-in, on_own_line}
+use Rattle.hulls.proofs.PairSteps.{lower_place, steepest_above}
 use Rattle.hulls.proofs.Mirrored.{RiseRight-ascending, RiseRight-mirrored, IsFlatPair-from_mirrored, flat-from_mirrored, mirrored_flat-from_steep, steep-from_mirrored, mirrored-from_steep}
 
 -- the next point as a vertex, and upside down
@@ -147,14 +144,14 @@ is_over hulls p eps s e x y low next over =
     IsOver-in p eps (lower_of hulls.steep) hulls.steep.upper e next.stands.ascends pair.rises pair.to_end next.more
     (over-not p eps s e hulls.steep (RiseRight-ascending p next.stands.ascends) next.more next.stands.steep more over)
 
-no_line-over : (hulls : Hulls) (p : Points) (eps s e x y : ℕ) → y < 2 ^ 32 → IsNext hulls p eps s e x y →
+pub no_line-over : (hulls : Hulls) (p : Points) (eps s e x y : ℕ) → y < 2 ^ 32 → IsNext hulls p eps s e x y →
     (IsUnderLine p (lower_of hulls.steep) hulls.steep.slope.slope e → ⊥) → SomeLineFits p eps s (e + 1) → ⊥
 no_line-over hulls p eps s e x y low next over =
     let more = is_over-several hulls p eps s e x y low next over in
     IsOver-no_line p eps s e (lower_of hulls.steep) hulls.steep.upper next.stands.ascends next.more (next.stands.steep.pair.pair.steep more).pair
     (is_over hulls p eps s e x y low next over)
 
-IsCutOf-over : (hulls : Hulls) (p : Points) (eps s e x y place : ℕ) (w : Witness) → y < 2 ^ 32 → place ≡ e → IsNext hulls p eps s e x y →
+pub IsCutOf-over : (hulls : Hulls) (p : Points) (eps s e x y place : ℕ) (w : Witness) → y < 2 ^ 32 → place ≡ e → IsNext hulls p eps s e x y →
     (IsUnderLine p (lower_of hulls.steep) hulls.steep.slope.slope e → ⊥) →
     w ≡ record { p = lower_of hulls.steep; q = hulls.steep.upper; r = place; side = Over } → IsCutOf p eps s e w
 IsCutOf-over hulls p eps s e x y place w low here next over same =
@@ -188,14 +185,14 @@ is_under hulls p eps s e x y low next over =
     (low_j hulls.flat.upper (omega (arith, pair.from_start, pair.rises)) (omega (arith, pair.to_end))) (low_j e (omega (arith, more)) (omega arith))
     (low_j (lower_of hulls.flat) pair.from_start (omega (arith, pair.rises, pair.to_end))) (low_j hulls.flat.upper (omega (arith, pair.from_start, pair.rises)) (omega (arith, pair.to_end))) most))
 
-no_line-under : (hulls : Hulls) (p : Points) (eps s e x y : ℕ) → y < 2 ^ 32 → IsNext hulls p eps s e x y →
+pub no_line-under : (hulls : Hulls) (p : Points) (eps s e x y : ℕ) → y < 2 ^ 32 → IsNext hulls p eps s e x y →
     (IsUnderLine (mirrored p) (lower_of hulls.flat) hulls.flat.slope.slope e → ⊥) → SomeLineFits p eps s (e + 1) → ⊥
 no_line-under hulls p eps s e x y low next over =
     let more = is_under-several hulls p eps s e x y next over in
     IsUnder-no_line p eps s e (lower_of hulls.flat) hulls.flat.upper next.stands.ascends next.more (next.stands.flat.pair.pair.steep more).pair
     (is_under hulls p eps s e x y low next over)
 
-IsCutOf-under : (hulls : Hulls) (p : Points) (eps s e x y place : ℕ) (w : Witness) → y < 2 ^ 32 → place ≡ e → IsNext hulls p eps s e x y →
+pub IsCutOf-under : (hulls : Hulls) (p : Points) (eps s e x y place : ℕ) (w : Witness) → y < 2 ^ 32 → place ≡ e → IsNext hulls p eps s e x y →
     (IsUnderLine (mirrored p) (lower_of hulls.flat) hulls.flat.slope.slope e → ⊥) →
     w ≡ record { p = lower_of hulls.flat; q = hulls.flat.upper; r = place; side = Under } → IsCutOf p eps s e w
 IsCutOf-under hulls p eps s e x y place w low here next over same =
@@ -265,123 +262,6 @@ stays-several q eps s e hull right inside low bounded is most = elim (cases_lt (
       absurd (steepest_above q eps (lower_of hull) e (right.rises (lower_of hull) e lower.1 inside) low bounded (rw (is.pair.one (omega (arith, is.pair.some))) at most))
 ]
 
--- a point that turns a pair lies under its line
-under-from_turn : (q : Points) (eps a e : ℕ) (m : Slope) → q.x a ≤ q.x e → (IsAtMost m (steep_slope q eps a e) → ⊥) → IsUnderLine q a m e
-under-from_turn q eps a e m right turns =
-    let line = up m.rise * q.x e + q.y a * m.run + down m.rise * q.x a in
-    let lifted = (q.y e + 2 * eps) * m.run + down m.rise * q.x e + up m.rise * q.x a in
-    elim (cases_lt lifted line) [
-      | inl less ↦ under-in q a m e (omega (arith, less))
-      | inr more ↦ absurd (turns (at_most-in q eps a e m right more))
-    ]
-
--- a point that doesn't turn the steep line isn't under the flat one: behind the flat pair the steep line lies above the flat line
-not_under-from_stays : (hulls : Hulls) (p : Points) (eps s e x y : ℕ) → y < 2 ^ 32 → IsNext hulls p eps s e x y →
-    IsAtMost hulls.steep.slope.slope (steep_slope p eps (lower_of hulls.steep) e) → IsUnderLine (mirrored p) (lower_of hulls.flat) hulls.flat.slope.slope e
-not_under-from_stays hulls p eps s e x y low next stays =
-    let stands = next.stands in
-    let right = RiseRight-ascending p stands.ascends in
-    let low_j = low_to hulls p eps s e x y low next in
-    let more = stays-several p eps s e hulls.steep right next.more (omega (arith, next.at_y)) stands.bounded stands.steep stays in
-    let m = hulls.steep.slope.slope in
-    let a = lower_of hulls.steep in
-    let b = hulls.steep.upper in
-    let c = lower_of hulls.flat in
-    let d = hulls.flat.upper in
-    let steep = (stands.steep.pair.pair.steep more).pair in
-    let flat = (stands.flat.pair.pair.steep more).pair in
-    let x_ae : p.x a < p.x e = right.rises a e (omega (arith, steep.rises, steep.to_end)) next.more in
-    let x_de : p.x d < p.x e = right.rises d e flat.to_end next.more in
-    let x_cd : p.x c < p.x d = right.rises c d flat.rises (omega (arith, flat.to_end, next.more)) in
-    let under_d = stands.steep.pair.under d (omega (arith, flat.from_start, flat.rises)) flat.to_end in
-    let from_d : IsAtMost m (steep_slope p eps d e) = at_most-in p eps d e m (omega (arith, x_de))
-    (omega (arith, at_most-out p eps a e m (omega (arith, x_ae)) stays, under-out p a m d under_d)) in
-    let flatter : IsAtMost (flat_slope p eps c d) m = rw (stands.steep.pair.more more)
-    (flat_at_most_steep p eps s e c d a b stands.ascends stands.inside stands.fits flat steep) in
-    let passes = IsAtMost-trans (flat_slope p eps c d) m (steep_slope p eps d e)
-    (slope_positive p eps s e a b m right stands.inside stands.steep.pair) flatter from_d in
-    let turned = mirrored-from_steep p eps d e c d
-    (low_j d (omega (arith, flat.from_start, flat.rises)) (omega (arith, flat.to_end))) (low_j e (omega (arith, more)) (omega arith))
-    (low_j c flat.from_start (omega (arith, flat.rises, flat.to_end))) (low_j d (omega (arith, flat.from_start, flat.rises)) (omega (arith, flat.to_end))) passes in
-    rw (stands.flat.pair.more more) (under-from_flat (mirrored p) eps c d e (omega (arith, x_cd)) (omega (arith, x_de)) turned)
-
--- and a point that doesn't turn the flat line isn't over the steep one
-not_over-from_stays : (hulls : Hulls) (p : Points) (eps s e x y : ℕ) → y < 2 ^ 32 → IsNext hulls p eps s e x y →
-    IsAtMost hulls.flat.slope.slope (steep_slope (mirrored p) eps (lower_of hulls.flat) e) → IsUnderLine p (lower_of hulls.steep) hulls.steep.slope.slope e
-not_over-from_stays hulls p eps s e x y low next stays =
-    let stands = next.stands in
-    let right = RiseRight-ascending p stands.ascends in
-    let over = RiseRight-mirrored p stands.ascends in
-    let low_j = low_to hulls p eps s e x y low next in
-    let more = stays-several (mirrored p) eps s e hulls.flat over next.more (omega arith) stands.bounded stands.flat stays in
-    let m = hulls.flat.slope.slope in
-    let a = lower_of hulls.steep in
-    let b = hulls.steep.upper in
-    let c = lower_of hulls.flat in
-    let d = hulls.flat.upper in
-    let steep = (stands.steep.pair.pair.steep more).pair in
-    let flat = (stands.flat.pair.pair.steep more).pair in
-    let x_ce : p.x c < p.x e = right.rises c e (omega (arith, flat.rises, flat.to_end)) next.more in
-    let x_be : p.x b < p.x e = right.rises b e steep.to_end next.more in
-    let x_ab : p.x a < p.x b = right.rises a b steep.rises (omega (arith, steep.to_end, next.more)) in
-    let under_b = stands.flat.pair.under b (omega (arith, steep.from_start, steep.rises)) steep.to_end in
-    let from_b : IsAtMost m (steep_slope (mirrored p) eps b e) = at_most-in (mirrored p) eps b e m (omega (arith, x_be))
-    (omega (arith, at_most-out (mirrored p) eps c e m (omega (arith, x_ce)) stays, under-out (mirrored p) c m b under_b)) in
-    let low_a = low_j a steep.from_start (omega (arith, steep.rises, steep.to_end)) in
-    let low_b = low_j b (omega (arith, steep.from_start, steep.rises)) (omega (arith, steep.to_end)) in
-    let flatter : IsAtMost (flat_slope (mirrored p) eps a b) m = rw (stands.flat.pair.more more)
-    (mirrored-from_steep p eps a b c d low_a low_b (low_j c flat.from_start (omega (arith, flat.rises, flat.to_end))) (low_j d (omega (arith, flat.from_start, flat.rises)) (omega (arith, flat.to_end)))
-    (flat_at_most_steep p eps s e c d a b stands.ascends stands.inside stands.fits flat steep)) in
-    let passes = IsAtMost-trans (flat_slope (mirrored p) eps a b) m (steep_slope (mirrored p) eps b e)
-    (slope_positive (mirrored p) eps s e c d m over stands.inside stands.flat.pair) flatter from_b in
-    let turned = steep-from_mirrored p eps a b b e low_a low_b low_b (low_j e (omega (arith, more)) (omega arith)) passes in
-    rw (stands.steep.pair.more more) (under-from_flat p eps a b e (omega (arith, x_ab)) (omega (arith, x_be)) turned)
-
--- so of the two tests of a point one is made, as it turns the steep line or not
-pub not_over-either : (hulls : Hulls) (p : Points) (eps s e x y : ℕ) (falls : Bool) → IsNext hulls p eps s e x y →
-    OnTrue falls (IsAtMost hulls.steep.slope.slope (steep_slope p eps (lower_of hulls.steep) e) → ⊥) →
-    OnFalse falls (IsUnderLine p (lower_of hulls.steep) hulls.steep.slope.slope e) → IsUnderLine p (lower_of hulls.steep) hulls.steep.slope.slope e
-not_over-either hulls p eps s e x y true next turns under =
-    let right = RiseRight-ascending p next.stands.ascends in
-    let lower = lower_place p eps s e (lower_of hulls.steep) hulls.steep.upper hulls.steep.slope.slope next.stands.steep.pair in
-    let x_ae : p.x (lower_of hulls.steep) < p.x e = right.rises (lower_of hulls.steep) e lower.1 next.more in
-    under-from_turn p eps (lower_of hulls.steep) e hulls.steep.slope.slope (omega (arith, x_ae)) turns
-not_over-either hulls p eps s e x y false next turns under = under
-
-pub not_under-either : (hulls : Hulls) (p : Points) (eps s e x y : ℕ) (falls : Bool) → y < 2 ^ 32 → IsNext hulls p eps s e x y →
-    OnFalse falls (IsAtMost hulls.steep.slope.slope (steep_slope p eps (lower_of hulls.steep) e)) →
-    OnTrue falls (IsUnderLine (mirrored p) (lower_of hulls.flat) hulls.flat.slope.slope e) → IsUnderLine (mirrored p) (lower_of hulls.flat) hulls.flat.slope.slope e
-not_under-either hulls p eps s e x y true low next stays under = under
-not_under-either hulls p eps s e x y false low next stays under = not_under-from_stays hulls p eps s e x y low next stays
-
--- a point that fails its test
-pub no_line-either : (hulls : Hulls) (p : Points) (eps s e x y : ℕ) (falls : Bool) → y < 2 ^ 32 → IsNext hulls p eps s e x y →
-    OnFalse falls (IsUnderLine p (lower_of hulls.steep) hulls.steep.slope.slope e → ⊥) →
-    OnTrue falls (IsUnderLine (mirrored p) (lower_of hulls.flat) hulls.flat.slope.slope e → ⊥) → SomeLineFits p eps s (e + 1) → ⊥
-no_line-either hulls p eps s e x y true low next over under = no_line-under hulls p eps s e x y low next under
-no_line-either hulls p eps s e x y false low next over under = no_line-over hulls p eps s e x y low next over
-
-pub IsCutOf-either : (hulls : Hulls) (p : Points) (eps s e x y place : ℕ) (w : Witness) (falls : Bool) → y < 2 ^ 32 → place ≡ e → IsNext hulls p eps s e x y →
-    OnFalse falls (IsUnderLine p (lower_of hulls.steep) hulls.steep.slope.slope e → ⊥) →
-    OnTrue falls (IsUnderLine (mirrored p) (lower_of hulls.flat) hulls.flat.slope.slope e → ⊥) →
-    OnFalse falls (w ≡ record { p = lower_of hulls.steep; q = hulls.steep.upper; r = place; side = Over }) →
-    OnTrue falls (w ≡ record { p = lower_of hulls.flat; q = hulls.flat.upper; r = place; side = Under }) → IsCutOf p eps s e w
-IsCutOf-either hulls p eps s e x y place w true low here next over under steep flat = IsCutOf-under hulls p eps s e x y place w low here next under flat
-IsCutOf-either hulls p eps s e x y place w false low here next over under steep flat = IsCutOf-over hulls p eps s e x y place w low here next over steep
-
--- what the answer of a test says
-pub outside-in : (P : Type 0) (b : Bool) → OnTrue b (P → ⊥) → OnFalse b P → IsOutside b P
-outside-in P true over under = over
-outside-in P false over under = under
-
-pub outside-true : {P : Type 0} (b : Bool) → b ≡ true → IsOutside b P → P → ⊥
-outside-true true same h = h
-outside-true false same h = absurd (false≢true same)
-
-pub outside-false : {P : Type 0} (b : Bool) → b ≡ false → IsOutside b P → P
-outside-false true same h = absurd (true≢false same)
-outside-false false same h = h
-
 -- where the flat pair stays, the point is shadowed, and where the steep pair stays, it is shadowed upside down
 pub IsShadowed-steep : (hulls : Hulls) (p : Points) (eps s e x y : ℕ) (b : Bool) → y < 2 ^ 32 → IsNext hulls p eps s e x y →
     OnFalse b (IsAtMost hulls.flat.slope.slope (steep_slope (mirrored p) eps (lower_of hulls.flat) e)) → OnFalse b (IsShadowed p eps s e)
@@ -445,110 +325,6 @@ StandsFor-one hulls p eps place x y ascends inside low last bound bounded steep 
   flat = flat;
 }
 
--- a point that turns neither line is taken in by moving on
-passed : Hulls → ℕ → Hulls
-passed hulls last = record { steep = hulls.steep; flat = hulls.flat; eps = hulls.eps; last = last }
-
-StandsFor-passes : (hulls : Hulls) (p : Points) (eps s e x y : ℕ) → y < 2 ^ 32 → IsNext hulls p eps s e x y →
-    IsAtMost hulls.steep.slope.slope (steep_slope p eps (lower_of hulls.steep) e) →
-    IsAtMost hulls.flat.slope.slope (steep_slope (mirrored p) eps (lower_of hulls.flat) e) → StandsFor (passed hulls e) p eps s (e + 1)
-unfolding passed
-StandsFor-passes hulls p eps s e x y low next steep flat =
-    let not_over = not_over-from_stays hulls p eps s e x y low next flat in
-    let not_under = not_under-from_stays hulls p eps s e x y low next steep in
-    let point = IsNextVertex-steep hulls p eps s e x y e low refl next in
-    let turned = IsNextVertex-flat hulls p eps s e x y e refl next in
-    let fits = fits-longer hulls p eps s e x y low next not_over not_under in
-    StandsFor-longer hulls (passed hulls e) p eps s e x y low next fits
-    (IsHullWith-skips p eps s e hulls.steep (IsHullWith-keeps p eps s e hulls.steep (record { x = x; height = y; place = e }) next.stands.steep point next.stands.bounded not_over steep)
-    (IsShadowed-steep hulls p eps s e x y false low next flat))
-    (IsHullWith-skips (mirrored p) eps s e hulls.flat (IsHullWith-keeps (mirrored p) eps s e hulls.flat (record { x = x; height = 4294967295 - y; place = e }) next.stands.flat turned next.stands.bounded not_under flat)
-    (IsShadowed-flat hulls p eps s e x y false low next steep)) refl refl
-
--- and so are several
-StandsFor-passes_all : (hulls : Hulls) (p : Points) (eps s e count : ℕ) → StandsFor hulls p eps s e → e + count ≤ p.count →
-    ((j : ℕ) → e ≤ j → j < e + count → p.y j < 2 ^ 32) →
-    ((j : ℕ) → e ≤ j → j < e + count → IsAtMost hulls.steep.slope.slope (steep_slope p eps (lower_of hulls.steep) j)) →
-    ((j : ℕ) → e ≤ j → j < e + count → IsAtMost hulls.flat.slope.slope (steep_slope (mirrored p) eps (lower_of hulls.flat) j)) →
-    StandsFor (passed hulls (hulls.last + count)) p eps s (e + count)
-unfolding passed
-StandsFor-passes_all hulls p eps s e zero stands more low steep flat = subst (λ (n : ℕ). StandsFor (passed hulls n) p eps s (e + zero)) (sym (add-zero hulls.last)) (subst (λ (n : ℕ). StandsFor hulls p eps s n) (sym (add-zero e)) stands)
-StandsFor-passes_all hulls p eps s e (suc count) stands more low steep flat =
-    let before = StandsFor-passes_all hulls p eps s e count stands (omega (arith, more)) (λ j from to. low j from (omega (arith, to))) (λ j from to. steep j from (omega (arith, to))) (λ j from to. flat j from (omega (arith, to))) in
-    let place = e + count in
-    let next : IsNext (passed hulls (hulls.last + count)) p eps s place (p.x place) (p.y place) = record { stands = before; more = omega (arith, more); at_x = refl; at_y = refl } in
-    let after = StandsFor-passes (passed hulls (hulls.last + count)) p eps s place (p.x place) (p.y place) (low place (omega arith) (omega arith)) next (steep place (omega arith) (omega arith)) (flat place (omega arith) (omega arith)) in
-    let last : place ≡ hulls.last + suc count = omega (arith, stands.last) in
-    let longer : place + 1 ≡ e + suc count = omega arith in
-    subst (λ (n : ℕ). StandsFor (passed hulls n) p eps s (e + suc count)) last (subst (λ (n : ℕ). StandsFor (passed hulls place) p eps s n) longer after)
-
--- the first of several next places
-pub first_next : (hulls : Hulls) (p : Points) (eps s e count x y x_last y_last : ℕ) → AreNext hulls p eps s e count x y x_last y_last → IsNext hulls p eps s e x y
-first_next hulls p eps s e count x y x_last y_last next = record {
-  stands = next.stands;
-  more = omega (arith, next.some, next.more);
-  at_x = next.at_x;
-  at_y = next.at_y;
-}
-
-not_right : (p : Points) (i j : ℕ) → IsAscending p → i ≤ j → j < p.count → p.x i ≤ p.x j
-not_right p i j ascends order inside = elim (cases_lt i j) [
-  | inl before ↦ let less : p.x i < p.x j = ascends.x_rises i j before inside in omega arith
-  | inr same ↦ let equal : i ≡ j = omega arith in omega (arith, ap p.x equal)
-]
-
--- each of them lies between the first and the last
-between_ends : (hulls : Hulls) (p : Points) (eps s e count x y x_last y_last j : ℕ) → AreNext hulls p eps s e count x y x_last y_last → e ≤ j → j < e + count →
-    (x ≤ p.x j) × (p.x j ≤ x_last) × (y ≤ p.y j) × (p.y j ≤ y_last)
-between_ends hulls p eps s e count x y x_last y_last j next from to =
-    let ascends = next.stands.ascends in
-    let last = e + count - 1 in (
-      omega (arith, next.at_x, not_right p e j ascends from (omega (arith, to, next.more))),
-      omega (arith, next.last_x, not_right p j last ascends (omega (arith, to)) (omega (arith, next.some, next.more))),
-      omega (arith, next.at_y, ascends.y_never_falls e j from (omega (arith, to, next.more))),
-      omega (arith, next.last_y, ascends.y_never_falls j last (omega (arith, to)) (omega (arith, next.some, next.more))),
-    )
-
-pub ends_in_order : (hulls : Hulls) (p : Points) (eps s e count x y x_last y_last : ℕ) → AreNext hulls p eps s e count x y x_last y_last → (x ≤ x_last) × (y ≤ y_last)
-ends_in_order hulls p eps s e count x y x_last y_last next =
-    let ends = between_ends hulls p eps s e count x y x_last y_last e next (omega arith) (omega (arith, next.some)) in (omega (arith, ends.0, ends.1), omega (arith, ends.2, ends.3))
-
--- none of them turns a line that none turns which lies between the corners
-pub passes_steep : (hulls : Hulls) (p : Points) (eps s e count x y x_last y_last lift : ℕ) → AreNext hulls p eps s e count x y x_last y_last → lift ≡ 2 * eps →
-    ((x' h : ℕ) → x ≤ x' → x' ≤ x_last → min y y_last ≤ h → StaysUnder hulls.steep.low hulls.steep.slope.slope x' h lift) →
-    (j : ℕ) → e ≤ j → j < e + count → IsAtMost hulls.steep.slope.slope (steep_slope p eps (lower_of hulls.steep) j)
-passes_steep hulls p eps s e count x y x_last y_last lift next lifted stays j from to =
-    let point = low_point p eps s e e hulls.steep next.stands.steep in
-    let ends = between_ends hulls p eps s e count x y x_last y_last j next from to in
-    let here = stays (p.x j) (p.y j) ends.0 ends.1 (omega (arith, ends.2)) in
-    rw (point.x, point.height, lifted) at here
-
-pub passes_flat : (hulls : Hulls) (p : Points) (eps s e count x y x_last y_last lift : ℕ) → AreNext hulls p eps s e count x y x_last y_last → lift ≡ 2 * eps →
-    ((x' h : ℕ) → x ≤ x' → x' ≤ x_last → min (4294967295 - y) (4294967295 - y_last) ≤ h → StaysUnder hulls.flat.low hulls.flat.slope.slope x' h lift) →
-    (j : ℕ) → e ≤ j → j < e + count → IsAtMost hulls.flat.slope.slope (steep_slope (mirrored p) eps (lower_of hulls.flat) j)
-passes_flat hulls p eps s e count x y x_last y_last lift next lifted stays j from to =
-    let point = low_point (mirrored p) eps s e e hulls.flat next.stands.flat in
-    let ends = between_ends hulls p eps s e count x y x_last y_last j next from to in
-    let here = stays (p.x j) (4294967295 - p.y j) ends.0 ends.1 (omega (arith, ends.3)) in
-    rw (point.x, point.height, lifted) at here
-
-pub StandsFor-block : (hulls : Hulls) (p : Points) (eps s e count x y x_last y_last : ℕ) → y_last < 2 ^ 32 → AreNext hulls p eps s e count x y x_last y_last →
-    ((j : ℕ) → e ≤ j → j < e + count → IsAtMost hulls.steep.slope.slope (steep_slope p eps (lower_of hulls.steep) j)) →
-    ((j : ℕ) → e ≤ j → j < e + count → IsAtMost hulls.flat.slope.slope (steep_slope (mirrored p) eps (lower_of hulls.flat) j)) →
-    StandsFor (record { steep = hulls.steep; flat = hulls.flat; eps = hulls.eps; last = hulls.last + count }) p eps s (e + count)
-unfolding passed
-StandsFor-block hulls p eps s e count x y x_last y_last low next steep flat =
-    StandsFor-passes_all hulls p eps s e count next.stands next.more
-    (λ j from to. omega (arith, low, (between_ends hulls p eps s e count x y x_last y_last j next from to).3)) steep flat
-
 pub OnFalse-map : {P Q : Type 0} (b : Bool) → (P → Q) → OnFalse b P → OnFalse b Q
 OnFalse-map true f h = tt
 OnFalse-map false f h = f h
-
-pub OnTrue-map : {P Q : Type 0} (b : Bool) → (P → Q) → OnTrue b P → OnTrue b Q
-OnTrue-map true f h = f h
-OnTrue-map false f h = tt
-
-pub OnTrue-not : {P Q : Type 0} (b : Bool) → (P → Q) → OnFalse b P → OnTrue (not b) Q
-OnTrue-not true f h = tt
-OnTrue-not false f h = f h

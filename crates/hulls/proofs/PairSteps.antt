@@ -7,10 +7,9 @@ use Rattle.exact_cross.specs.declared.slope.Slope.{Slope}
 use Rattle.exact_cross.specs.Points.{Points}
 use Rattle.exact_cross.specs.Slopes.{IsAtMost, steep_slope}
 use Rattle.exact_cross.specs.Steep.{IsPair}
-use Rattle.exact_cross.proofs.CallerLemmas.{IsAtMost-refl, IsAtMost-trans, IsAtMost-total, IsAtMost-out}
+use Rattle.exact_cross.proofs.CallerLemmas.{IsAtMost-trans, IsAtMost-total, IsAtMost-out}
 use Rattle.hulls.specs.Slopes.{steepest}
-use Rattle.hulls.specs.Hull.{IsUnderLine, IsUpperHull, IsPairOf, IsEdgeOf, IsFittable, RiseRight}
-use Rattle.hulls.proofs.Edges.{under_steeper}
+use Rattle.hulls.specs.Hull.{IsUnderLine, IsUpperHull, IsPairOf, IsFittable, RiseRight}
 use Rattle.hulls.proofs.RaisedSlopes.{at_most-from_line, under-from_at_most, under_own_line, steeper_left}
 use Rattle.hulls.proofs.Tangents.{IsTangent, place_rises, place_before, not_right, first_under, least_under_hull, less_under_hull, shadow-from}
 
@@ -133,21 +132,27 @@ best_up_to q eps s v t last e at right inside servable hull tangent left (suc n)
       ]
     ]
 
--- a place and the new one are the pair, where no place of the run is better, and the slope from the pair's lower place is less than the pair's
-IsPairOf-best : (q : Points) (eps s e a b : ℕ) (slope : Slope) (at : ℕ) → RiseRight q → e < q.count → IsPairOf q eps s e a b slope → a ≤ at → at < e →
-    IsAtMost (steep_slope q eps at e) (steep_slope q eps a e) → (IsAtMost slope (steep_slope q eps a e) → ⊥) → ((c : ℕ) → s ≤ c → c < e → IsBest q eps e at c) →
-    IsPairOf q eps s (e + 1) at e (steep_slope q eps at e)
-IsPairOf-best q eps s e a b slope at right inside pair onward before tangent_first below best =
-    let lower = lower_place q eps s e a b slope pair in
-    let positive : 0 < slope.run = slope_positive q eps s e a b slope right (omega arith) pair in
-    let new = steep_slope q eps at e in
-    let x_te : q.x a < q.x e = right.rises a e lower.1 inside in
-    let run_new : 0 < new.run = let less : q.x at < q.x e = right.rises at e before inside in omega arith in
-    let under_old : IsAtMost (steep_slope q eps a e) slope = elim (IsAtMost-total (steep_slope q eps a e) slope) [ inl less ↦ less | inr more ↦ absurd (below more) ] in
-    let new_least : IsAtMost new slope = IsAtMost-trans new (steep_slope q eps a e) slope (omega arith) tangent_first under_old in
-    let strictly : IsAtMost slope new → ⊥ = λ most. below (IsAtMost-trans slope new (steep_slope q eps a e) run_new most tangent_first) in
+-- the tangent's place and the new one are the pair, where the slope from the lower place is less than the pair's
+pub IsPairOf-takes : (q : Points) (eps s e b : ℕ) (slope : Slope) (v : ℕ → ℕ) (t last at : ℕ) → RiseRight q → e < q.count → IsFittable q eps s e →
+    IsPairOf q eps s e (v t) b slope → IsUpperHull q eps s v t last e → IsTangent q eps v t last e at → (IsAtMost slope (steep_slope q eps (v t) e) → ⊥) →
+    IsPairOf q eps s (e + 1) (v at) e (steep_slope q eps (v at) e)
+IsPairOf-takes q eps s e b slope v t last at right inside servable pair hull tangent below =
+    let lower = lower_place q eps s e (v t) b slope pair in
+    let onward = place_rises q eps s v t last e t at hull (omega arith) tangent.onward tangent.inside in
+    let before : v at < e = place_before q eps s v t last e at hull tangent.onward tangent.inside in
+    let positive : 0 < slope.run = slope_positive q eps s e (v t) b slope right (omega arith) pair in
+    let new = steep_slope q eps (v at) e in
+    let x_te : q.x (v t) < q.x e = right.rises (v t) e lower.1 inside in
+    let run_new : 0 < new.run = let less : q.x (v at) < q.x e = right.rises (v at) e before inside in omega arith in
+    let tangent_first : IsAtMost new (steep_slope q eps (v t) e) = least_under_hull q eps s v t last e at (v t) right inside hull tangent (first_under q eps s v t last e hull) in
+    let under_old : IsAtMost (steep_slope q eps (v t) e) slope = elim (IsAtMost-total (steep_slope q eps (v t) e) slope) [ inl less ↦ less | inr more ↦ absurd (below more) ] in
+    let new_least : IsAtMost new slope = IsAtMost-trans new (steep_slope q eps (v t) e) slope (omega arith) tangent_first under_old in
+    let strictly : IsAtMost slope new → ⊥ = λ most. below (IsAtMost-trans slope new (steep_slope q eps (v t) e) run_new most tangent_first) in
     let several : (c d : ℕ) → IsPair s e c d → s + 1 < e = λ c d other. omega (arith, other.from_start, other.rises, other.to_end) in
     let old_least : (c d : ℕ) → IsPair s e c d → IsAtMost slope (steep_slope q eps c d) = λ c d other. rw (pair.more (several c d other)) ((pair.pair.steep (several c d other)).least c d other) in
+    let left : (c : ℕ) → s ≤ c → c < v t → IsAtMost (steep_slope q eps c e) (steep_slope q eps (v t) e) → ⊥ = λ c from to.
+    steeper_left q eps (v t) c e slope (right.rises c (v t) to (omega (arith, lower.1))) x_te positive (pair.under c from (omega (arith, lower.1))) below in
+    let best : (c : ℕ) → s ≤ c → c < e → IsBest q eps e (v at) c = λ c from to. best_up_to q eps s v t last e at right inside servable hull tangent left e c to from to in
     record {
       some = omega arith;
       pair = record {
@@ -168,60 +173,7 @@ IsPairOf-best q eps s e a b slope at right inside pair onward before tangent_fir
       one = λ e'. absurd (omega (arith, pair.some));
       more = λ _. refl;
       under = λ c from to. elim (cases_lt c e) [
-        | inl old ↦ under-from_at_most q eps at c e (not_right q at e right (omega arith) inside) (not_right q c e right (omega arith) inside) (best c from old).least
-        | inr here ↦ let same : c ≡ e = omega arith in rw same (under_own_line q eps at e (not_right q at e right (omega arith) inside))
+        | inl old ↦ under-from_at_most q eps (v at) c e (not_right q (v at) e right (omega arith) inside) (not_right q c e right (omega arith) inside) (best c from old).least
+        | inr here ↦ let same : c ≡ e = omega arith in rw same (under_own_line q eps (v at) e (not_right q (v at) e right (omega arith) inside))
       ];
     }
-
--- the places before the lower one are steeper to the new place
-steeper_before : (q : Points) (eps s e a b : ℕ) (slope : Slope) → RiseRight q → e < q.count → IsPairOf q eps s e a b slope → (IsAtMost slope (steep_slope q eps a e) → ⊥) →
-    (c : ℕ) → s ≤ c → c < a → IsAtMost (steep_slope q eps c e) (steep_slope q eps a e) → ⊥
-steeper_before q eps s e a b slope right inside pair below c from to =
-    let lower = lower_place q eps s e a b slope pair in
-    steeper_left q eps a c e slope (right.rises c a to (omega (arith, lower.1))) (right.rises a e lower.1 inside) (slope_positive q eps s e a b slope right (omega arith) pair)
-    (pair.under c from (omega (arith, lower.1))) below
-
--- the tangent's place and the new one are the pair, where the slope from the lower place is less than the pair's
-pub IsPairOf-takes : (q : Points) (eps s e b : ℕ) (slope : Slope) (v : ℕ → ℕ) (t last at : ℕ) → RiseRight q → e < q.count → IsFittable q eps s e →
-    IsPairOf q eps s e (v t) b slope → IsUpperHull q eps s v t last e → IsTangent q eps v t last e at → (IsAtMost slope (steep_slope q eps (v t) e) → ⊥) →
-    IsPairOf q eps s (e + 1) (v at) e (steep_slope q eps (v at) e)
-IsPairOf-takes q eps s e b slope v t last at right inside servable pair hull tangent below =
-    IsPairOf-best q eps s e (v t) b slope (v at) right inside pair (place_rises q eps s v t last e t at hull (omega arith) tangent.onward tangent.inside)
-    (place_before q eps s v t last e at hull tangent.onward tangent.inside) (least_under_hull q eps s v t last e at (v t) right inside hull tangent (first_under q eps s v t last e hull)) below
-    (λ c from to. best_up_to q eps s v t last e at right inside servable hull tangent (steeper_before q eps s e (v t) b slope right inside pair below) e c to from to)
-
--- where the slope from the lower place to the new one is no less than the edge's, no place after it is better
-best_by_edge : (q : Points) (eps s e a : ℕ) (edge : Slope) → RiseRight q → e < q.count → a < e → IsFittable q eps s e → IsEdgeOf q eps s e a edge → IsAtMost edge (steep_slope q eps a e) →
-    ((c : ℕ) → s ≤ c → c < a → IsAtMost (steep_slope q eps c e) (steep_slope q eps a e) → ⊥) → (n c : ℕ) → c < n → s ≤ c → c < e → IsBest q eps e a c
-best_by_edge q eps s e a edge right inside before servable is most left zero c below from to = absurd (omega arith)
-best_by_edge q eps s e a edge right inside before servable is most left (suc n) c below from to =
-    let new = steep_slope q eps a e in
-    elim (cases_lt c a) [
-      | inl early ↦
-          let apart = left c from early in
-          record { least = elim (IsAtMost-total (steep_slope q eps c e) new) [ inl less ↦ absurd (apart less) | inr more ↦ more ]; first = λ ties. absurd (apart ties) }
-      | inr on ↦ elim (cases_lt a c) [
-        | inr here ↦ let same : c ≡ a = omega arith in rw same (record { least = IsAtMost-refl new; first = λ ties. omega arith })
-        | inl after ↦ elim (is.under c after to) [
-          | inl under ↦ record {
-            least = at_most-from_line q eps a c e new (not_right q a e right (omega arith) inside) (not_right q c e right (omega arith) inside)
-                (under_steeper q a c edge new (not_right q a c right on (omega arith)) is.positive most under) (IsAtMost-refl new);
-            first = λ ties. on;
-          }
-          | inr shadow ↦
-              let behind = shadow-from q eps s c e right to inside servable shadow in
-              let d = behind.0 in
-              let best = best_by_edge q eps s e a edge right inside before servable is most left n d (omega (arith, behind.2)) behind.1 (omega (arith, behind.2)) in
-              let run_d : 0 < (steep_slope q eps d e).run = let less : q.x d < q.x e = right.rises d e (omega (arith, behind.2)) inside in omega arith in
-              record { least = IsAtMost-trans new (steep_slope q eps d e) (steep_slope q eps c e) run_d best.least behind.3; first = λ ties. on }
-        ]
-      ]
-    ]
-
--- so the lower place and the new one are the pair
-pub IsPairOf-turns : (q : Points) (eps s e a b : ℕ) (slope edge : Slope) → RiseRight q → e < q.count → IsFittable q eps s e → IsPairOf q eps s e a b slope →
-    IsEdgeOf q eps s e a edge → IsAtMost edge (steep_slope q eps a e) → (IsAtMost slope (steep_slope q eps a e) → ⊥) → IsPairOf q eps s (e + 1) a e (steep_slope q eps a e)
-IsPairOf-turns q eps s e a b slope edge right inside servable pair is most below =
-    let lower = lower_place q eps s e a b slope pair in
-    IsPairOf-best q eps s e a b slope a right inside pair (omega arith) lower.1 (IsAtMost-refl (steep_slope q eps a e)) below
-    (λ c from to. best_by_edge q eps s e a edge right inside lower.1 servable is most (steeper_before q eps s e a b slope right inside pair below) e c to from to)

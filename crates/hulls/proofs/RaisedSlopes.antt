@@ -1,6 +1,5 @@
 -- Slopes to a lifted point, as lines: a slope is at most that from c to eps above e exactly where the line through c with it passes under there.
-use Rattle.std.proofs.Common.{◌≡◌, ℕ, ◌+◌, ◌*◌, ◌-◌, ◌<◌, ◌≤◌, ℤ, pos, ◌-ℤ◌, ◌*ℤ◌, ◌≤ℤ◌, inl, inr, ap, arith}
-use Rattle.std.proofs.Math.Nat.{mul-le-mul_right, mul-le-mul_left}
+use Rattle.std.proofs.Common.{◌≡◌, ℕ, ◌+◌, ◌*◌, ◌-◌, ◌<◌, ◌≤◌, ℤ, pos, ◌-ℤ◌, ◌*ℤ◌, inl, inr, ap, arith}
 use Rattle.std.proofs.lemmas.Int.{ints}
 use Rattle.std.proofs.lemmas.Bool.{cases_lt}
 use borrow.Author.Differences.{up, down}
@@ -8,8 +7,6 @@ use Rattle.exact_cross.specs.declared.slope.Slope.{Slope}
 use Rattle.exact_cross.specs.Points.{Points}
 use Rattle.exact_cross.specs.Slopes.{IsAtMost, steep_slope}
 use Rattle.exact_cross.proofs.CallerLemmas.{IsAtMost-out, IsAtMost-in}
-use Rattle.hulls.specs.declared.vertex.Vertex.{Vertex}
-use Rattle.hulls.specs.Vertices.{StaysUnder}
 use Rattle.hulls.specs.Hull.{IsUnderLine}
 use Rattle.hulls.proofs.Chords.{less_steep_left}
 
@@ -122,40 +119,3 @@ steeper_left q eps a c e m left right positive under below most =
           spans (omega arith) positive (under-out q a m c under) less in
           omega (arith, strictly, at_least-out q eps c e own (omega arith) most, on_own_line q eps a e (omega arith))
     ]
-
--- a point no lower than another one, and not to its right beside a slope that rises, nor to its left beside one that falls
-pub stays-rising : (low : Vertex) (m : Slope) (lift x h x' h' : ℕ) → pos 0 ≤ℤ m.rise → x' ≤ x → h ≤ h' → StaysUnder low m x h lift → StaysUnder low m x' h' lift
-stays-rising low m lift x h x' h' rising left higher stays =
-    let f : Slope = record { rise = pos (h + lift) -ℤ pos low.height; run = x - low.x } in
-    let f' : Slope = record { rise = pos (h' + lift) -ℤ pos low.height; run = x' - low.x } in
-    let k = up m.rise - down m.rise in
-    let parts : up m.rise ≡ down m.rise + k = omega (arith, ints) in
-    let gap : x' - low.x ≤ x - low.x = omega arith in
-    IsAtMost-in m f' (omega (
-      arith,
-      IsAtMost-out m f stays,
-      difference_scaled (h + lift) low.height m.run,
-      difference_scaled (h' + lift) low.height m.run,
-      mul-le-mul_right m.run higher,
-      mul-le-mul_left k gap,
-      ap (λ (t : ℕ). t * (x - low.x)) parts,
-      ap (λ (t : ℕ). t * (x' - low.x)) parts,
-    ))
-
-pub stays-falling : (low : Vertex) (m : Slope) (lift x h x' h' : ℕ) → m.rise ≤ℤ pos 0 → x ≤ x' → h ≤ h' → StaysUnder low m x h lift → StaysUnder low m x' h' lift
-stays-falling low m lift x h x' h' falling right higher stays =
-    let f : Slope = record { rise = pos (h + lift) -ℤ pos low.height; run = x - low.x } in
-    let f' : Slope = record { rise = pos (h' + lift) -ℤ pos low.height; run = x' - low.x } in
-    let k = down m.rise - up m.rise in
-    let parts : down m.rise ≡ up m.rise + k = omega (arith, ints) in
-    let gap : x - low.x ≤ x' - low.x = omega arith in
-    IsAtMost-in m f' (omega (
-      arith,
-      IsAtMost-out m f stays,
-      difference_scaled (h + lift) low.height m.run,
-      difference_scaled (h' + lift) low.height m.run,
-      mul-le-mul_right m.run higher,
-      mul-le-mul_left k gap,
-      ap (λ (t : ℕ). t * (x - low.x)) parts,
-      ap (λ (t : ℕ). t * (x' - low.x)) parts,
-    ))

@@ -1,6 +1,5 @@
 -- The upper hull of points: what lies under it, and the pair whose lower place it begins at.
-use Rattle.std.specs.Prelude.{◌≡◌, ◌⊎◌, Bool, ℕ, ◌+◌, ◌*◌, ◌-◌, ◌^◌, ◌<◌, ◌≤◌, pos, ◌+ℤ◌, ◌*ℤ◌, ◌≤ℤ◌, List, length, min, vec_capacity}
-use Rattle.std.specs.Bool.{OnTrue, OnFalse}
+use Rattle.std.specs.Prelude.{◌≡◌, ◌⊎◌, ℕ, ◌+◌, ◌*◌, ◌-◌, ◌^◌, ◌<◌, ◌≤◌, pos, ◌+ℤ◌, ◌*ℤ◌, ◌≤ℤ◌, List, length}
 use Rattle.exact_cross.specs.declared.slope.Slope.{Slope}
 use Rattle.exact_cross.specs.Points.{Points}
 use Rattle.exact_cross.specs.Slopes.{IsAtMost, steep_slope, flat_slope}
@@ -61,8 +60,20 @@ pub record IsHullOn (q : Points) (eps s hulled paired : ℕ) (vertices : List Ve
   pub upper_hull : IsUpperHull q eps s (λ k. (vertex_at vertices k).place) tangent (length vertices - 1) hulled
   pub pair : IsPairOf q eps s paired (vertex_at vertices tangent).place upper slope
 
+-- the place at which the pair's line begins
+abbrev pub lower_of : Hull → ℕ
+lower_of hull = (vertex_at hull.vertices.items hull.tangent).place
+
+-- how many vertices stand past the tangent's
+abbrev pub spare_of : Hull → ℕ
+spare_of hull = length hull.vertices.items - 1 - hull.tangent
+
 abbrev pub IsHullUpTo : Points → ℕ → ℕ → ℕ → ℕ → Hull → Type 0
 IsHullUpTo q eps s hulled paired hull = IsHullOn q eps s hulled paired hull.vertices.items hull.tangent hull.upper hull.slope.slope
+
+-- the hull and the pair of the run s..e
+abbrev pub IsHullOf : Points → ℕ → ℕ → ℕ → Hull → Type 0
+IsHullOf q eps s e hull = IsHullUpTo q eps s e e hull
 
 -- the vertex is the point at the place e of points that rise to the right, and its height has 32 bits
 pub record IsNextVertex (q : Points) (e : ℕ) (vertex : Vertex) : Type 0 where
@@ -71,54 +82,6 @@ pub record IsNextVertex (q : Points) (e : ℕ) (vertex : Vertex) : Type 0 where
   pub point : IsVertexOf q vertex
   pub low : vertex.height < 2 ^ 32
 
--- one of these vertices is that of the place j
-abbrev pub IsPlaceIn : List Vertex → ℕ → Type 0
-IsPlaceIn vertices j = (k : ℕ) × (k < length vertices) × ((vertex_at vertices k).place ≡ j)
-
--- the points that wait to come on the hull: of the places from..e those that aren't shadowed, in order
-pub record AreLater (q : Points) (eps s from e : ℕ) (later : List Vertex) : Type 0 where
-  pub are_next : (k : ℕ) → k < length later → IsNextVertex q (vertex_at later k).place (vertex_at later k)
-  pub from_start : (k : ℕ) → k < length later → from ≤ (vertex_at later k).place
-  pub to_end : (k : ℕ) → k < length later → (vertex_at later k).place < e
-  pub rise : (k : ℕ) → k + 1 < length later → (vertex_at later k).place < (vertex_at later (k + 1)).place
-  pub few : from + length later ≤ e
-  pub all : (j : ℕ) → from ≤ j → j < e → IsPlaceIn later j ⊎ IsShadowed q eps s j
-
--- of the places after a, before e, none but the shadowed ones lies above the line from a with this slope
-pub record IsEdgeOf (q : Points) (eps s e a : ℕ) (slope : Slope) : Type 0 where
-  pub positive : 1 ≤ slope.run
-  pub under : (j : ℕ) → a < j → j < e → IsUnderLine q a slope j ⊎ IsShadowed q eps s j
-
--- the pair of the run s..paired, and the points before e that can be the lower place of a later pair: the first of them on the hull, and the later ones beside it
-pub record IsHullWith (q : Points) (eps s e paired : ℕ) (hull : Hull) : Type 0 where
-  pub hulled : (h : ℕ) × (h ≤ e) × IsHullUpTo q eps s h paired hull × AreLater q eps s h e hull.later.items
-  pub low : hull.low ≡ vertex_at hull.vertices.items hull.tangent
-  pub edge : IsEdgeOf q eps s e hull.low.place hull.edge.slope
-  pub pair : IsPairOf q eps s paired hull.low.place hull.upper hull.slope.slope
-
--- the hull and the pair of the run s..e
-abbrev pub IsHullOf : Points → ℕ → ℕ → ℕ → Hull → Type 0
-IsHullOf q eps s e hull = IsHullWith q eps s e e hull
-
--- the place at which the pair's line begins
-abbrev pub lower_of : Hull → ℕ
-lower_of hull = hull.low.place
-
--- how many steps later calls may take for points that came before: one for each vertex past the tangent's, and two for each point that isn't on the hull yet
-abbrev pub spare_of : Hull → ℕ
-spare_of hull = length hull.vertices.items - 1 - hull.tangent + 2 * length hull.later.items
-
--- how many points of one run fit in
-abbrev pub room_in : Hull → ℕ
-room_in hull = min (vec_capacity hull.vertices) (vec_capacity hull.later)
-
 -- the place e lies under no pair of the run s..e
 pub record IsFittable (q : Points) (eps s e : ℕ) : Type 0 where
   pub not_under : (c d : ℕ) → IsPair s e c d → IsAtMost (flat_slope q eps c d) (steep_slope q eps d e)
-
--- the place e goes on with the run s..e, and `turns` tells whether the slope to it, lifted, is less than the pair's
-pub record GoesOn (q : Points) (eps s e : ℕ) (turns : Bool) (hull : Hull) : Type 0 where
-  pub fits : IsFittable q eps s e
-  pub under : IsUnderLine q (lower_of hull) hull.slope.slope e
-  pub turn : OnTrue turns (IsAtMost hull.slope.slope (steep_slope q eps (lower_of hull) e) → ⊥)
-  pub stay : OnFalse turns (IsAtMost hull.slope.slope (steep_slope q eps (lower_of hull) e))

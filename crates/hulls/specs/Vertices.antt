@@ -20,7 +20,3 @@ pub record AreLeftOf (vertices : List Vertex) (t : ℕ) (last : Vertex) : Type 0
 -- from one vertex by way of the next to a third it doesn't turn down
 abbrev pub IsNoTurn : Vertex → Vertex → Vertex → Type 0
 IsNoTurn first second third = IsAtMost (lifted_slope first second 0) (lifted_slope second third 0)
-
--- the slope is at most that from the vertex to `lift` above the point
-abbrev pub StaysUnder : Vertex → Slope → ℕ → ℕ → ℕ → Type 0
-StaysUnder low slope x height lift = IsAtMost slope (record { rise = pos (height + lift) -ℤ pos low.height; run = x - low.x })

@@ -1,14 +1,11 @@
 // Fitting a line to a run of points that grows.
-ghost use Rattle.std.specs.Prelude.{◌≡◌, ℕ, ◌+◌, ◌-◌, ◌*◌, ◌^◌, ◌<◌, ◌≤◌, IfOk, ⊤};
+ghost use Rattle.std.specs.Prelude.{◌≡◌, ℕ, ◌+◌, ◌-◌, ◌*◌, ◌^◌, ◌<◌, ◌≤◌, IfOk};
 ghost use Rattle.exact_cross.specs.Points.{Points, IsAscending};
 ghost use Rattle.exact_cross.specs.Lines.{SomeLineFits};
 ghost use Rattle.exact_cross.specs.Steep.{IsSteepOf, line_of_pair};
 ghost use Rattle.exact_cross.specs.Cuts.{IsCutOf};
-ghost use Rattle.hulls.specs.Hulls.{MatchOffer, MatchTaken, mirrored, bound_of, room_of, spare};
-ghost use Rattle.hulls.specs.Hulls.{StandsFor, IsNext, AreNext, IsOutside, TurnsNeither, NoneTurns};
-ghost use Rattle.hulls.specs.Hull.{IsHullOf, IsUnderLine, IsNextVertex, lower_of};
-ghost use Rattle.std.specs.Bool.{OnTrue, OnFalse};
-ghost use Rattle.exact_cross.specs.declared.segment.Side.TheVariants.{Over, Under};
+ghost use Rattle.hulls.specs.Hulls.{MatchOffer, mirrored, bound_of, room_of, spare, StandsFor};
+ghost use Rattle.hulls.specs.Hulls.{IsNext};
 
 use crate::hull::Hull;
 use crate::vertex::Vertex;
@@ -20,12 +17,9 @@ use std::sync::ledger::Ledger;
 /// The answer to a point that is offered.
 #[derive(Clone, Copy, Debug, PartialEq, Eq)]
 pub enum Offer {
-    /// Some line fits the run with the point, which belongs to the run from now on. Both lines stay
-    /// as they are.
-    Calm,
-    /// The same, but the point turns the steep line or the flat one.
-    Turned,
-    /// No line fits the run with the point, as the witness shows. The run is as before.
+    /// Some line fits the run with the point, which belongs to the run from now on.
+    Extended,
+    /// No line does, as the witness shows. The run is as before.
     Cut(Witness),
 }
 
@@ -35,9 +29,9 @@ pub enum Offer {
 /// Source: O'Rourke, CACM 24(9), 1981.
 #[derive(Drop)]
 pub struct Hulls {
-    /// The steep pair, with the points at which the next one can begin.
+    /// The steep pair, with the upper hull of the points.
     steep: Hull,
-    /// The flat pair, which is the steep pair of the points upside down.
+    /// The flat pair, with the upper hull of the points upside down.
     flat: Hull,
     /// The error bound.
     eps: u32,
@@ -48,8 +42,8 @@ pub struct Hulls {
 impl Hulls {
     /// No run yet, with room for `room` points of one run.
     ///
-    /// `eps` is the error bound `ε`. This call alone takes memory: twice `room` points of 16 bytes
-    /// for each of the two lines, which aren't touched before they are used.
+    /// `eps` is the error bound `ε`. This call alone takes memory: `room` points of 16 bytes for
+    /// each of the two hulls, which aren't touched before they are used.
     ///
     /// # Errors
     ///
@@ -99,8 +93,9 @@ impl Hulls {
     /// A step is a comparison of two slopes or a test of the point against a line. A point that no
     /// line fits is answered with the run's witness, after at most two steps: the steep pair and
     /// the point, where it lies above every line that fits the run, and else the flat pair and the
-    /// point, below every such line. A point that is taken in takes at most 11 steps, and as many
-    /// more as fewer are [spare](Self) afterwards. Takes no memory.
+    /// point, below every such line. A point that is taken in takes at most 10 steps, and as many
+    /// more as fewer points stand on the two hulls past the tangents afterwards (`spare`). So all
+    /// points of a run together take at most 10 steps each. Takes no memory.
     ///
     /// Source: O'Rourke, CACM 24(9), 1981.
     pub fn offer<L: Ledger>(&mut self, x: u64, y: u32, steps: &mut Steps<L>) -> Offer
@@ -119,12 +114,8 @@ impl Hulls {
             (λ w. (p : Points) (eps s e : ℕ) → IsNext self.old p eps s e x y →
             IsCutOf p eps s e w) }
         ensures cost { MatchOffer result
-            (steps.new + spare self.new ≤ steps.old + spare self.old + 11)
+            (steps.new + spare self.new ≤ steps.old + spare self.old + 10)
             (λ _. steps.new ≤ steps.old + 2) }
-        ensures calm { MatchTaken result
-            (steps.new + spare self.new ≤ steps.old + spare self.old + 3) ⊤ }
-        ensures turned { MatchTaken result (TurnsNeither self.old x y)
-            (TurnsNeither self.old x y → ⊥) }
         ensures room { room_of self.old ≤ room_of self.new }
         ensures bound { bound_of self.new ≡ bound_of self.old }
     {
@@ -134,144 +125,26 @@ impl Hulls {
             height: y,
             place,
         };
+        if self.steep.is_over(point, steps) {
+            return Offer::Cut(self.steep.cut_before(place, Side::Over));
+        }
         let mirrored = Vertex {
             x,
             height: u32::MAX - y,
             place,
         };
+        if self.flat.is_over(mirrored, steps) {
+            return Offer::Cut(self.flat.cut_before(place, Side::Under));
+        }
         let lift = 2 * self.eps;
-        let falls = self.steep.turns(point, lift, steps);
-        if self.is_outside(point, mirrored, falls, steps) {
-            return Offer::Cut(self.cut_before(place, falls));
-        }
-        let rises = self.flat.turns(mirrored, lift, steps);
-        self.last = place;
-        // Most points turn neither line, and then nothing else changes.
-        if !falls {
-            if !rises {
-                return Offer::Calm;
-            }
-        }
+        let falls = self.steep.turn_to(point, lift, steps);
+        let rises = self.flat.turn_to(mirrored, lift, steps);
         // A point that leaves the flat line as it is can be no lower place of a later steep pair,
         // and the other way round.
-        self.steep.go_on(point, falls, rises, lift, steps);
-        self.flat.go_on(mirrored, rises, falls, lift, steps);
-        Offer::Turned
-    }
-
-    /// Takes in the next `count` points at once, from `(x, y)` to `(x_last, y_last)`, where no
-    /// point of the rectangle between these two turns a line. Else, even if none of the points
-    /// themselves does, it answers `false`, and the run is as before.
-    ///
-    /// It takes at most two steps, which are tests of corners: none of these points lies lower than
-    /// the first y at the last x, and none higher than the last y at the first x. Takes no memory.
-    #[inline(always)]
-    pub fn pass<L: Ledger>(
-        &mut self,
-        x: u64,
-        y: u32,
-        x_last: u64,
-        y_last: u32,
-        count: u32,
-        steps: &mut Steps<L>,
-    ) -> bool
-        requires { (p : Points) × (eps : ℕ) × (s : ℕ) × (e : ℕ) ×
-            AreNext self.old p eps s e count x y x_last y_last × (e + count < 2 ^ 32) }
-        ensures stands { OnTrue result ((p : Points) (eps s e : ℕ) →
-            AreNext self.old p eps s e count x y x_last y_last →
-            StandsFor self.new p eps s (e + count)) }
-        ensures same { OnFalse result (self.new ≡ self.old) }
-        ensures calm { OnTrue result (NoneTurns self.old x y x_last y_last) }
-        ensures turned { OnFalse result (NoneTurns self.old x y x_last y_last → ⊥) }
-        ensures spare { spare self.new ≡ spare self.old }
-        ensures cost { steps.new ≤ steps.old + 2 }
-        ensures room { room_of self.new ≡ room_of self.old }
-        ensures bound { bound_of self.new ≡ bound_of self.old }
-    {
-        let place = self.last;
-        let lift = 2 * self.eps;
-        let left = Vertex {
-            x,
-            height: y,
-            place,
-        };
-        let right = Vertex {
-            x: x_last,
-            height: y_last,
-            place,
-        };
-        if !self.steep.stays(left, right, lift, steps) {
-            return false;
-        }
-        let left = Vertex {
-            x,
-            height: u32::MAX - y,
-            place,
-        };
-        let right = Vertex {
-            x: x_last,
-            height: u32::MAX - y_last,
-            place,
-        };
-        if !self.flat.stays(left, right, lift, steps) {
-            return false;
-        }
-        self.last = place + count;
-        true
-    }
-
-    /// Whether the next point lies outside all lines that fit the run, on the one side on which it
-    /// can: under them where it turns the steep line, which `falls` tells, and else over them.
-    #[inline(always)]
-    fn is_outside<L: Ledger>(
-        &self,
-        point: Vertex,
-        mirrored: Vertex,
-        falls: bool,
-        steps: &mut Steps<L>,
-    ) -> bool
-        requires steep { (q : Points) × (eps : ℕ) × (s : ℕ) × (e : ℕ) ×
-            IsHullOf q eps s e self.now.steep × IsNextVertex q e point }
-        requires flat { (q : Points) × (eps : ℕ) × (s : ℕ) × (e : ℕ) ×
-            IsHullOf q eps s e self.now.flat × IsNextVertex q e mirrored }
-        ensures over { OnFalse falls
-            ((q : Points) (eps s e : ℕ) → IsHullOf q eps s e self.now.steep →
-            IsNextVertex q e point → IsOutside result (IsUnderLine q
-            (lower_of self.now.steep) self.now.steep.slope.slope e)) }
-        ensures under { OnTrue falls
-            ((q : Points) (eps s e : ℕ) → IsHullOf q eps s e self.now.flat →
-            IsNextVertex q e mirrored → IsOutside result (IsUnderLine q
-            (lower_of self.now.flat) self.now.flat.slope.slope e)) }
-        ensures step { steps.new ≡ steps.old + 1 }
-    {
-        if falls {
-            self.flat.is_over(mirrored, steps)
-        } else {
-            self.steep.is_over(point, steps)
-        }
-    }
-
-    /// The pair that shows that no line fits the run with this place.
-    #[cold]
-    fn cut_before(&self, place: u32, falls: bool) -> Witness
-        ensures over { OnFalse falls (result ≡ record {
-          p = lower_of self.now.steep;
-          q = self.now.steep.upper;
-          r = place;
-          side = Over;
-        }) }
-        ensures under { OnTrue falls (result ≡ record {
-          p = lower_of self.now.flat;
-          q = self.now.flat.upper;
-          r = place;
-          side = Under;
-        }) }
-    {
-        if falls {
-            self.flat.cut_before(place, Side::Under)
-        } else {
-            self.steep.cut_before(place, Side::Over)
-        }
+        self.steep.take_in(point, rises, steps);
+        self.flat.take_in(mirrored, falls, steps);
+        self.last = place;
+        Offer::Extended
     }
 
     /// The steep pair of the run and its line.
@@ -297,12 +170,12 @@ impl Hulls {
                 run: 1,
             }
         } else {
-            let slope = self.steep.slope();
+            let (rise, run) = self.steep.rise_and_run();
             Line {
                 x0,
                 y0: y - i64::from(self.eps),
-                rise: slope.rise as u64,
-                run: slope.run,
+                rise: rise as u64,
+                run,
             }
         };
         (low.place, b, line)

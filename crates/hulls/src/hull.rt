@@ -1,67 +1,49 @@
-// The steep pair of a run, and the points at which the next pair can begin.
-ghost use Rattle.std.specs.Prelude.{◌≡◌, ℕ, ◌+◌, ◌*◌, ◌-◌, ◌^◌, ◌<◌, ◌≤◌, IfOk, IsTrue};
-ghost use Rattle.std.specs.Prelude.{length, [], min};
+// The steep pair of a run, and the hull on which the next pair's lower place is found.
+ghost use Rattle.std.specs.Prelude.{◌≡◌, ℕ, ◌+◌, ◌*◌, ◌-◌, ◌^◌, ◌<◌, ◌≤◌, IfOk, length, []};
 ghost use Rattle.std.specs.Prelude.{vec_len, vec_capacity};
 ghost use Rattle.std.specs.Bool.{OnTrue, OnFalse};
 ghost use Rattle.exact_cross.specs.Points.{Points};
 ghost use Rattle.exact_cross.specs.Slopes.{IsAtMost, steep_slope};
 ghost use Rattle.hulls.specs.Slopes.{steepest};
-ghost use Rattle.hulls.specs.Vertices.{vertex_at, lifted_slope, AreLeftOf, StaysUnder};
-ghost use Rattle.hulls.specs.Hull.{IsHullOf, IsHullWith, IsShadowed, IsUnderLine, GoesOn};
-ghost use Rattle.hulls.specs.Hull.{IsNextVertex, IsVertexOf, lower_of, room_in, spare_of};
+ghost use Rattle.hulls.specs.Vertices.{vertex_at, lifted_slope, AreLeftOf};
+ghost use Rattle.hulls.specs.Hull.{IsHullOf, IsHullUpTo, IsFittable, IsShadowed, IsUnderLine};
+ghost use Rattle.hulls.specs.Hull.{IsNextVertex, IsVertexOf, lower_of, spare_of};
 
+use crate::search::{kept_before, tangent_to};
 use crate::slope::CountedSlope;
 use crate::vertex::Vertex;
 use budget::{NoMemory, Steps};
-use exact_cross::{MAX_EPSILON, Side, Slope, Witness};
+use exact_cross::{MAX_EPSILON, Side, Witness};
 use std::alloc::Global;
 use std::sync::ledger::Ledger;
 
-/// The steep pair of a run of points, and the points from the pair's lower place on that can be the
-/// lower place of a later pair.
-///
-/// Few pairs begin at another place than the one before. So a point comes on the upper hull late:
-/// only where the lower place may move are the points that wait put on it, one after the other.
-/// Until then `edge` tells that the place stays: no line from it that is steeper than `edge` has a
-/// later point above it.
+/// The steep pair of a run of points, and the upper hull of the points from the pair's lower place
+/// on.
 ///
 /// For the flat pair the points are turned upside down, so that both are found by the same code.
 #[derive(Drop)]
 pub struct Hull {
     /// The vertices from left to right; those before `tangent` are done with.
-    pub vertices: Vec<Vertex>,
+    vertices: Vec<Vertex>,
     /// Where the pair's lower place stands among the vertices.
-    pub tangent: usize,
-    /// The points after those of the hull, in order, that can be the lower place of a later pair.
-    pub later: Vec<Vertex>,
-    /// The point at the pair's lower place.
-    pub low: Vertex,
-    /// A slope that none is above from the lower place to a later point.
-    pub edge: CountedSlope,
+    tangent: usize,
     /// The pair's upper place.
-    pub upper: u32,
+    upper: u32,
     /// The slope of the pair.
-    pub slope: CountedSlope,
+    slope: CountedSlope,
 }
 
 impl Hull {
     /// No run yet, and room for `room` points. Nothing takes memory afterwards.
     pub fn new(alloc: Global, room: u32) -> Result<Hull, NoMemory>
-        ensures empty { IfOk result (λ hull. spare_of hull ≡ 0) }
-        ensures capacity { IfOk result (λ hull. room_in hull ≡ room) }
+        ensures empty { IfOk result (λ hull. hull.vertices.items ≡ []) }
+        ensures tangent { IfOk result (λ hull. hull.tangent ≡ 0) }
+        ensures capacity { IfOk result (λ hull. vec_capacity hull.vertices ≡ room) }
     {
         let vertices = Vec::with_capacity(alloc, room as usize)?;
-        let later = Vec::with_capacity(alloc, room as usize)?;
         Ok(Hull {
             vertices,
             tangent: 0,
-            later,
-            low: Vertex {
-                x: 0,
-                height: 0,
-                place: 0,
-            },
-            edge: CountedSlope::flattest(),
             upper: 0,
             slope: CountedSlope::steepest(),
         })
@@ -69,27 +51,25 @@ impl Hull {
 
     /// Begins a run with its first point.
     pub fn start(&mut self, first: Vertex)
-        requires { 1 ≤ room_in self.old }
+        requires { 1 ≤ vec_capacity self.old.vertices }
         ensures hull { (q : Points) (eps : ℕ) → IsVertexOf q first → IsHullOf q eps first.place
             (first.place + 1) self.new }
         ensures spare { spare_of self.new ≡ 0 }
-        ensures capacity { room_in self.old ≤ room_in self.new }
+        ensures capacity { vec_capacity self.old.vertices ≤ vec_capacity self.new.vertices }
     {
         self.vertices.clear();
         let _ = self.vertices.push(first);
         self.tangent = 0;
-        self.later.clear();
-        self.low = first;
-        self.edge = CountedSlope::flattest();
         self.upper = first.place;
         self.slope = CountedSlope::steepest();
     }
 
     /// The point at the pair's lower place.
     pub fn lower(&self) -> Vertex
-        ensures { result ≡ self.now.low }
+        requires { self.now.tangent < length self.now.vertices.items }
+        ensures { result ≡ vertex_at self.now.vertices.items self.now.tangent }
     {
-        self.low
+        self.vertices[self.tangent]
     }
 
     /// The pair's upper place.
@@ -99,21 +79,23 @@ impl Hull {
         self.upper
     }
 
-    /// The pair's slope.
-    pub fn slope(&self) -> Slope
-        ensures { result ≡ self.now.slope.slope }
+    /// The rise and the run of the pair's line.
+    pub fn rise_and_run(&self) -> (i64, u64)
+        ensures rise { result.0 ≡ self.now.slope.slope.rise }
+        ensures run { result.1 ≡ self.now.slope.slope.run }
     {
-        self.slope.slope()
+        self.slope.rise_and_run()
     }
 
     /// The pair with the place before which the run ends.
     #[cold]
     pub fn cut_before(&self, place: u32, side: Side) -> Witness
+        requires { self.now.tangent < length self.now.vertices.items }
         ensures { result
             ≡ record { p = lower_of self.now; q = self.now.upper; r = place; side = side } }
     {
         Witness {
-            p: self.low.place,
+            p: self.lower().place,
             q: self.upper,
             r: place,
             side,
@@ -133,165 +115,74 @@ impl Hull {
             → IsUnderLine q (lower_of self.now) self.now.slope.slope e) }
         ensures step { steps.new ≡ steps.old + 1 }
     {
+        let low = self.vertices[self.tangent];
         // It is not over where the slope to it is at most the pair's.
         self.slope
-            .is_below(&CountedSlope::between(self.low, next, 0), steps)
+            .is_below(&CountedSlope::between(low, next, 0), steps)
     }
 
-    /// Whether the pair of the run with the next point is another one: whether the slope to the
-    /// point, lifted, is less than the pair's.
+    /// Finds the pair of the run with the next point, which no pair of the run lies above or below
+    /// of, and says whether it is another one.
     ///
     /// `lift` is twice the error bound.
     #[inline(always)]
-    pub fn turns<L: Ledger>(&self, next: Vertex, lift: u32, steps: &mut Steps<L>) -> bool
-        requires { (q : Points) × (eps : ℕ) × (s : ℕ) × (e : ℕ) × IsHullOf q eps s e self.now ×
+    pub fn turn_to<L: Ledger>(&mut self, next: Vertex, lift: u32, steps: &mut Steps<L>) -> bool
+        requires { (q : Points) × (eps : ℕ) × (s : ℕ) × (e : ℕ) × IsHullOf q eps s e self.old ×
             IsNextVertex q e next × (lift ≡ 2 * eps) × (eps ≤ MAX_EPSILON) }
-        ensures turn { OnTrue result
-            ((q : Points) (eps s e : ℕ) → IsHullOf q eps s e self.now → IsNextVertex q e next →
-            lift ≡ 2 * eps
-            → IsAtMost self.now.slope.slope (steep_slope q eps (lower_of self.now) e) → ⊥) }
-        ensures stay { OnFalse result
-            ((q : Points) (eps s e : ℕ) → IsHullOf q eps s e self.now → IsNextVertex q e next →
-            lift ≡ 2 * eps
-            → IsAtMost self.now.slope.slope (steep_slope q eps (lower_of self.now) e)) }
-        ensures above { OnFalse result
-            (StaysUnder self.now.low self.now.slope.slope next.x next.height lift) }
-        ensures below { OnTrue result
-            (StaysUnder self.now.low self.now.slope.slope next.x next.height lift → ⊥) }
-        ensures step { steps.new ≡ steps.old + 1 }
-    {
-        CountedSlope::between(self.low, next, lift).is_below(&self.slope, steps)
-    }
-
-    /// Whether no point turns the pair which lies from `first` to `last` and no lower than both.
-    ///
-    /// Beside a line that rises such a point lies nowhere lower than at the last x, and beside one
-    /// that falls at the first. `lift` is twice the error bound.
-    #[inline(always)]
-    pub fn stays<L: Ledger>(
-        &self,
-        first: Vertex,
-        last: Vertex,
-        lift: u32,
-        steps: &mut Steps<L>,
-    ) -> bool
-        requires right { self.now.low.x < first.x }
-        requires order { first.x ≤ last.x }
-        requires lift { lift ≤ 2097152 }
-        requires slope { 1 ≤ self.now.slope.slope.run }
-        ensures stay { OnTrue result
-            ((x height : ℕ) → first.x ≤ x → x ≤ last.x → min first.height last.height ≤ height →
-            StaysUnder self.now.low self.now.slope.slope x height lift) }
-        ensures turn { OnFalse result (((x : ℕ) → first.x ≤ x → x ≤ last.x → StaysUnder self.now.low
-            self.now.slope.slope x (min first.height last.height) lift) → ⊥) }
-        ensures step { steps.new ≡ steps.old + 1 }
-    {
-        let x = if self.slope.declines() {
-            first.x
-        } else {
-            last.x
-        };
-        let height = first.height.min(last.height);
-        let place = first.place;
-        let lowest = Vertex { x, height, place };
-        !CountedSlope::between(self.low, lowest, lift).is_below(&self.slope, steps)
-    }
-
-    /// Takes in the next point, which no pair of the run lies above or below of.
-    ///
-    /// `turns` tells whether the pair becomes another one, and `stands_out` whether the point can
-    /// be the lower place of a later pair. `lift` is twice the error bound.
-    #[inline(always)]
-    pub fn go_on<L: Ledger>(
-        &mut self,
-        next: Vertex,
-        turns: bool,
-        stands_out: bool,
-        lift: u32,
-        steps: &mut Steps<L>,
-    )
-        requires next { (q : Points) × (eps : ℕ) × (s : ℕ) × (e : ℕ) × IsHullOf q eps s e self.old ×
-            IsNextVertex q e next × (lift ≡ 2 * eps) × (eps ≤ MAX_EPSILON) ×
-            (e < s + room_in self.old) × GoesOn q eps s e turns self.old ×
-            OnFalse stands_out (IsShadowed q eps s e) }
-        ensures hull { (q : Points) (eps s e : ℕ) → IsHullOf q eps s e self.old →
-            IsNextVertex q e next → lift ≡ 2 * eps → eps ≤ MAX_EPSILON
-            → GoesOn q eps s e turns self.old → OnFalse stands_out (IsShadowed q eps s e) →
-            IsHullOf q eps s (e + 1) self.new }
-        ensures cost { steps.new + spare_of self.new ≤ steps.old + spare_of self.old + 4 }
-        ensures capacity { room_in self.old ≤ room_in self.new }
-    {
-        if self.moves(next, turns, lift, steps) {
-            self.move_on(next.x, next.height, next.place, stands_out, lift, steps);
-        } else {
-            self.turn(next, turns, lift);
-            self.put_off(next, stands_out, steps);
-        }
-    }
-
-    /// Whether the pair becomes another one, and may begin at another place.
-    #[inline(always)]
-    fn moves<L: Ledger>(&self, next: Vertex, turns: bool, lift: u32, steps: &mut Steps<L>) -> bool
-        requires right { self.now.low.x < next.x }
-        requires lift { lift ≤ 2097152 }
-        requires edge { 1 ≤ self.now.edge.slope.run }
-        ensures turns { OnTrue result (IsTrue turns) }
-        ensures stays { OnFalse result (OnTrue turns
-            (IsAtMost self.now.edge.slope (lifted_slope self.now.low next lift))) }
-        ensures cost { steps.new ≤ steps.old + 1 }
-    {
-        turns && CountedSlope::between(self.low, next, lift).is_below(&self.edge, steps)
-    }
-
-    /// Makes the pair's lower place and the next point the pair, where it turns.
-    #[inline(always)]
-    fn turn(&mut self, next: Vertex, turns: bool, lift: u32)
-        requires right { self.old.low.x < next.x }
-        requires lift { lift ≤ 2097152 }
         ensures pair { (q : Points) (eps s e : ℕ) → IsHullOf q eps s e self.old →
             IsNextVertex q e next → lift ≡ 2 * eps → eps ≤ MAX_EPSILON
-            → GoesOn q eps s e turns self.old
-            → OnTrue turns (IsAtMost self.old.edge.slope (lifted_slope self.old.low next lift)) →
-            IsHullWith q eps s e (e + 1) self.new }
+            → IsFittable q eps s e → IsUnderLine q (lower_of self.old) self.old.slope.slope e →
+            IsHullUpTo q eps s e (e + 1) self.new }
+        ensures stays { OnFalse result
+            ((q : Points) (eps s e : ℕ) → IsHullOf q eps s e self.old → IsNextVertex q e next →
+            lift ≡ 2 * eps
+            → IsAtMost self.old.slope.slope (steep_slope q eps (lower_of self.old) e)) }
+        ensures cost { steps.new + spare_of self.new ≤ steps.old + spare_of self.old + 2 }
         ensures vertices { self.new.vertices ≡ self.old.vertices }
-        ensures tangent { self.new.tangent ≡ self.old.tangent }
-        ensures later { self.new.later ≡ self.old.later }
-        ensures spare { spare_of self.new ≡ spare_of self.old }
-        ensures capacity { room_in self.new ≡ room_in self.old }
-        ensures low { self.new.low ≡ self.old.low }
-        ensures edge { self.new.edge ≡ self.old.edge }
     {
-        if turns {
-            self.slope = CountedSlope::between(self.low, next, lift);
-            self.upper = next.place;
+        let low = self.vertices[self.tangent];
+        if !CountedSlope::between(low, next, lift).is_below(&self.slope, steps) {
+            return false;
+        }
+        let found = tangent_to(&self.vertices, self.tangent, next, lift, steps);
+        self.tangent = found.vertex;
+        self.slope = found.slope;
+        self.upper = next.place;
+        true
+    }
+
+    /// Puts the next point on the hull, if it can be the lower place of a later pair.
+    #[inline(always)]
+    pub fn take_in<L: Ledger>(&mut self, next: Vertex, stands_out: bool, steps: &mut Steps<L>)
+        requires next { (q : Points) × (eps : ℕ) × (s : ℕ) × (e : ℕ) × IsHullUpTo q eps s e
+            (e + 1) self.old × IsNextVertex q e next }
+        requires room { length self.old.vertices.items < vec_capacity self.old.vertices }
+        ensures hull { (q : Points) (eps s e : ℕ) → IsHullUpTo q eps s e (e + 1) self.old →
+            IsNextVertex q e next
+            → OnFalse stands_out (IsShadowed q eps s e) → IsHullOf q eps s (e + 1) self.new }
+        ensures cost { steps.new + spare_of self.new ≤ steps.old + spare_of self.old + 2 }
+        ensures capacity { vec_capacity self.old.vertices ≤ vec_capacity self.new.vertices }
+    {
+        if stands_out {
+            self.cover(next, steps);
         }
     }
 
-    /// Keeps the next point, if it can be the lower place of a later pair: beside the hull, or in
-    /// place of all points after the lower place, where those lie under the line to it.
-    #[inline(always)]
-    fn put_off<L: Ledger>(&mut self, next: Vertex, stands_out: bool, steps: &mut Steps<L>)
-        requires right { self.old.low.x < next.x }
-        requires edge { 1 ≤ self.old.edge.slope.run }
-        requires inside { self.old.tangent < length self.old.vertices.items }
+    /// Puts the next point on the hull, and takes off what it covers.
+    #[inline(never)]
+    fn cover<L: Ledger>(&mut self, next: Vertex, steps: &mut Steps<L>)
+        requires next { (q : Points) × (eps : ℕ) × (s : ℕ) × (e : ℕ) × IsHullUpTo q eps s e
+            (e + 1) self.old × IsNextVertex q e next }
         requires room { length self.old.vertices.items < vec_capacity self.old.vertices }
-        requires later { length self.old.later.items < vec_capacity self.old.later }
-        ensures hull { (q : Points) (eps s e : ℕ) → IsHullWith q eps s e (e + 1) self.old →
-            IsNextVertex q e next → OnFalse stands_out (IsShadowed q eps s e)
-            → IsHullOf q eps s (e + 1) self.new }
-        ensures cost { steps.new + spare_of self.new ≤ steps.old + spare_of self.old + 3 }
-        ensures capacity { room_in self.old ≤ room_in self.new }
+        ensures hull { (q : Points) (eps s e : ℕ) → IsHullUpTo q eps s e (e + 1) self.old →
+            IsNextVertex q e next → IsHullOf q eps s (e + 1) self.new }
+        ensures tangent { self.new.tangent ≡ self.old.tangent }
+        ensures cost { steps.new + length self.new.vertices.items
+            ≤ steps.old + length self.old.vertices.items + 2 }
+        ensures capacity { vec_capacity self.old.vertices ≤ vec_capacity self.new.vertices }
     {
-        if stands_out {
-            let slope = CountedSlope::between(self.low, next, 0);
-            if self.edge.is_below(&slope, steps) {
-                self.vertices.truncate(self.tangent + 1);
-                let _ = self.vertices.push(next);
-                self.later.clear();
-                self.edge = slope;
-            } else {
-                let _ = self.later.push(next);
-            }
-        }
+        let kept = kept_before(&self.vertices, self.tangent, next, steps);
+        self.vertices.truncate(kept);
+        let _ = self.vertices.push(next);
     }
 }

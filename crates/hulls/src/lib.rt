@@ -1,5 +1,5 @@
 //! The lines within an error bound of a run of points that grows: whether one is left, exactly, in
-//! at most 11 steps a point.
+//! at most 10 steps a point.
 //!
 //! Of the points (0, 0), (1, 1), (2, 2), (10, 3) with the error bound 0 the first three are taken
 //! in, and the fourth is refused: it lies under the line through the places 0 and 1, and these
@@ -12,7 +12,6 @@
 
 mod fitting;
 mod hull;
-mod moves;
 mod search;
 mod slope;
 mod vertex;

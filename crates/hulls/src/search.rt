@@ -17,6 +17,7 @@ pub struct Tangent {
 }
 
 /// Walks from the vertex `from` on as long as the slope to `lift` above the next point falls.
+#[inline(never)]
 pub fn tangent_to<L: Ledger>(
     vertices: &[Vertex],
     from: usize,

@@ -1,8 +1,11 @@
 // Slopes whose comparison is a step.
-ghost use Rattle.std.specs.Prelude.{◌≡◌, ◌+◌, ◌<◌, ◌≤◌, pos, ◌≤ℤ◌};
+//
+// `is_below` is the one comparison of two slopes in this crate, and no `Slope` leaves this file. Its
+// clause bounds what is counted; that each comparison ticks is seen in its body.
+ghost use Rattle.std.specs.Prelude.{◌≡◌, ◌+◌, ◌<◌, ◌≤◌};
 ghost use Rattle.std.specs.Bool.{OnTrue, OnFalse};
 ghost use Rattle.exact_cross.specs.Slopes.{IsAtMost};
-ghost use Rattle.hulls.specs.Slopes.{flattest, steepest};
+ghost use Rattle.hulls.specs.Slopes.{steepest};
 ghost use Rattle.hulls.specs.Vertices.{lifted_slope};
 
 use crate::vertex::Vertex;
@@ -10,7 +13,7 @@ use budget::Steps;
 use exact_cross::Slope;
 use std::sync::ledger::Ledger;
 
-/// A slope that can be compared in one way only, which takes a step.
+/// A slope that is compared by [`is_below`](CountedSlope::is_below) alone, which takes a step.
 #[derive(Clone, Copy)]
 pub struct CountedSlope {
     slope: Slope,
@@ -25,17 +28,6 @@ impl CountedSlope {
         ensures { result.slope ≡ steepest }
     {
         let rise = STEEPEST;
-        CountedSlope {
-            slope: Slope { rise, run: 1 },
-        }
-    }
-
-    /// The slope of the edge of a hull of one vertex, which has no edge: flatter than any two
-    /// points are.
-    pub fn flattest() -> CountedSlope
-        ensures { result.slope ≡ flattest }
-    {
-        let rise = -STEEPEST;
         CountedSlope {
             slope: Slope { rise, run: 1 },
         }
@@ -68,19 +60,11 @@ impl CountedSlope {
         self.slope.cmp(&other.slope).is_lt()
     }
 
-    /// Whether the slope is below that of a level line.
-    #[inline(always)]
-    pub fn declines(&self) -> bool
-        ensures below { OnTrue result (self.now.slope.rise ≤ℤ pos 0) }
-        ensures not_below { OnFalse result (pos 0 ≤ℤ self.now.slope.rise) }
+    /// The rise and the run, which tell the line of this slope.
+    pub fn rise_and_run(&self) -> (i64, u64)
+        ensures rise { result.0 ≡ self.now.slope.rise }
+        ensures run { result.1 ≡ self.now.slope.run }
     {
-        self.slope.rise < 0
-    }
-
-    /// The slope itself.
-    pub fn slope(&self) -> Slope
-        ensures { result ≡ self.now.slope }
-    {
-        self.slope
+        (self.slope.rise, self.slope.run)
     }
 }

@@ -62,10 +62,9 @@ fn fit<L: Ledger>(
     let mut hulls = Hulls::new(alloc, eps, len)?;
     hulls.start(0, xs[0], ys[0]);
     for place in 1..len {
-        match hulls.offer(xs[place as usize], ys[place as usize], &mut steps) {
-            Offer::Calm => {}
-            Offer::Turned => {}
-            Offer::Cut(witness) => return Ok((place, Some(witness), hulls.line())),
+        let offer = hulls.offer(xs[place as usize], ys[place as usize], &mut steps);
+        if let Offer::Cut(witness) = offer {
+            return Ok((place, Some(witness), hulls.line()));
         }
     }
     Ok((len, None, hulls.line()))

@@ -14,6 +14,3 @@ mod keys;
 mod parts;
 
 pub use keys::Keys;
-
-#[cfg(test)]
-mod tests;

@@ -4,6 +4,7 @@ pub use Rattle.key_points.proofs.CallerLemmas.{xs-rise, xs-few, xs-first, ys-len
 pub use Rattle.levels.proofs.LookupLemmas.{ascends, extent_at-base, extent_at-above}
 pub use Rattle.levels.proofs.StoredLemmas.{eps_at-above}
 pub use Rattle.levels.proofs.IndexLemmas.{IsIndex-least, IsIndex-checked}
+pub use Rattle.levels.proofs.IndexExists.{IsIndex-some}
 pub use Rattle.levels.proofs.HeightLemmas.{long_level, levels_low}
 pub use Rattle.levels.proofs.RunsApart.{HasRun-each, HasRun-within, HasRun-unique}
 pub use Rattle.levels.proofs.WindowLists.{AreWindows-unique}

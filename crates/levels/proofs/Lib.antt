@@ -13,5 +13,6 @@ pub mod ModelLookup
 pub mod LaneLemmas
 pub mod HeightLemmas
 pub mod IndexLemmas
+pub mod IndexExists
 pub mod RunLemmas
 pub mod CallerLemmas

@@ -39,6 +39,19 @@ level_at-last levels more i last = sym (ap (level_at (levels ++ more ∷ [])) la
 
 -- ---- one more level
 
+pub IsLevel-push : (keys : List ℕ) (eps eps_rec : ℕ) (levels : List (List Segment)) (more : List Segment) (n : ℕ) → n ≡ length levels →
+    ((i : ℕ) → i < n → IsLevel keys eps eps_rec levels i) →
+    IsSegmentation (points_at keys levels n) (eps_at eps eps_rec n) 0 (length (xs_at keys levels n)) more →
+    (i : ℕ) → i < n + 1 → IsLevel keys eps eps_rec (levels ++ more ∷ []) i
+IsLevel-push keys eps eps_rec levels more n count below here i inside = elim (cases_lt i n) [
+  | inl before ↦
+      IsLevel-in keys eps eps_rec levels (levels ++ more ∷ []) i (level_at levels i) (λ k less. level_at-below levels more k (omega arith)) (level_at-below levels more i (omega arith)) (below i before)
+  | inr from ↦
+      let last : n ≡ i = omega arith in
+      subst (λ (k : ℕ). IsLevel keys eps eps_rec (levels ++ more ∷ []) k) last
+      (IsLevel-in keys eps eps_rec levels (levels ++ more ∷ []) n more (λ k less. level_at-below levels more k (omega arith)) (level_at-last levels more n count) here)
+]
+
 pub AreLevels-push : (keys : List ℕ) (eps eps_rec : ℕ) (levels : List Level) (level : Level) → AreLevels keys eps eps_rec levels →
     ((i : ℕ) → i + 1 ≡ length levels → length (level_at (segments_of levels) i) ≢ 1) →
     IsSegmentation (points_at keys (segments_of levels) (length levels)) (eps_at eps eps_rec (length levels)) 0 (length (xs_at keys (segments_of levels) (length levels))) level.segments.items →
@@ -70,15 +83,7 @@ AreLevels-push keys eps eps_rec levels level so_far unfinished here own_models x
     same i within k less = level_at-below (segments_of levels) level.segments.items k (omega (arith, segments_of-count levels))
 
     each : (i : ℕ) → i < length levels + 1 → IsLevel keys eps eps_rec (segments_of levels ++ level.segments.items ∷ []) i
-    each i inside = elim (cases_lt i (length levels)) [
-      | inl before ↦ IsLevel-in keys eps eps_rec (segments_of levels) (segments_of levels ++ level.segments.items ∷ []) i (level_at (segments_of levels) i) (same i (omega arith))
-          (level_at-below (segments_of levels) level.segments.items i (omega (arith, segments_of-count levels))) (so_far.each i before)
-      | inr from ↦
-          let last : length levels ≡ i = omega arith in
-          subst (λ (k : ℕ). IsLevel keys eps eps_rec (segments_of levels ++ level.segments.items ∷ []) k) last
-          (IsLevel-in keys eps eps_rec (segments_of levels) (segments_of levels ++ level.segments.items ∷ []) (length levels) level.segments.items (same (length levels) (omega arith))
-          (level_at-last (segments_of levels) level.segments.items (length levels) (sym (segments_of-count levels))) here)
-    ]
+    each = IsLevel-push keys eps eps_rec (segments_of levels) level.segments.items (length levels) (sym (segments_of-count levels)) so_far.each here
 
     others : (i : ℕ) → i + 1 < length levels + 1 → length (level_at (segments_of levels ++ level.segments.items ∷ []) i) ≢ 1
     others i inside =

@@ -1,6 +1,7 @@
 // The recursive index, and its parts.
 ghost use Rattle.std.specs.Prelude.{◌≡◌, ◌+◌, ◌-◌, ◌<◌, ◌≤◌, ℕ, List, IfOk, IfSome, length};
 ghost use Rattle.std.specs.Prelude.{slice_index, slice_index_or};
+ghost use Rattle.std.specs.List.Sorted.{IsNonDecreasing};
 ghost use Rattle.exact_cross.specs.declared.segment.Segment.{Segment};
 ghost use Rattle.exact_cross.specs.Checked.{IsLeastCover, AreChecked};
 ghost use Rattle.exact_cross.specs.Segments.{starts_of};
@@ -109,7 +110,7 @@ impl Index {
     }
 
     /// At least and at most how many runs of level 0 begin at or before `q`, where the table of the
-    /// runs' first x tells. Cannot fail and takes no memory.
+    /// runs' first x tells. No steps are counted. Cannot fail and takes no memory.
     #[inline(always)]
     pub fn begun_near(&self, q: u64) -> Option<(u32, u32)>
         ensures { IfSome result (λ counts.
@@ -250,4 +251,11 @@ pub fn list_at<'a>(keys: &'a Keys, levels: &'a [Level], i: usize) -> &'a [u64]
 pub fn one_index()
     ensures { (keys : List ℕ) (eps eps_rec : ℕ) (one two : List (List Segment)) →
         IsIndex keys eps eps_rec one → IsIndex keys eps eps_rec two → one ≡ two }
+{}
+
+/// Keys that never fall have an index, whatever the error bounds: there is a list of levels that is
+/// it.
+pub fn some_index()
+    ensures { (keys : List ℕ) (eps eps_rec : ℕ) → IsNonDecreasing keys →
+        (levels : List (List Segment)) × IsIndex keys eps eps_rec levels }
 {}

@@ -20,8 +20,8 @@ use window_search::{CountedKeys, lower_in, predecessor_in, window};
 impl Index {
     /// The position of `q` in the file: how many of its keys are below `q`.
     ///
-    /// It takes the steps of [`Index::lower_bound`], and counts nothing. Cannot fail and takes no
-    /// memory.
+    /// It is searched as by [`Index::lower_bound`], and its steps aren't counted for the caller.
+    /// Cannot fail and takes no memory.
     pub fn position(&self, q: u64) -> u32
         ensures { result ≡ lb self.now.keys q }
     {
@@ -30,15 +30,16 @@ impl Index {
 
     /// The lower bound of `q`: how many keys of the file are below `q`.
     ///
-    /// The levels are gone through down to level 0, from the lowest one whose runs' first x are few
-    /// enough to be halved in place of the levels above, or else from the last one. Above level 0
-    /// the predecessor of `q` is searched in the window of the run found, and is the run of the
-    /// level below; at level 0 the position is searched among the keys of the file. Where there is
-    /// no key, or the first one is above `q`, no window is formed. A step is a key read; two to
-    /// their number is at most the product over the levels of four times a window's places. Cannot
-    /// fail and takes no memory.
+    /// The run of level 0 is one of few to which a table leads. Without a table the levels are gone
+    /// through, from the lowest one whose runs' first x are few enough to be halved in place of the
+    /// levels above, or else from the last one: of each the predecessor of `q` is searched in a
+    /// window of the run found, and is the run of the level below. At level 0 the position is
+    /// searched among the keys of the file. Where there is no key, or the first one is above `q`,
+    /// no window is formed. A step is a key read; two to their number is at most the product over
+    /// all levels of four times the places that a window may have. Cannot fail and takes no memory.
     ///
-    /// A window is that of the run's model, which has as many places as that of its line.
+    /// The windows that are searched are those of the runs' models, and not those that
+    /// [`Index::windows`] gives: they hold the same answer in as few places.
     ///
     /// Source: Ferragina and Vinciguerra, PVLDB 13(8), 2020, section 2.
     pub fn lower_bound<L: Ledger>(&self, q: u64, steps: &mut Steps<L>) -> u32
@@ -144,8 +145,9 @@ impl Index {
         predecessor_in(self.list(level), low, high, q, steps)
     }
 
-    /// A window of `q` in a run of a level, by the run's model. It may stand one place off the one
-    /// that the run's line has, and holds the same.
+    /// A window of `q` in a run of a level, by the run's model. It holds what that of the run's
+    /// line holds, in at most `2ε + 3` places too, but needn't be that one: it may stand one place
+    /// higher, and, where the line passes below the run's first point, up to ε places lower.
     #[inline(always)]
     pub(crate) fn window_by_model(&self, level: u32, run: u32, q: u64) -> (u32, u32)
         requires never_falls { IsNonDecreasing self.now.keys }
@@ -163,7 +165,7 @@ impl Index {
         self.model_of(level, run).window(q, eps, len)
     }
 
-    /// The window of `q` in a run of a level, by the run's line.
+    /// The window of `q` in a run of a level, by the run's line, as [`Index::windows`] gives it.
     pub(crate) fn window_of(&self, level: u32, run: u32, q: u64) -> (u32, u32)
         requires never_falls { IsNonDecreasing self.now.keys }
         requires few { length self.now.keys < 2 ^ 32 }

@@ -13,8 +13,8 @@ impl Index {
     /// positions are, all.
     ///
     /// The run of level 0 is found as in [`Index::lower_bound`]. Of the file the first key alone is
-    /// read, so that callers may let the reads of several files overlap. Cannot fail and takes no
-    /// memory.
+    /// read, so that callers may let the reads of several files overlap. No steps are counted for
+    /// the caller. Cannot fail and takes no memory.
     #[inline]
     pub fn start_near(&self, q: u64) -> u32
         requires { 0 < length self.now.keys }

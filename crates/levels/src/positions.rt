@@ -14,7 +14,8 @@ impl Index {
     /// of the file are below the question.
     ///
     /// The list has room for as many more. Sixteen questions go through the levels in step, so that
-    /// their reads of memory don't wait for one another. Cannot fail and takes no memory.
+    /// their reads of memory don't wait for one another. No steps are counted. Cannot fail and
+    /// takes no memory.
     pub fn positions(&self, qs: &[u64], into: &mut Vec<u32>)
         requires room { vec_len into.old + length qs.now ≤ vec_capacity into.old }
         ensures positions { into.new.items ≡ into.old.items ++ map (lb self.now.keys) qs.now }

@@ -68,7 +68,7 @@ impl Index {
 
     /// The runs of level 0 of sixteen questions, in step: the last one that begins at or before
     /// each question, which is not below the first key and has its run among `count` places from
-    /// its low end on. Cannot fail and takes no memory.
+    /// its low end on. No steps are counted. Cannot fail and takes no memory.
     #[inline(always)]
     pub fn runs_in_step(&self, qs: &[u64; 16], lows: &[u32; 16], count: u32, runs: &mut [u32; 16])
         requires some { 0 < length self.now.keys }
@@ -83,7 +83,8 @@ impl Index {
     }
 
     /// The lower bounds of sixteen questions, in step, each in the window of its run of level 0:
-    /// from the runs to how many keys of the file are below the questions.
+    /// from the runs to how many keys of the file are below the questions. No steps are counted.
+    /// Cannot fail and takes no memory.
     #[inline(always)]
     pub fn lower_bounds_in(&self, qs: &[u64; 16], runs: &mut [u32; 16])
         requires { AreRuns (xs_at self.now.keys self.now.levels 1) qs.now runs.old }

@@ -24,6 +24,9 @@ impl Index {
     /// at most 2ε + 3 places, ε being the level's bound, and holds what is looked for there. No
     /// window exactly where there is no key, or `q` is below the first one.
     ///
+    /// These are the windows of the lookup as it is defined, through all levels.
+    /// [`Index::lower_bound`] searches others, and reads no more than searching these may take.
+    ///
     /// # Errors
     ///
     /// `NoMemory` alone.

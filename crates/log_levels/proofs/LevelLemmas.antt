@@ -61,49 +61,42 @@ missing-past entries key ascending end = missing-at entries key ascending (λ in
 pub missing-here : (entries : List Entry) (key : ℕ) (e : Entry) → IsAscending entries → slice_index_or entries (lb (level_keys entries) key) e ≡ e → (e.key ≡ key → ⊥) → entry_at entries key ≡ None
 missing-here entries key e ascending is other = missing-at entries key ascending (λ inside same. other (sym (key-at entries (lb (level_keys entries) key) 0 e inside ∙ ap (λ (x : Entry). x.key) is) ∙ same))
 
--- between two neighbours stands none
-pub missing-beside : (list entries : List Entry) (key place : ℕ) → list ≡ entries → IsAscending entries → 0 < place → place < length list
-    → (slice_index_or list (place - 1) no_entry).key < key → key < (slice_index_or list place no_entry).key → entry_at entries key ≡ None
-missing-beside list entries key place same ascending some inside before behind = go (entry_at entries key) refl
-  where
-    go : (found : Option Entry) → entry_at entries key ≡ found → entry_at entries key ≡ None
-    go None is = is
-    go (Some e) is =
-        let (i, fits, at) = Contains-entry_at entries key e is in
-        let size = ap (λ (l : List Entry). length l) same in
-        let here : slice_index_or (level_keys entries) i 0 ≡ key = key-at entries i 0 e fits ∙ ap (λ (x : Entry). x.key) at ∙ key-entry_at entries key e is in
-        let count = length-level_keys entries in
-        let low = key-at entries (place - 1) 0 no_entry (omega (arith, inside, size)) ∙ ap (λ (l : List Entry). (slice_index_or l (place - 1) no_entry).key) (sym same) in
-        let high = key-at entries place 0 no_entry (omega (arith, inside, size)) ∙ ap (λ (l : List Entry). (slice_index_or l place no_entry).key) (sym same) in
-        elim (cases_lt i place) [
-          | inl less ↦ absurd (omega (arith, here, low, before, keys-never_fall entries ascending i (place - 1) 0 (omega (arith, less, some)) (omega (arith, inside, size, count))))
-          | inr at_least ↦ absurd (omega (arith, here, high, behind, keys-never_fall entries ascending place i 0 at_least (omega (arith, fits, count))))
-        ]
+-- a key below at the place before: the place is at most the lower bound
+pub past-below : (entries : List Entry) (key place : ℕ) → IsAscending entries → 0 < place → place ≤ length entries → (slice_index_or entries (place - 1) no_entry).key < key → place ≤ lb (level_keys entries) key
+past-below entries key place ascending some within below = elim (cases_lt (lb (level_keys entries) key) place) [
+  | inr at_least ↦ at_least
+  | inl less ↦ absurd (omega (
+    arith,
+    some,
+    below,
+    length-level_keys entries,
+    key-at entries (place - 1) 0 no_entry (omega (arith, some, within)),
+    (IsLowerBound-lb (level_keys entries) key (keys-never_fall entries ascending)).from (place - 1) (omega (arith, less, some)) (omega (arith, within, some, length-level_keys entries)),
+  ))
+]
 
--- the same for the keys that are read
-pub read-found : (keys : List ℕ) (list entries : List Entry) (key place : ℕ) → keys ≡ level_keys entries → list ≡ entries → IsAscending entries → place < length keys → slice_index_or keys place 0 ≡ key
+-- a key at or above at a place: the lower bound is at most the place
+pub not-past : (entries : List Entry) (key place : ℕ) → IsAscending entries → place < length entries → key ≤ (slice_index_or entries place no_entry).key → lb (level_keys entries) key ≤ place
+not-past entries key place ascending inside above = elim (cases_lt place (lb (level_keys entries) key)) [
+  | inr at_least ↦ at_least
+  | inl less ↦ absurd (omega (arith, above, key-at entries place 0 no_entry inside, (IsLowerBound-lb (level_keys entries) key (keys-never_fall entries ascending)).before place less))
+]
+
+-- what is read at the lower bound of a key: the entry with the key, or another
+pub entry-found : (list entries : List Entry) (key place : ℕ) → list ≡ entries → IsAscending entries → place < length list → (slice_index_or list place no_entry).key ≡ key
     → Some (slice_index_or list place no_entry) ≡ entry_at entries key
-read-found keys list entries key place same_keys same ascending inside here =
-    let e = slice_index_or entries place no_entry in
-    let count = length-level_keys entries in
-    let size = ap (λ (l : List ℕ). length l) same_keys in
-    let fits : place < length entries = omega (arith, inside) in
-    let is : slice_index_or entries place e ≡ e = get_or_default entries place e no_entry fits in
-    let key_is : e.key ≡ key = sym (key-at entries place 0 no_entry fits) ∙ ap (λ (l : List ℕ). slice_index_or l place 0) (sym same_keys) ∙ here in
-    ap (λ (l : List Entry). Some (slice_index_or l place no_entry)) same ∙ sym (found-at entries key place e ascending fits is key_is)
-
-pub found-in : (list entries : List Entry) (key place : ℕ) → list ≡ entries → IsAscending entries → place < length list → (slice_index_or list place no_entry).key ≡ key → entry_at entries key ≡ Some (slice_index_or list place no_entry)
-found-in list entries key place same ascending inside here =
+entry-found list entries key place same ascending inside here =
     let e = slice_index_or list place no_entry in
     let size = ap (λ (l : List Entry). length l) same in
     let fits : place < length entries = omega (arith, inside, size) in
     let is : slice_index_or entries place e ≡ e = get_or_default entries place e no_entry fits ∙ ap (λ (l : List Entry). slice_index_or l place no_entry) (sym same) in
-    found-at entries key place e ascending fits is here
+    sym (found-at entries key place e ascending fits is here)
 
-pub read-missing : (keys : List ℕ) (entries : List Entry) (key place : ℕ) → keys ≡ level_keys entries → IsAscending entries → place ≡ lb (level_keys entries) key → (slice_index_or keys place 0 ≡ key → ⊥)
-    → None ≡ entry_at entries key
-read-missing keys entries key place same ascending at other =
-    sym (missing-at entries key ascending (λ inside here. other (ap (λ (l : List ℕ). slice_index_or l place 0) same ∙ ap (λ k. slice_index_or (level_keys entries) k 0) at ∙ here)))
+pub entry-missing : (list entries : List Entry) (key place : ℕ) → list ≡ entries → IsAscending entries → place ≡ lb (level_keys entries) key
+    → ((slice_index_or list place no_entry).key ≡ key → ⊥) → None ≡ entry_at entries key
+entry-missing list entries key place same ascending at other =
+    sym (missing-at entries key ascending (λ inside here. other (ap (λ (l : List Entry). (slice_index_or l place no_entry).key) same ∙ ap (λ k. (slice_index_or entries k no_entry).key) at
+    ∙ sym (key-at entries (lb (level_keys entries) key) 0 no_entry inside) ∙ here)))
 
 -- from one place on the keys are at or above a bound, and before it below: a key between the bound and the first of them is missing
 pub missing-between : (entries : List Entry) (from j : ℕ) → IsAscending entries → from ≤ j
@@ -162,20 +155,27 @@ place-passed entries key ascending apart =
     sym (place-stays entries key (key + 1) ascending (omega arith) (λ j from to. let same : key ≡ j = omega arith in ap (entry_at entries) (sym same) ∙ absent))
 
 -- the key at a bound's place isn't below the bound
-pub read-above : (keys : List ℕ) (entries : List Entry) (from place : ℕ) → keys ≡ level_keys entries → IsAscending entries → place ≡ lb (level_keys entries) from → place < length keys → from ≤ slice_index_or keys place 0
-read-above keys entries from place same ascending at inside =
+pub key-above : (list entries : List Entry) (from place : ℕ) → list ≡ entries → IsAscending entries → place ≡ lb (level_keys entries) from → place < length list
+    → from ≤ (slice_index_or list place no_entry).key
+key-above list entries from place same ascending at inside =
     let bound = IsLowerBound-lb (level_keys entries) from (keys-never_fall entries ascending) in
-    let size = ap (λ (l : List ℕ). length l) same in
-    omega (arith, bound.from place (omega arith) (omega arith), ap (λ (l : List ℕ). slice_index_or l place 0) same)
+    let size = ap (λ (l : List Entry). length l) same in
+    let fits : place < length entries = omega (arith, inside, size) in
+    omega (arith, bound.from place (omega (arith, at)) (omega (arith, fits, length-level_keys entries)), key-at entries place 0 no_entry fits, ap (λ (l : List Entry). (slice_index_or l place no_entry).key) same)
 
 -- no key is between the bound and that key
-pub read-between : (keys : List ℕ) (entries : List Entry) (from place j : ℕ) → keys ≡ level_keys entries → IsAscending entries → place ≡ lb (level_keys entries) from → from ≤ j
-    → (place < length keys → j < slice_index_or keys place 0) → entry_at entries j ≡ None
-read-between keys entries from place j same ascending at le below =
-    let size = ap (λ (l : List ℕ). length l) same in
-    let count = length-level_keys entries in
+pub key-between : (list entries : List Entry) (from place j : ℕ) → list ≡ entries → IsAscending entries → place ≡ lb (level_keys entries) from → from ≤ j
+    → (place < length list → j < (slice_index_or list place no_entry).key) → entry_at entries j ≡ None
+key-between list entries from place j same ascending at le below =
+    let size = ap (λ (l : List Entry). length l) same in
     missing-between entries from j ascending le (λ inside.
-    omega (arith, below (omega arith), ap (λ (l : List ℕ). slice_index_or l place 0) same, ap (λ k. slice_index_or (level_keys entries) k 0) at))
+    omega (
+      arith,
+      below (omega (arith, inside, at, size)),
+      key-at entries (lb (level_keys entries) from) 0 no_entry inside,
+      ap (λ (l : List Entry). (slice_index_or l place no_entry).key) same,
+      ap (λ k. (slice_index_or entries k no_entry).key) at,
+    ))
 
 -- the place of the next key, by whether there is an entry with the key
 pub next-some : (entries : List Entry) (key : ℕ) (e : Entry) → IsAscending entries → entry_at entries key ≡ Some e → (lb (level_keys entries) key < length entries) × (lb (level_keys entries) (key + 1) ≡ lb (level_keys entries) key + 1)

@@ -6,8 +6,6 @@ pub mod PutLemmas
 pub mod ResultLemmas
 pub mod LevelLemmas
 pub mod FilterLemmas
-pub mod MarkLemmas
-pub mod HalvingLemmas
 pub mod GrowthLemmas
 pub mod LengthLemmas
 pub mod UpdateLemmas
@@ -16,6 +14,4 @@ pub mod ValueLemmas
 pub mod OccupiedLemmas
 pub mod SearchLemmas
 pub mod WalkLemmas
-pub mod PlaceLemmas
-pub mod ManyLemmas
 pub mod WordLemmas

@@ -1,5 +1,5 @@
 -- How levels and maps are kept. No public clause cites it.
-use Rattle.std.specs.Prelude.{◌≡◌, ◌⊎◌, ℕ, ◌+◌, ◌*◌, ◌/◌, ◌≤◌, ◌<◌, ◌^◌, ◌==◌, List, ◌++◌, length, map, drop, take, Option, Some, None, slice_index, ⊤}
+use Rattle.std.specs.Prelude.{◌≡◌, ℕ, ◌+◌, ◌*◌, ◌/◌, ◌≤◌, ◌<◌, ◌^◌, ◌==◌, List, ◌++◌, length, map, drop, Option, Some, None, slice_index, ⊤}
 use Rattle.window_search.specs.Searches.{lb}
 use Rattle.std.specs.Int.{bit_at}
 use Rattle.std.specs.Option.{option_map}
@@ -93,16 +93,3 @@ plain_entry (Sweep low high) = del_entry low
 abbrev pub IsFull : MapFault → Type 0
 IsFull (Full accepted) = ⊤
 IsFull NoMemory = ⊥
-
--- what the buffer hasn't, no level before level i has either: the last entry of the key is one of the blocks from there on, if any
-pub record HasReached (held : Held) (key i : ℕ) : Type 0 where
-  pub before : last_at held.buffer key ≡ None → (entries : List Entry) → IsCutOf held entries →
-      value_of (last_at entries key) ≡ value_of (last_at (take (64 * from_bit i (length entries / 64)) entries) key)
-
--- so has the search for each of sixteen keys
-abbrev pub HaveReached : Held → List ℕ → List ℕ → Type 0
-HaveReached held keys levels = (k : ℕ) → k < 16 → HasReached held (slice_index keys k) (slice_index levels k)
-
--- level i takes the place of a later one, or hasn't the key
-abbrev pub IsPutWhereMay : List Entry → ℕ → ℕ → ℕ → ℕ → Type 0
-IsPutWhereMay level i key before after = (after ≡ i) ⊎ ((after ≡ before) × (entry_at level key ≡ None))

@@ -6,5 +6,4 @@ pub use Rattle.levels.specs.Indexes
 pub mod Kept
 pub mod Builders
 pub mod Filters
-pub mod Marks
 pub mod Words

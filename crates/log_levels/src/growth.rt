@@ -89,7 +89,7 @@ impl LogMap {
         let blocks = self.blocks_with(new.len());
         let end = entries_from_bit(top, blocks) - self.accepted();
         let merged = self.merged_below(builder, alloc, top, &new[..end as usize])?;
-        shared(builder, alloc, merged, is_deep(blocks, top))
+        shared(builder, alloc, merged)
     }
 
     /// A level below it, if it is occupied: a block of new entries.
@@ -118,7 +118,7 @@ impl LogMap {
         let start = entries_from_bit(i + 1, blocks) - accepted;
         let end = entries_from_bit(i, blocks) - accepted;
         let latest = latest_of(builder, alloc, part(new, start as usize, end as usize))?;
-        Ok(Some(shared(builder, alloc, latest, is_deep(blocks, i))?))
+        Ok(Some(shared(builder, alloc, latest)?))
     }
 
     /// Level `i` with new entries, where they change bit `top` of the number of blocks as the
@@ -298,23 +298,14 @@ fn shared<B: Builder>(
     builder: &B,
     alloc: Global,
     entries: Vec<Entry>,
-    is_deep: bool,
 ) -> Result<Arc<Level>, NoMemory>
     requires ready { B.ready builder.now }
     requires ascending { IsAscending entries.items }
     requires few { vec_len entries < 2 ^ 32 }
     ensures { IfOk result (λ level. arc_value level ≡ entries.items) }
 {
-    let level = Level::of(builder, alloc, entries, is_deep)?;
+    let level = Level::of(builder, alloc, entries)?;
     Ok(Arc::new(alloc, level)?)
-}
-
-/// Whether level `i` is one of the two deepest, where there are so many blocks.
-fn is_deep(blocks: u64, i: usize) -> bool
-    requires { i < 26 }
-{
-    let below = blocks >> (i + 1);
-    below & below.wrapping_sub(1) == 0
 }
 
 /// The highest bit in which a number differs from a smaller one.

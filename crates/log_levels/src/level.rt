@@ -2,26 +2,21 @@
 ghost use Rattle.std.specs.Prelude.{◌≡◌, ◌+◌, ◌*◌, ◌-◌, ◌^◌, ◌<◌, ◌≤◌, ℕ};
 ghost use Rattle.std.specs.Prelude.{None, Some, IfSome, IsTrue, length, vec_len, IfOk};
 ghost use Rattle.std.specs.Bool.{OnFalse};
-ghost use Rattle.std.specs.List.Sorted.{IsNonDecreasing};
 ghost use Rattle.std.specs.Option.{option_copied};
 ghost use Rattle.levels.specs.Indexes.{IsIndex};
 ghost use Rattle.tombstones.specs.Entries.{IsAscending, entry_at};
 ghost use Rattle.log_levels.specs.Kept.{IsBelow};
 ghost use Rattle.log_levels.specs.Filters.{hash_of, bits_of};
-ghost use Rattle.log_levels.specs.Marks.{mark_of, lanes_of};
 ghost use Rattle.window_search.specs.Searches.{lb};
 ghost use Rattle.log_levels.specs.Shapes.{level_keys};
 
 use crate::builder::Builder;
 use crate::filter::{Filter, keys_with_filter};
-use crate::guide::{Guide, LOOK};
-use crate::halving::lower_of;
-use crate::marks::{Look, Rows};
+use crate::grid::Grid;
 use budget::NoMemory;
 use levels::Index;
 use std::alloc::Global;
 use std::marker::Model;
-use std::simd::prelude::*;
 use tombstones::Entry;
 
 /// The error bounds of a level's index: of its level 0 and of the levels above.
@@ -29,29 +24,27 @@ pub const EPS: u32 = 64;
 
 pub const EPS_REC: u32 = 4;
 
-/// A list of so many keys or fewer is searched by halving. The keys of longer ones aren't all in a
-/// near cache, and then a search whose branches are foretold is faster, since it reads ahead.
-const SHORT: usize = 4096;
+/// So many entries are a group.
+const GROUP: usize = 8;
 
-/// Behind so many fences or fewer of those from the first group on stands a key, by its index: it
-/// leaves `2ε + 3` places.
-const FENCES: usize = 17;
+/// A grid leads to one group.
+const GROUPS_BY_GRID: usize = 1;
 
-/// The entries of a level, by rising key, with the index of their keys, a guide to them, a filter
-/// of them, and marks where the level is one of the two deepest and its keys are many and even.
-/// Seen as the entries. It is never changed.
+/// The index leaves `2ε + 3` places, which are in so many groups.
+const GROUPS_BY_INDEX: usize = 17;
+
+/// The entries of a level, by rising key, with the index of their keys, a filter of them, and a
+/// grid where they are even. Seen as the entries. It is never changed.
 ///
-/// What a guide reads lies close together and in a near cache, and the eight places that it leads
-/// to lie in few lines: so a search reads far memory once, where one among keys does at each
-/// halving, and then for the entry. No clause says of a guide where anything is; what is found is
-/// looked at.
+/// A key is searched in three steps: a hint says where to look (`start`, from the grid, or else from
+/// the index); the entries there are looked at; and where the key's place isn't among them, the
+/// index finds it. No clause says that a hint is right: what is found is checked.
 #[derive(Drop)]
 pub struct Level {
     entries: Vec<Entry>,
     index: Index,
     filter: Filter,
-    guide: Guide,
-    rows: Option<Rows>,
+    grid: Option<Grid>,
 }
 
 impl Model for Level {
@@ -64,23 +57,19 @@ impl Model for Level {
 
     ghost view = { λ level. level.entries.items };
 
-    ghost use Rattle.std.specs.Prelude.{IfSome};
     ghost use Rattle.log_levels.specs.Filters.{ArePassed};
-    ghost use Rattle.log_levels.specs.Marks.{AreMarked};
     ghost use Rattle.log_levels.specs.Shapes.{level_keys};
 
     ghost invariant = { λ level. IsIndexed level.entries.items level.index ×
-        ArePassed level.filter (level_keys level.entries.items) ×
-        IfSome level.rows (λ rows. AreMarked rows (level_keys level.entries.items)) };
+        ArePassed level.filter (level_keys level.entries.items) };
 }
 
 impl Level {
-    /// A level of entries, with marks where it is deep.
+    /// A level of entries.
     pub fn of<B: Builder>(
         builder: &B,
         alloc: Global,
         entries: Vec<Entry>,
-        is_deep: bool,
     ) -> Result<Level, NoMemory>
         requires ready { B.ready builder.now }
         requires ascending { IsAscending entries.items }
@@ -90,18 +79,12 @@ impl Level {
         let (keys, filter) = keys_with_filter(alloc, &entries)?;
         let index = builder.index(keys)?;
         // The keys are in a nearer cache than the entries.
-        let guide = Guide::of(alloc, index.keys().file())?;
-        let rows = if is_deep {
-            Rows::of(alloc, index.keys().file())?
-        } else {
-            None
-        };
+        let grid = Grid::of(alloc, index.keys().file())?;
         Ok(Level {
             entries,
             index,
             filter,
-            guide,
-            rows,
+            grid,
         })
     }
 
@@ -114,48 +97,45 @@ impl Level {
         &self.entries
     }
 
-    /// Their keys, as the index has them: a search has just read there, and not in the entries.
-    #[inline]
-    fn keys(&self) -> &[u64]
-        ensures keys { result.now ≡ level_keys self.now }
-        ensures never_falls { IsNonDecreasing result.now }
-        ensures ascending { IsAscending self.now }
-    {
-        let _ = &self.entries;
-        self.index.keys().file()
+    /// The hint where to look for a key: the place of the first entry to look at. It tells nothing.
+    #[inline(always)]
+    pub fn start(&self, key: u64) -> usize {
+        match &self.grid {
+            Some(grid) => grid.start(key),
+            None if self.entries.is_empty() => 0,
+            None => self.index.start_near(key) as usize,
+        }
     }
 
-    /// How many keys are below `q`: the place of the first entry whose key is not.
+    /// How many groups of entries are looked at from the hint on.
+    #[inline(always)]
+    pub fn groups(&self) -> usize
+        ensures some { 0 < result }
+        ensures few { result ≤ GROUPS_BY_INDEX }
+    {
+        match self.grid {
+            Some(_) => GROUPS_BY_GRID,
+            None => GROUPS_BY_INDEX,
+        }
+    }
+
+    /// How many keys are below `key`, by a hint: the place of the first entry whose key is not.
     #[inline]
-    pub fn place(&self, q: u64) -> usize
-        ensures place { result ≡ lb (level_keys self.now) q }
+    pub fn place(&self, start: usize, key: u64) -> usize
+        ensures place { result ≡ lb (level_keys self.now) key }
         ensures within { result ≤ length self.now }
     {
-        let keys = self.keys();
-        if keys.len() <= SHORT {
-            return lower_of(keys, q);
-        }
-        self.index.position(q) as usize
-    }
-
-    /// The place of a key, by the first of the eight places among which it is said to be.
-    ///
-    /// It is looked at: where the key's place isn't there, it is searched for.
-    #[inline(always)]
-    pub fn place_by(&self, start: usize, key: u64) -> usize
-        ensures { result ≡ lb (level_keys self.now) key }
-    {
-        let keys = self.keys();
-        let place = place_among(keys, start, key);
-        if is_place(keys, place, key) {
+        let entries = self.entries();
+        let place = place_near(entries, start, self.groups(), key);
+        if is_place(entries, place, key) {
             return place;
         }
-        self.place(key)
+        self.index.position(key) as usize
     }
 
     /// Whether the level may have an entry with this key, of which this is the hash with its bits.
     #[inline(always)]
-    pub fn may_have(&self, key: u64, hash: u64, bits: u64) -> bool
+    fn may_have(&self, key: u64, hash: u64, bits: u64) -> bool
         requires hash { hash ≡ hash_of key }
         requires bits { bits ≡ bits_of hash }
         ensures { OnFalse result (entry_at self.now key ≡ None) }
@@ -164,55 +144,25 @@ impl Level {
         self.filter.passes(hash, bits)
     }
 
-    /// The first of the groups among which a key is, by the index, where there are so many fences
-    /// that not all are looked at. It tells nothing.
-    #[inline(always)]
-    pub fn first_group(&self, key: u64) -> usize {
-        match &self.guide {
-            Guide::Fences(fences) if fences.len() > FENCES => self.group_near(key),
-            _ => 0,
+    /// The entry with a key, of which this is the hash with its bits, if there is one. A key that
+    /// the filter denies isn't searched.
+    #[inline]
+    pub fn entry(&self, key: u64, hash: u64, bits: u64) -> Option<&Entry>
+        requires hash { hash ≡ hash_of key }
+        requires bits { bits ≡ bits_of hash }
+        ensures { option_copied result ≡ entry_at self.now key }
+    {
+        if !self.may_have(key, hash, bits) {
+            return None;
         }
+        self.entry_from(self.place(self.start(key), key), key)
     }
 
-    /// The same by the index.
-    #[inline(always)]
-    fn group_near(&self, key: u64) -> usize {
-        if self.keys().is_empty() {
-            return 0;
-        }
-        self.index.start_near(key) as usize / LOOK
-    }
-
-    /// The first of eight places among which a key is, from the first of its groups on. It tells
-    /// nothing.
-    #[inline(always)]
-    pub fn start_from(&self, first: usize, key: u64) -> usize {
-        match &self.guide {
-            Guide::Grid(grid) => grid.start(key),
-            Guide::Fences(fences) => group_from(fences, first, key).wrapping_mul(LOOK),
-        }
-    }
-
-    /// The place of a key among the entries, if it is one of eight, or at their end.
-    #[inline(always)]
-    pub fn place_in(&self, start: usize, key: u64) -> usize {
-        let entries = self.entries.as_slice();
-        if entries.len() < LOOK {
-            return entries.len();
-        }
-        let first = start.min(entries.len() - LOOK);
-        // Those that aren't below are taken off: of a sum of the others the compiler makes more.
-        let mut place = first + LOOK;
-        for entry in &entries[first..first + LOOK] {
-            place = place.wrapping_sub(usize::from(entry.key >= key));
-        }
-        place
-    }
-
-    /// The entry with a key, if it stands at this place.
-    #[inline(always)]
-    pub fn entry_at(&self, place: usize, key: u64) -> Option<&Entry>
-        ensures { IfSome result (λ entry. entry_at self.now key ≡ Some entry.now) }
+    /// The entry with a key, whose place is known, if there is one.
+    #[inline]
+    pub fn entry_from(&self, place: usize, key: u64) -> Option<&Entry>
+        requires { place ≡ lb (level_keys self.now) key }
+        ensures { option_copied result ≡ entry_at self.now key }
     {
         let entries = self.entries();
         if place >= entries.len() {
@@ -224,95 +174,6 @@ impl Level {
         Some(&entries[place])
     }
 
-    /// Whether a key stands between the entry before a place and the one there, and so has none.
-    #[inline(always)]
-    fn lacks(&self, place: usize, key: u64) -> bool
-        ensures { IsTrue result → entry_at self.now key ≡ None }
-    {
-        let entries = self.entries();
-        if place == 0 || place >= entries.len() {
-            return false;
-        }
-        entries[place - 1].key < key && key < entries[place].key
-    }
-
-    /// Looks for a key by what is sought for its mark, if the level has marks.
-    #[inline(always)]
-    pub fn look(&self, key: u64, sought: u8x16) -> Option<Look>
-        requires { sought ≡ lanes_of (mark_of (hash_of key)) }
-        ensures { IfSome result (λ look. look.places ≡ 0 → entry_at self.now key ≡ None) }
-    {
-        match &self.rows {
-            Some(rows) => Some(rows.look(key, sought)),
-            None => None,
-        }
-    }
-
-    /// The entry with a key, by what a look told, if there is one.
-    #[inline(always)]
-    pub fn entry_by(&self, look: Look, key: u64) -> Option<&Entry>
-        requires { look.places ≡ 0 → entry_at self.now key ≡ None }
-        ensures { option_copied result ≡ entry_at self.now key }
-    {
-        if look.places == 0 {
-            return None;
-        }
-        let place = look
-            .first
-            .wrapping_add(look.places.trailing_zeros() as usize);
-        if let Some(entry) = self.entry_at(place, key) {
-            return Some(entry);
-        }
-        self.entry_with(key)
-    }
-
-    /// The entry with a key, of which this is the hash with its bits, if there is one.
-    #[inline]
-    pub fn entry(&self, key: u64, hash: u64, bits: u64) -> Option<&Entry>
-        requires hash { hash ≡ hash_of key }
-        requires bits { bits ≡ bits_of hash }
-        ensures { option_copied result ≡ entry_at self.now key }
-    {
-        if !self.may_have(key, hash, bits) {
-            return None;
-        }
-        self.entry_with(key)
-    }
-
-    /// The entry with a key, which the filter doesn't deny, if there is one.
-    ///
-    /// Not inlined: so the loop over the filters of all levels keeps what it needs in registers.
-    #[inline(never)]
-    fn entry_with(&self, key: u64) -> Option<&Entry>
-        ensures { option_copied result ≡ entry_at self.now key }
-    {
-        let place = self.place_in(self.start_from(self.first_group(key), key), key);
-        if let Some(entry) = self.entry_at(place, key) {
-            return Some(entry);
-        }
-        if self.lacks(place, key) {
-            return None;
-        }
-        self.entry_from(self.place(key), key)
-    }
-
-    /// The same, where the place of the key is known.
-    #[inline]
-    pub fn entry_from(&self, place: usize, key: u64) -> Option<&Entry>
-        requires { place ≡ lb (level_keys self.now) key }
-        ensures { option_copied result ≡ entry_at self.now key }
-    {
-        let keys = self.keys();
-        if place >= keys.len() {
-            return None;
-        }
-        if keys[place] != key {
-            return None;
-        }
-        let entries = self.entries();
-        Some(&entries[place])
-    }
-
     /// The least key from `from` on, which is at this place, if there is one.
     #[inline]
     pub fn key_from(&self, place: usize, from: u128) -> Option<u64>
@@ -321,11 +182,11 @@ impl Level {
         ensures least { (key : ℕ) → from ≤ key → IsBelow key result →
             entry_at self.now key ≡ None }
     {
-        let keys = self.keys();
-        if place >= keys.len() {
+        let entries = self.entries();
+        if place >= entries.len() {
             return None;
         }
-        Some(keys[place])
+        Some(entries[place].key)
     }
 
     /// The place of the next key, by that of a key.
@@ -353,47 +214,51 @@ impl Level {
     }
 }
 
-/// How many of some keys are below a key.
+/// How many keys are below a key, if its place is in so many groups of entries from a place on, or
+/// at their end. No clause says that it is.
+///
+/// The last key of each group but one tells the group, and no branch depends on an answer.
 #[inline(always)]
-fn below(keys: &[u64], key: u64) -> usize {
+pub fn place_near(entries: &[Entry], start: usize, groups: usize, key: u64) -> usize
+    requires some { 0 < groups }
+    requires few { groups ≤ GROUPS_BY_INDEX }
+{
+    let near = GROUP * groups;
+    if entries.len() < near {
+        return below(entries, key);
+    }
+    let first = start.min(entries.len() - near);
+    let mut at = first;
+    for i in 1..groups {
+        let is_below = entries[first + (GROUP * i - 1)].key < key;
+        at = at.wrapping_add(GROUP * usize::from(is_below));
+    }
+    let at = at.min(entries.len() - GROUP);
+    at.wrapping_add(below(&entries[at..at + GROUP], key))
+}
+
+/// How many of some entries' keys are below a key.
+#[inline(always)]
+fn below(entries: &[Entry], key: u64) -> usize {
     let mut count = 0usize;
-    for other in keys {
-        count = count.wrapping_add(usize::from(*other < key));
+    for entry in entries {
+        count = count.wrapping_add(usize::from(entry.key < key));
     }
     count
 }
 
-/// The group of a key, from the first one on, by the fences.
+/// Whether as many keys are below a key: that of the entry before the place is, and the one there
+/// isn't.
 #[inline(always)]
-fn group_from(fences: &[u64], first: usize, key: u64) -> usize {
-    if fences.len() < FENCES {
-        return below(fences, key);
-    }
-    let first = first.min(fences.len() - FENCES);
-    first.wrapping_add(below(&fences[first..first + FENCES], key))
-}
-
-/// How many keys are below a key, if its place is among the eight from this one on or at their end.
-#[inline(always)]
-fn place_among(keys: &[u64], start: usize, key: u64) -> usize {
-    if keys.len() < LOOK {
-        return below(keys, key);
-    }
-    let first = start.min(keys.len() - LOOK);
-    first.wrapping_add(below(&keys[first..first + LOOK], key))
-}
-
-/// Whether as many keys are below a key: the one before the place is, and the one there isn't.
-#[inline(always)]
-fn is_place(keys: &[u64], place: usize, key: u64) -> bool
-    requires never_falls { IsNonDecreasing keys.now }
-    ensures { IsTrue result → place ≡ lb keys.now key }
+fn is_place(entries: &[Entry], place: usize, key: u64) -> bool
+    requires ascending { IsAscending entries.now }
+    ensures { IsTrue result → place ≡ lb (level_keys entries.now) key }
 {
-    if place > keys.len() {
+    if place > entries.len() {
         return false;
     }
-    if place > 0 && keys[place - 1] >= key {
+    if place > 0 && entries[place - 1].key >= key {
         return false;
     }
-    place == keys.len() || keys[place] >= key
+    place == entries.len() || entries[place].key >= key
 }

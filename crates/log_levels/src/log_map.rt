@@ -13,7 +13,6 @@ ghost use Rattle.log_levels.specs.Shapes.{level_of, level_keys, from_bit};
 ghost use Rattle.log_levels.specs.Maps.{map_after};
 ghost use Rattle.log_levels.specs.Accepted.{entries_of};
 
-use crate::halving::highest_bit;
 use crate::level::{EPS, EPS_REC, Level};
 use budget::NoMemory;
 use levels::Index;
@@ -170,22 +169,6 @@ impl LogMap {
             Some(level) => level.index(),
             None => unreachable!(),
         }
-    }
-
-    /// One more than the deepest level that is occupied, or 0 where none is.
-    #[inline]
-    pub(crate) fn depth(&self) -> usize
-        ensures within { result ≤ length self.now.levels }
-        ensures few { length self.now.levels ≤ 26 }
-        ensures below { self.now.accepted / BLOCK < 2 ^ result }
-        ensures none { (i : ℕ) → result ≤ i → i < length self.now.levels →
-            level_of self.now i ≡ None }
-    {
-        let blocks = self.accepted / BLOCK;
-        if blocks == 0 {
-            return 0;
-        }
-        highest_bit(blocks as usize) as usize + 1
     }
 
     /// Which levels are occupied: bit `i` is 1 where level `i` is.

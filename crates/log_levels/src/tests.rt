@@ -2,8 +2,7 @@ ghost use Rattle.std.specs.Prelude.{◌≡◌, ◌<◌, ◌≤◌, ◌^◌, leng
 
 use super::builder::Here;
 use super::filter::{Filter, bits, hash, keys_with_filter};
-use super::level::Level;
-use super::marks::{mark, sought};
+use super::level::{Level, place_near};
 use super::*;
 use budget::NoMemory;
 use edge::{Gate, OpenGate, Place};
@@ -75,150 +74,48 @@ fn passes(filter: &Filter, key: u64) -> bool {
     filter.passes(hash, bits(hash))
 }
 
-// No contract says that a guide leads to a key, so each key is looked for where it leads. Squares
-// are uneven, so that there are fences.
+// No contract says that a hint leads to a key, so each key is looked for where it leads: by the
+// index among squares, which are uneven, and by a grid among keys of which one is in each 64 numbers.
 #[test]
-fn fences_lead_to_each_key(rt: HostRuntime) -> Result<(), Fail> {
-    for count in [128, 135, 136, 137, 1000, 20_000] {
-        let entries = squares(rt.alloc(), count)?;
-        assert!(rt; is_ascending(&entries));
-        assert!(rt; entries.len() < 100_000);
-        let here = Here { alloc: rt.alloc() };
-        let level = Level::of(&here, rt.alloc(), entries, false)?;
-        for root in 0..count / 8 * 8 {
-            let key = root.wrapping_mul(root);
-            let start = level.start_from(level.first_group(key), key);
-            assert_eq!(rt; start as u64, root / 8 * 8);
-            let entry = level.entry_at(level.place_in(start, key), key);
-            assert_eq!(rt; entry.map(|entry| entry.value), Some(Some(root)));
-        }
+fn hints_lead_to_each_key(rt: HostRuntime) -> Result<(), Fail> {
+    for count in [8, 9, 64, 100, 136, 137, 1000, 20_000] {
+        lead_to_each(&rt, count, true)?;
+        lead_to_each(&rt, count, false)?;
     }
     Ok(())
 }
 
-// The same of even keys, which a grid leads to: one in each 64 numbers.
-#[test]
-fn a_grid_leads_to_each_key(rt: HostRuntime) -> Result<(), Fail> {
-    for count in [8, 9, 64, 100, 1000, 20_000] {
-        let mut entries = Vec::new(rt.alloc());
-        for i in 0..count {
-            entries.push(Entry {
-                key: even_key(i),
-                value: Some(i),
-            })?;
-        }
-        assert!(rt; is_ascending(&entries));
-        assert!(rt; entries.len() < 100_000);
-        let here = Here { alloc: rt.alloc() };
-        let level = Level::of(&here, rt.alloc(), entries, false)?;
-        for i in 0..count {
-            let start = level.start_from(level.first_group(even_key(i)), even_key(i));
-            let entry = level.entry_at(level.place_in(start, even_key(i)), even_key(i));
-            assert_eq!(rt; entry.map(|entry| entry.value), Some(Some(i)));
-        }
-    }
-    Ok(())
-}
-
-// No contract says that a mark tells the place of its key, so each key is looked for where it is
-// told to be, and so are as many that aren't there. Keys of 200 numbers side by side find no room
-// in the rows of the others. A program in another language counts 19,816 and 1,598.
-#[test]
-fn marks_lead_to_each_key(rt: HostRuntime) -> Result<(), Fail> {
+/// Looks for each of so many keys where the hint of their level leads.
+fn lead_to_each<R: Abort + AllocGlobal>(
+    rt: &R,
+    count: u64,
+    are_even: bool,
+) -> Result<(), NoMemory> {
     let mut entries = Vec::new(rt.alloc());
-    for i in 0..20_000 {
+    for i in 0..count {
         entries.push(Entry {
-            key: spread_key(i),
+            key: key_of(i, are_even),
             value: Some(i),
         })?;
     }
     assert!(rt; is_ascending(&entries));
     assert!(rt; entries.len() < 100_000);
     let here = Here { alloc: rt.alloc() };
-    let level = Level::of(&here, rt.alloc(), entries, true)?;
-    let (mut told, mut seeming) = (0u64, 0u64);
-    for i in 0..20_000 {
-        let key = spread_key(i);
-        let Some(look) = level.look(key, sought(mark(hash(key)))) else {
-            panic!(rt; "the level has no marks");
-        };
-        let place = look
-            .first
-            .wrapping_add(look.places.trailing_zeros() as usize);
-        told = told.wrapping_add(u64::from(place as u64 == i));
-        let entry = level.entry_by(look, key);
-        assert_eq!(rt; entry.map(|entry| entry.value), Some(Some(i)));
-
-        let other = key.wrapping_add(3);
-        let Some(look) = level.look(other, sought(mark(hash(other)))) else {
-            panic!(rt; "the level has no marks");
-        };
-        seeming = seeming.wrapping_add(u64::from(look.places != 0));
-        assert!(rt; level.entry_by(look, other).is_none());
+    let level = Level::of(&here, rt.alloc(), entries)?;
+    for i in 0..count {
+        let key = key_of(i, are_even);
+        let place = place_near(level.entries(), level.start(key), level.groups(), key);
+        assert_eq!(rt; place as u64, i, "{key} of {count}");
     }
-    assert!(rt; told > 19_815);
-    assert!(rt; seeming < 1_599);
     Ok(())
 }
 
-/// A key in about each 1000 numbers, but that 200 of them stand side by side, with steps of 4.
-fn spread_key(i: u64) -> u64 {
-    if i < 10_000 {
-        i.wrapping_mul(1000).wrapping_add(i.wrapping_mul(37) % 512)
-    } else if i < 10_200 {
-        i.wrapping_mul(4).wrapping_add(10_000_000)
+fn key_of(i: u64, are_even: bool) -> u64 {
+    if are_even {
+        i.wrapping_mul(64).wrapping_add(i.wrapping_mul(37) % 64)
     } else {
-        i.wrapping_mul(1000).wrapping_add(i.wrapping_mul(37) % 512)
+        i.wrapping_mul(i)
     }
-}
-
-// Of 50,000 scattered keys the two deepest levels have marks. Later entries of the same keys, and
-// deletions of others, stand in newer levels and in the buffer.
-#[test]
-fn newer_entries_win_over_marked_ones(rt: HostRuntime) -> Result<(), Fail> {
-    let mut map = LogMap::new(rt.alloc(), 12)?;
-    for i in 0..50_000 {
-        let put = map.put(rt.alloc(), scattered(i), i);
-        assert_eq!(rt; put, Ok(()));
-    }
-    for i in 0..500 {
-        let put = map.put(rt.alloc(), scattered(100 * i), i + 1);
-        assert_eq!(rt; put, Ok(()));
-        let del = map.del(rt.alloc(), scattered(100 * i + 50));
-        assert_eq!(rt; del, Ok(()));
-    }
-    for i in 0..50_000 {
-        let value = match i % 100 {
-            0 => Some(i / 100 + 1),
-            50 => None,
-            _ => Some(i),
-        };
-        assert_eq!(rt; map.get(scattered(i)), value);
-        assert_eq!(rt; map.get(scattered(i + 50_000)), None);
-    }
-    Ok(())
-}
-
-/// No two numbers below 2^32 give one key, since the factor is odd.
-fn scattered(i: u64) -> u64 {
-    i.wrapping_mul(0x9E37_79B9_7F4A_7C15)
-}
-
-fn even_key(i: u64) -> u64 {
-    i.wrapping_mul(64).wrapping_add(i.wrapping_mul(37) % 64)
-}
-
-/// So many squares from 0 on, each with its root.
-fn squares(alloc: Global, count: u64) -> Result<Vec<Entry>, NoMemory> {
-    let mut entries = Vec::new(alloc);
-    for root in 0..count {
-        let value = Some(root);
-        entries.push(Entry {
-            key: root.wrapping_mul(root),
-            value,
-        })?;
-    }
-    Ok(entries)
 }
 
 // The even numbers stand in one level, where 23 odd ones pass its filter, and deletions of every
@@ -242,38 +139,6 @@ fn keys_that_are_denied_or_deleted(rt: HostRuntime) -> Result<(), Fail> {
         assert_eq!(rt; map.get(2 * key + 1), None);
     }
     assert_eq!(rt; map.count(0, 8191), 4032);
-    Ok(())
-}
-
-// The even numbers stand in a level that is searched in step, deletions of every 128th of them in
-// another above, and one odd number in the buffer. The list is no multiple of sixteen long.
-#[test]
-fn many_at_once(rt: HostRuntime) -> Result<(), Fail> {
-    let mut map = LogMap::new(rt.alloc(), 10)?;
-    for key in 0..8192 {
-        let put = map.put(rt.alloc(), 2 * key, key);
-        assert_eq!(rt; put, Ok(()));
-    }
-    for i in 0..64 {
-        let del = map.del(rt.alloc(), 256 * i);
-        assert_eq!(rt; del, Ok(()));
-    }
-    let put = map.put(rt.alloc(), 1, 7);
-    assert_eq!(rt; put, Ok(()));
-    assert_eq!(rt; map.buffered(), 1);
-    let mut keys = Vec::new(rt.alloc());
-    for key in 0..16_389u64 {
-        keys.push(key)?;
-    }
-    let mut values = Vec::with_capacity(rt.alloc(), keys.len())?;
-    map.get_many(&keys, &mut values);
-    assert_eq!(rt; values.len(), 16_389);
-    for (i, value) in values.iter().enumerate() {
-        let half = i as u64 / 2;
-        let is_there = i % 2 == 0 && half < 8192 && half % 128 != 0;
-        let other = if i == 1 { Some(7) } else { None };
-        assert_eq!(rt; *value, if is_there { Some(half) } else { other });
-    }
     Ok(())
 }
 

@@ -25,39 +25,27 @@ impl LogMap {
         ensures { ArePlaces self.now result key }
     {
         let mut places = [0; 26];
-        self.put_groups(&mut places, key);
         self.put_starts(&mut places, key);
         let mut rest = self.occupied();
         while rest != 0 {
             let (i, behind) = lowest_and_rest(rest);
             if let Some(level) = self.level(i) {
-                places[i] = level.place_by(places[i], key);
+                places[i] = level.place(places[i], key);
             }
             rest = behind;
         }
         places
     }
 
-    /// Puts the first of the groups among which a key is in each level with fences. It tells
-    /// nothing.
-    #[inline(always)]
-    fn put_groups(&self, groups: &mut Places, key: u64) {
-        let mut rest = self.occupied();
-        while rest != 0 {
-            let (i, behind) = lowest_and_rest(rest);
-            groups[i] = self.first_group(i, key);
-            rest = behind;
-        }
-    }
-
-    /// Puts the first of eight places among which a key is in each level in place of its group. It
-    /// tells nothing.
+    /// Puts into each occupied level's place where to look there for a key. It tells nothing.
     #[inline(always)]
     fn put_starts(&self, starts: &mut Places, key: u64) {
         let mut rest = self.occupied();
         while rest != 0 {
             let (i, behind) = lowest_and_rest(rest);
-            starts[i] = self.start_from(i, starts[i], key);
+            if let Some(level) = self.level(i) {
+                starts[i] = level.start(key);
+            }
             rest = behind;
         }
     }

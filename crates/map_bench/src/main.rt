@@ -1,8 +1,7 @@
 //! `map_bench N` times a map of 64-bit keys that changes, and is an example of its caller.
 //!
-//! In turn it puts N keys, one by one (`put`); asks for N of them, one by one (`hit`) and by lists
-//! of 1000 (`hit_many`), for N others (`miss`) and for the least key from N places on (`next`);
-//! puts N/2 further keys and deletes N/2 keys, in turn (`mixed`); asks for N least keys again
+//! In turn it puts N keys, one by one (`put`); asks for N of them (`hit`), for N others (`miss`) and
+//! for the least key from N places on (`next`); puts N/2 further keys and deletes N/2 keys, in turn (`mixed`); asks for N least keys again
 //! (`next2`); does as many puts and deletions once more by lists of 1000 (`apply`); and asks again
 //! (`next3`). It prints nanoseconds of each, the least of three rounds on a new map, and a
 //! checksum: the sum of the values and keys that were answered, in 64 bits. N is 1 to 2^24. With
@@ -35,7 +34,6 @@ const STREAM: u64 = 1 << 40;
 enum Phase {
     Put,
     Hit,
-    HitMany,
     Miss,
     Next(u64),
     Mixed,
@@ -43,10 +41,9 @@ enum Phase {
 }
 
 /// The phases by name.
-const PHASES: [(&str, Phase); 9] = [
+const PHASES: [(&str, Phase); 8] = [
     ("put", Phase::Put),
     ("hit", Phase::Hit),
-    ("hit_many", Phase::HitMany),
     ("miss", Phase::Miss),
     ("next", Phase::Next(2)),
     ("mixed", Phase::Mixed),
@@ -68,11 +65,11 @@ fn run<R: AllocGlobal + Env + Print + Clock + Threads + Sync>(rt: &R) -> Result<
     ensure!(1 <= n && n <= 1 << 24, "there are 1 to 2^24 keys");
     let first = updates(rt.alloc(), n, n, 5)?;
     let second = updates(rt.alloc(), n, n.wrapping_add(n), 6)?;
-    let mut least = [Duration::MAX; 9];
-    let mut sums = [0u64; 9];
+    let mut least = [Duration::MAX; 8];
+    let mut sums = [0u64; 8];
     for _ in 0..ROUNDS {
         let mut map = LogMap::new(rt.alloc(), LEVELS)?;
-        for k in 0..9 {
+        for k in 0..8 {
             let (_, phase) = PHASES[k];
             let start = Instant::now(rt)?;
             let sum = go_through(rt, rt.alloc(), &mut map, phase, n, &first, &second)?;
@@ -80,7 +77,7 @@ fn run<R: AllocGlobal + Env + Print + Clock + Threads + Sync>(rt: &R) -> Result<
             sums[k] = sum;
         }
     }
-    for k in 0..9 {
+    for k in 0..8 {
         let (name, _) = PHASES[k];
         let each = least[k].as_secs_f64() * 1e9 / n as f64;
         println!(rt; "{name} {each:.1} checksum {}", sums[k])?;
@@ -101,7 +98,6 @@ fn go_through<R: Threads + Sync>(
     match phase {
         Phase::Put => put_all(alloc, map, n),
         Phase::Hit => Ok(sum_of_hits(map, n)),
-        Phase::HitMany => sum_of_many(alloc, map, n),
         Phase::Miss => Ok(sum_of_misses(map, n)),
         Phase::Next(stream) => Ok(sum_of_nexts(map, n, stream)),
         Phase::Mixed => update_each(alloc, map, first),
@@ -157,26 +153,6 @@ fn sum_of_hits(map: &LogMap, n: u64) -> u64 {
         sum = sum.wrapping_add(value.unwrap_or(0));
     }
     sum
-}
-
-/// The same, so many at once as are applied at once.
-fn sum_of_many(alloc: Global, map: &LogMap, n: u64) -> Result<u64> {
-    let mut keys = Vec::with_capacity(alloc, BATCH)?;
-    let mut values = Vec::with_capacity(alloc, BATCH)?;
-    let mut sum = 0u64;
-    for i in 0..n {
-        keys.push(some_key(n, drawn(1, i)))?;
-        if keys.len() == BATCH || i + 1 == n {
-            values.clear();
-            values.reserve(keys.len())?;
-            map.get_many(&keys, &mut values);
-            for value in &values {
-                sum = sum.wrapping_add(value.unwrap_or(0));
-            }
-            keys.clear();
-        }
-    }
-    Ok(sum)
 }
 
 fn sum_of_misses(map: &LogMap, n: u64) -> u64 {

@@ -248,7 +248,7 @@ fn seats_for<M: MapName>(
 }
 
 /// So many empty slots.
-fn slots_for<M: MapName>(alloc: Global, count: usize) -> Result<Vec<Slot<M>>, AllocError>
+pub fn slots_for<M: MapName>(alloc: Global, count: usize) -> Result<Vec<Slot<M>>, AllocError>
     ensures { IfOk result (λ slots. vec_len slots ≡ count) }
 {
     let mut slots = Vec::with_capacity(alloc, count)?;

@@ -45,9 +45,7 @@ fn watch<M: MapName + Send + Sync, R: Wait + Sync, G: Gate>(
             reader: number,
             turn: turn as u64,
         });
-        if let Some(note) = slot.take(rt) {
-            reader.learn(note);
-        }
+        learn_newest(rt, &mut reader, slot);
         let look = look_until(rt, reader, &mut door);
         let sighting = Sighting {
             length: look.seen(),
@@ -60,6 +58,17 @@ fn watch<M: MapName + Send + Sync, R: Wait + Sync, G: Gate>(
         reader,
         sightings,
         of,
+    }
+}
+
+/// Takes the newest note out of the reader's slot, if there is one, and learns it.
+pub fn learn_newest<M: MapName + Send + Sync, R: Wait>(rt: &R, reader: &mut Reader, slot: &Slot<M>)
+    requires { reader.old.origin ≡ M.origin }
+    ensures seen { IsPrefix reader.old.batches reader.new.batches }
+    ensures own { reader.new.origin ≡ reader.old.origin }
+{
+    if let Some(note) = slot.take(rt) {
+        reader.learn(note);
     }
 }
 

@@ -17,8 +17,6 @@ mod list;
 mod plain;
 mod reading;
 mod script;
-#[cfg(test)]
-mod tests;
 mod verb;
 mod words;
 

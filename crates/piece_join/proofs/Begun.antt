@@ -28,15 +28,15 @@ run_end-append R [] [] at to cuts = sym cuts
 run_end-append R [] (other ∷ rest) at to cuts = cuts.0
 run_end-append R (next ∷ later) others at to cuts = refl
 
-CutsInto-append : (R : ℕ → ℕ → Type 0) (starts others : List ℕ) (from at to : ℕ) → CutsInto R from at starts → CutsInto R at to others → CutsInto R from to (starts ++ others)
+pub CutsInto-append : (R : ℕ → ℕ → Type 0) (starts others : List ℕ) (from at to : ℕ) → CutsInto R from at starts → CutsInto R at to others → CutsInto R from to (starts ++ others)
 CutsInto-append R [] others from at to one two = subst (λ (n : ℕ). CutsInto R n to others) (sym one) two
 CutsInto-append R (start ∷ later) others from at to one two =
     rw (run_end-append R later others at to two) (one.0, one.1, one.2, CutsInto-append R later others (run_end later at) at to one.3 two)
 
-starts_of-append : (segments others : List Segment) → starts_of (segments ++ others) ≡ starts_of segments ++ starts_of others
+pub starts_of-append : (segments others : List Segment) → starts_of (segments ++ others) ≡ starts_of segments ++ starts_of others
 starts_of-append segments others = map-append (λ (segment : Segment). segment.start) segments others
 
-EachRun-append : (Q : Segment → ℕ → Type 0) (R : ℕ → ℕ → Type 0) (segments others : List Segment) (at to : ℕ) → CutsInto R at to (starts_of others) →
+pub EachRun-append : (Q : Segment → ℕ → Type 0) (R : ℕ → ℕ → Type 0) (segments others : List Segment) (at to : ℕ) → CutsInto R at to (starts_of others) →
     EachRun Q at segments → EachRun Q to others → EachRun Q to (segments ++ others)
 EachRun-append Q R [] others at to cuts one two = two
 EachRun-append Q R (segment ∷ later) others at to cuts one two =

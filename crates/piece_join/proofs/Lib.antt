@@ -2,3 +2,4 @@ pub mod Begun
 pub mod CutLemmas
 pub mod DrawLemmas
 pub mod PlaceLemmas
+pub mod RelaxedLemmas

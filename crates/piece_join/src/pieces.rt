@@ -71,12 +71,27 @@ pub fn segment_in_pieces<R: Threads + Sync, G: Gate>(
         segments.items ≡ others) }
 {
     let work = Work { xs, ys, eps, cuts };
+    let parts = all_parts(rt, alloc, &work, workers, gate)?;
+    joined::<Brand>(alloc, &work, &parts, Blank::new(1))
+}
+
+/// The segments of each piece by itself, in order, made by several workers.
+pub fn all_parts<'a, R: Threads + Sync, G: Gate>(
+    rt: &R,
+    alloc: Global,
+    work: &'a Work<'a>,
+    workers: u32,
+    gate: &G,
+) -> Result<Vec<Vec<Segment>>, NoMemory>
+    requires staffed { 1 ≤ workers }
+    requires few_workers { workers ≤ 64 }
+    ensures { IfOk result (λ parts. ArePlaced work.now parts.items) }
+{
     // A worker without a piece would only be started and told that there is none.
     let seated = workers.min(work.pieces());
     let (claims, seats) = Claims::new(alloc, work.pieces(), seated)?;
-    let done = all_done(rt, alloc, &work, &claims, gate, seats)?;
-    let parts = placed(alloc, &work, claims, done)?;
-    joined::<Brand>(alloc, &work, &parts, Blank::new(1))
+    let done = all_done(rt, alloc, work, &claims, gate, seats)?;
+    placed(alloc, work, claims, done)
 }
 
 /// What all workers leave.
@@ -187,7 +202,7 @@ fn joined<L: Ledger>(
 }
 
 /// How many segments the pieces have together. All points have no more.
-fn count_of(parts: &[Vec<Segment>]) -> usize {
+pub fn count_of(parts: &[Vec<Segment>]) -> usize {
     let mut count = 0usize;
     for part in parts {
         count = count.saturating_add(part.len());

@@ -1,4 +1,5 @@
 pub mod Prefixes
 pub mod Adding
-pub mod OneHistory
+pub mod OnlyGrows
+pub mod Knowing
 pub mod CallerLemmas

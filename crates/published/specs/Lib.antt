@@ -1,5 +1,6 @@
 pub mod Histories
 pub mod Writers
+pub mod Doors
 pub mod Books
 pub mod Rules
 pub use Rattle.log_levels.specs.Maps

@@ -2,7 +2,7 @@
 ghost use Rattle.std.specs.Prelude.{◌≡◌, Some, None, drop, IfOk};
 ghost use Rattle.left_right.specs.Sides.{view};
 ghost use Rattle.published.specs.Histories.{Front};
-ghost use Rattle.published.specs.Rules.{IsLastOf};
+ghost use Rattle.published.specs.Rules.{GoesOn, IsLastOf};
 
 use crate::history::Prefix;
 use crate::version::Version;
@@ -13,38 +13,29 @@ use left_right::reader::Reader;
 use left_right::writer::Writer;
 use std::sync::Wait;
 
-/// The rule: all who stand at the copies know of one history. What one knows is the history, or
-/// nothing before it was told.
-pub struct OneHistory;
+/// The rule: the version that is shown is of the history that each one knows who stands at the
+/// copies, and begins with all that this one saw. A new reader has seen nothing before it was told.
+pub struct OnlyGrows;
 
-impl Protocol<Version, Option<Prefix>> for OneHistory {
+impl Protocol<Version, Option<Prefix>> for OnlyGrows {
     ghost use Rattle.std.specs.Prelude.{None};
-    ghost use Rattle.published.specs.Rules.{IsOneHistory};
+    ghost use Rattle.published.specs.Rules.{BeginsWithSeen};
 
-    ghost holds = { IsOneHistory };
+    ghost holds = { BeginsWithSeen };
 
     ghost first = { None };
 }
 
-/// The step of a look.
-pub struct Looks;
+/// The step of a look, and the one that shows a version: it is seen.
+pub struct Sees;
 
-impl Outcome<Version, Option<Prefix>> for Looks {
-    ghost use Rattle.published.specs.Rules.{Looks as looks};
+impl Outcome<Version, Option<Prefix>> for Sees {
+    ghost use Rattle.published.specs.Rules.{Sees as sees};
 
-    ghost then = { looks };
+    ghost then = { sees };
 }
 
-/// The step that shows a version.
-pub struct Shows;
-
-impl Outcome<Version, Option<Prefix>> for Shows {
-    ghost use Rattle.published.specs.Rules.{Shows as shows};
-
-    ghost then = { shows };
-}
-
-/// The step that tells a new reader which history it is.
+/// The step that tells a new reader what is shown.
 pub struct Tells;
 
 impl Split<Option<Prefix>> for Tells {
@@ -53,7 +44,7 @@ impl Split<Option<Prefix>> for Tells {
     ghost right = { λ v. v };
 }
 
-/// The step by which a new reader knows it.
+/// The step by which a new reader has seen it.
 pub struct Knows;
 
 impl Join<Option<Prefix>> for Knows {
@@ -66,15 +57,17 @@ impl Join<Option<Prefix>> for Knows {
 }
 
 /// Both copies, as the writer holds them. What readers take is `desk.shown.value`.
-pub type Copies = Writer<Version, Version, Option<Prefix>, OneHistory>;
+pub type Copies = Writer<Version, Version, Option<Prefix>, OnlyGrows>;
 
 /// A reader's place at the copies.
-pub type Place = Reader<Version, Option<Prefix>, OneHistory>;
+pub type Place = Reader<Version, Option<Prefix>, OnlyGrows>;
 
-/// Shows readers this version. It waits for those that look at the one before the last, and asks
-/// again where room or a share isn't had.
+/// Shows readers this version. It waits for those that look at the one before the last.
+///
+/// Where the place in the queue or a share of the map isn't had, it asks again. Neither is known to
+/// come: [`with_room`] took the queue's room, and a share takes no memory.
 pub fn show<R: Wait>(rt: &R, copies: Copies, version: Version) -> Copies
-    requires own { version.origin ≡ copies.desk.shown.value.origin }
+    requires more { GoesOn copies.desk.shown.value version }
     ensures shown { result.desk.shown.value ≡ version }
     ensures known { view result.desk.place ≡ Some version }
 {
@@ -100,8 +93,8 @@ fn queued<R: Wait>(rt: &R, copies: Copies, version: Version) -> Copies
 /// Shows the last version that waits.
 fn turned<R: Wait>(rt: &R, copies: Copies) -> Copies
     requires some { (last : Front) × IsLastOf (drop copies.behind copies.log.items) last }
-    requires own { (last : Front) → IsLastOf (drop copies.behind copies.log.items) last →
-        last.origin ≡ copies.desk.shown.value.origin }
+    requires more { (last : Front) → IsLastOf (drop copies.behind copies.log.items) last →
+        GoesOn copies.desk.shown.value last }
     ensures shown { (last : Front) → IsLastOf (drop copies.behind copies.log.items) last →
         result.desk.shown.value ≡ last }
     ensures known { view result.desk.place ≡ Some result.desk.shown.value }
@@ -109,7 +102,7 @@ fn turned<R: Wait>(rt: &R, copies: Copies) -> Copies
     let mut copies = copies;
     for _turn in rt.forever() {
         // Event: publish.
-        match copies.publish_as::<Shows, R>(rt) {
+        match copies.publish_as::<Sees, R>(rt) {
             (shown, Ok(())) => return shown,
             (same, Err(_)) => copies = same,
         }
@@ -117,23 +110,28 @@ fn turned<R: Wait>(rt: &R, copies: Copies) -> Copies
     unreachable!()
 }
 
-/// Takes the room for a version that waits, by showing one that is the shown one. Else the copies
-/// are given up.
+/// Takes the room for a version that waits, by showing the one that is shown. Where it isn't had
+/// the copies are given up.
 pub fn with_room<R: Wait>(rt: &R, copies: Copies, version: Version) -> Result<Copies, NoMemory>
-    requires own { version.origin ≡ copies.desk.shown.value.origin }
+    requires same { version ≡ copies.desk.shown.value }
     ensures shown { IfOk result (λ copies. copies.desk.shown.value ≡ version) }
     ensures known { IfOk result (λ copies. view copies.desk.place ≡ Some version) }
 {
     let mut copies = copies;
-    let queued = copies.append(version);
-    if queued.is_err() {
+    if copies.append(version).is_err() {
         give_up(rt, copies);
         return Err(NoMemory);
     }
-    Ok(turned(rt, copies))
+    match copies.publish_as::<Sees, R>(rt) {
+        (shown, Ok(())) => Ok(shown),
+        (same, Err(_)) => {
+            give_up(rt, same);
+            Err(NoMemory)
+        }
+    }
 }
 
-/// A reader's place, which knows what the writer knows.
+/// A reader's place, which has seen what is shown.
 pub fn seated<R: Wait>(rt: &R, copies: &mut Copies) -> Place
     ensures known { view result.place ≡ view copies.old.desk.place }
     ensures same { view copies.new.desk.place ≡ view copies.old.desk.place }
@@ -144,7 +142,7 @@ pub fn seated<R: Wait>(rt: &R, copies: &mut Copies) -> Place
     place
 }
 
-/// A place that is free. It asks again where there is none.
+/// A place that is free. It asks again where each seems to be in use.
 fn free_place<R: Wait>(rt: &R, copies: &Copies) -> Place
     ensures new { view result.place ≡ None }
     ensures own { result.place.table_id ≡ copies.now.desk.place.table_id }

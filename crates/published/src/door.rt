@@ -1,7 +1,9 @@
 // Doors, through which readers look.
-ghost use Rattle.std.specs.Prelude.{◌≡◌, ◌≤◌, ℕ, IfOk, IfErr, OnOk, OnErr};
+ghost use Rattle.std.specs.Prelude.{◌≡◌, ◌+◌, ◌≤◌, ℕ, min, true, Contains, Result};
+ghost use Rattle.std.specs.Prelude.{IfOk, IfErr, OnOk, OnErr};
 ghost use mathlib.Core.List.{IsPrefix};
 ghost use Rattle.edge.specs.Risen.{HasRisen};
+ghost use Rattle.published.specs.Histories.{Front};
 
 use crate::reader::{Look, Reader};
 
@@ -16,6 +18,9 @@ pub trait Door {
     /// How many were refused. It never falls.
     ghost refused: { Self → ℕ };
 
+    /// A call of `enter` may lead from a door, with this answer, to this door.
+    ghost enters: { Self → Result Front Front → Self → Type 0 };
+
     /// Lets the reader in, or hands it back as it was.
     ///
     /// # Errors
@@ -25,6 +30,7 @@ pub trait Door {
         ensures shown { IfOk result (λ inside. IsPrefix inner.batches inside.batches) }
         ensures own { IfOk result (λ inside. inside.origin ≡ inner.origin) }
         ensures back { IfErr result (λ back. back ≡ inner) }
+        ensures call { enters self.old result self.new }
         ensures never_falls { refused self.old ≤ refused self.new }
         ensures passed { OnOk result (refused self.new ≡ refused self.old) }
         ensures refused { OnErr result (HasRisen (refused self.old) (refused self.new)) };
@@ -47,7 +53,11 @@ impl PlainDoor {
 }
 
 impl Door for PlainDoor {
+    ghost use Rattle.std.specs.Prelude.{⊤};
+
     ghost refused = { λ door. door.refusals };
+
+    ghost enters = { λ _ _ _. ⊤ };
 
     fn enter(&mut self, inner: Inner) -> Result<Inside, Inner> {
         match inner.enter() {
@@ -61,35 +71,61 @@ impl Door for PlainDoor {
 }
 
 /// A door that refuses the calls of these numbers, counted from 1, and else is a plain one.
+///
+/// The number of calls stays at its last value.
 #[derive(Drop)]
 pub struct ShutDoor {
     failing: Vec<u64>,
     calls: u64,
+    turned_away: u64,
     plain: PlainDoor,
 }
 
 impl ShutDoor {
+    ghost use Rattle.published.specs.Doors.{new_shut, shut_of};
+
     /// A door that has refused nobody. Takes no memory.
     pub fn new(failing: Vec<u64>) -> ShutDoor
-        ensures { ⟦<ShutDoor as Door>⟧.refused result ≡ 0 }
+        ensures refused { ⟦<ShutDoor as Door>⟧.refused result ≡ 0 }
+        ensures shut { shut_of result ≡ new_shut failing.items }
     {
         ShutDoor {
             failing,
             calls: 0,
+            turned_away: 0,
             plain: PlainDoor::new(),
         }
     }
 }
 
 impl Door for ShutDoor {
-    ghost refused = { λ door. door.plain.refusals };
+    ghost use Rattle.published.specs.Doors.{RefusesWhere, shut_of};
+
+    ghost refused = { λ door. door.turned_away };
+
+    ghost enters = { λ old result new. RefusesWhere (shut_of old) result (shut_of new) };
 
     fn enter(&mut self, inner: Inner) -> Result<Inside, Inner> {
-        self.calls = self.calls.saturating_add(1);
-        if self.failing.contains(&self.calls) {
-            self.plain.refusals = self.plain.refusals.saturating_add(1);
+        if is_listed(&mut self.calls, &self.failing) {
+            self.turned_away = self.turned_away.saturating_add(1);
             return Err(inner);
         }
-        self.plain.enter(inner)
+        match self.plain.enter(inner) {
+            Ok(inside) => Ok(inside),
+            Err(inner) => {
+                self.turned_away = self.turned_away.saturating_add(1);
+                Err(inner)
+            }
+        }
     }
+}
+
+/// Counts a call, and says whether it is to be refused.
+fn is_listed(calls: &mut u64, failing: &[u64]) -> bool
+    ensures counted { calls.new ≡ min (calls.old + 1) 18446744073709551615 }
+    ensures listed { result ≡ true → Contains failing.now calls.new }
+    ensures others { Contains failing.now calls.new → result ≡ true }
+{
+    *calls = calls.saturating_add(1);
+    failing.contains(calls)
 }

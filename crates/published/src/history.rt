@@ -13,6 +13,7 @@ use log_levels::Update;
 use logbook::{Gain, Offer, Plain, Play, Rule, Seen, Start, Word};
 use std::collections::LinkedList;
 use std::marker::Model;
+use std::sync::Wait;
 
 /// Updates that are published at once.
 pub type Batch = LinkedList<Update>;
@@ -148,8 +149,28 @@ impl Prefix {
         true
     }
 
-    /// Adds a batch to the history, where this prefix is all of it, and says whether it did.
-    pub(crate) fn publish(&mut self, head: &Head, batch: &Vec<Update>) -> bool
+    /// Adds a batch to the history, of which this prefix is all.
+    ///
+    /// It waits until the word is as this writer left it. The writer alone has the word, so it is.
+    pub(crate) fn publish<R: Wait>(&mut self, rt: &R, head: &Head, batch: &Vec<Update>)
+        requires own { head.now ≡ head_of self.old.origin }
+        requires some { 0 < vec_len batch.now }
+        requires room { count_of self.old.batches + vec_len batch.now < 2 ^ 64 }
+        ensures added { self.new.batches ≡ self.old.batches ++ batch.now.items ∷ [] }
+        ensures own { self.new.origin ≡ self.old.origin }
+    {
+        for _turn in rt.forever() {
+            let mut longer = self.again();
+            if longer.exchange(head, batch) {
+                *self = longer;
+                return;
+            }
+        }
+        unreachable!()
+    }
+
+    /// Adds the batch where this prefix is all of the history, and says whether it did.
+    fn exchange(&mut self, head: &Head, batch: &Vec<Update>) -> bool
         requires own { head.now ≡ head_of self.old.origin }
         requires some { 0 < vec_len batch.now }
         requires room { count_of self.old.batches + vec_len batch.now < 2 ^ 64 }
@@ -163,8 +184,7 @@ impl Prefix {
         let mut pen = self.seen.no_pen();
         let before = self.updates;
         let after = before + batch.len() as u64;
-        // Event: publish. The batch is in the history, whatever others saw before. The writer alone
-        // adds, so the word is what it was.
+        // Event: publish. The batch is in the history, whatever others saw before.
         let found = head.compare_exchange::<Publishes, Nothing>(
             before,
             after,

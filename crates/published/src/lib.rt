@@ -1,9 +1,8 @@
 //! A map that one writer changes and many readers search.
 //!
-//! The writer holds a batch of updates in hand and publishes it at once. Readers never wait, take
-//! no lock and no memory, and are answered while the writer builds. What a reader sees is the map
-//! after a prefix of what was published, which ends a batch and begins with all that this reader
-//! saw before, and with all that it was told of:
+//! The writer holds a batch of updates in hand and publishes it at once. No call of a reader waits
+//! or takes memory. What a reader sees is the map after a prefix of what was published, which ends
+//! a batch and begins with all that this reader saw before, and with all that it was told of:
 //!
 //!     published   | put 1 10 | put 2 20, del 1 | put 3 30
 //!     a look      | put 1 10 | put 2 20, del 1                 2 has 20, 1 nothing
@@ -14,8 +13,8 @@
 //! finished version of the map. The rule has three parts. A version's prefix is how the history
 //! began, and so is what a reader saw and what a note tells: their types say so, and of two such
 //! prefixes the longer begins with the other. A version's map stands for the updates of its prefix:
-//! its type says so. All who stand at the copies of a version are of one history: that is the rule
-//! of `left_right`'s table.
+//! its type says so. The version that is shown begins with all that anyone has seen who stands at
+//! its copies: that is the rule of `left_right`'s table.
 //!
 //! The steps on what threads share, each one event:
 //!

@@ -6,7 +6,7 @@ ghost use Rattle.log_levels.specs.Maps.{map_after, value_at, next_from, count_be
 ghost use Rattle.left_right.specs.Sides.{view};
 ghost use Rattle.published.specs.Histories.{Front, updates_of, count_of, longer_of};
 
-use crate::copies::{Looks, OneHistory, Place};
+use crate::copies::{OnlyGrows, Place, Sees};
 use crate::door::Door;
 use crate::history::Prefix;
 use crate::version::Version;
@@ -18,25 +18,26 @@ use std::marker::Model;
 pub struct Reader {
     place: Place,
     known: Prefix,
+    // Whether that was learned, and is longer than what was seen.
+    learned: bool,
 }
 
 impl Model for Reader {
-    ghost use Rattle.std.specs.Prelude.{◌≡◌, Some};
     ghost use Rattle.left_right.specs.Sides.{view as view_of};
     ghost use Rattle.published.specs.Histories.{Front};
+    ghost use Rattle.published.specs.Rules.{Knows};
 
     ghost Value = { Front };
 
     ghost view = { λ r. r.known };
 
-    ghost invariant = { λ r. (told : Front) × (view_of r.place.place ≡ Some told)
-        × (told.origin ≡ r.known.origin) };
+    ghost invariant = { λ r. Knows (view_of r.place.place) r.known r.learned };
 }
 
 /// A look at the map, seen as the prefix of the history that it shows. The writer waits for it, as
 /// long as it is kept. A look that is dropped gives up its reader.
 pub struct Look {
-    reading: Reading<Version, Option<Prefix>, OneHistory>,
+    reading: Reading<Version, Option<Prefix>, OnlyGrows>,
 }
 
 impl Model for Look {
@@ -48,8 +49,7 @@ impl Model for Look {
 
     ghost view = { λ l. l.reading.part.value };
 
-    ghost invariant = { λ l. (told : Front) × (view_of l.reading.place ≡ Some told)
-        × (told.origin ≡ l.reading.part.value.origin) };
+    ghost invariant = { λ l. view_of l.reading.place ≡ Some l.reading.part.value };
 }
 
 /// What was published when the writer told it, seen as that history. It takes 8 bytes.
@@ -84,13 +84,16 @@ impl Note {
 }
 
 impl Reader {
-    /// A reader that has seen this much. Its place knows the history.
-    pub(crate) fn at(place: Place, known: Prefix) -> Reader
-        requires { (told : Front) × (view place.place ≡ Some told)
-            × (told.origin ≡ known.origin) }
-        ensures { result ≡ known }
+    /// A reader that has seen this much, as its place knows.
+    pub(crate) fn at(place: Place, seen: Prefix) -> Reader
+        requires { view place.place ≡ Some seen }
+        ensures { result ≡ seen }
     {
-        Reader { place, known }
+        Reader {
+            place,
+            known: seen,
+            learned: false,
+        }
     }
 
     /// Takes in a note, which is used up. What was seen is the longer of the two then, and begins
@@ -103,6 +106,9 @@ impl Reader {
         ensures own { self.new.origin ≡ self.old.origin }
     {
         // Event: learn.
+        if self.known.len() < note.told.len() {
+            self.learned = true;
+        }
         self.known = self.known.longer(&note.told);
     }
 
@@ -125,30 +131,43 @@ impl Reader {
         ensures shown { IfOk result (λ look. IsPrefix self.batches look.batches) }
         ensures own { IfOk result (λ look. look.origin ≡ self.origin) }
         ensures back { IfErr result (λ back. back ≡ self) }
+        ensures call { D.enters door.old result door.new }
         ensures passed { OnOk result (D.refused door.new ≡ D.refused door.old) }
         ensures refused { OnErr result (HasRisen (D.refused door.old) (D.refused door.new)) }
     {
         door.enter(self)
     }
 
-    /// Enters, where what is published begins with all that this reader saw and learned.
+    /// Enters. What is shown begins with all that this reader saw, by the rule of the copies. What
+    /// it learned is compared, since a note is no part of them.
     pub(crate) fn enter(self) -> Result<Look, Reader>
         ensures shown { IfOk result (λ look. IsPrefix self.batches look.batches) }
         ensures own { IfOk result (λ look. look.origin ≡ self.origin) }
         ensures back { IfErr result (λ back. back ≡ self) }
     {
-        let Reader { place, known } = self;
+        let Reader {
+            place,
+            known,
+            learned,
+        } = self;
         // Event: look. The version is the one that is shown at this step.
-        match place.enter_as::<Looks>() {
+        match place.enter_as::<Sees>() {
             Ok(reading) => {
-                if reading.get().prefix().begins_with(&known) {
+                if !learned || reading.get().prefix().begins_with(&known) {
                     return Ok(Look { reading });
                 }
                 // Never comes: a note is told once its version is shown.
-                let place = reading.leave();
-                Err(Reader { place, known })
+                Err(Reader {
+                    place: reading.leave(),
+                    known,
+                    learned,
+                })
             }
-            Err(place) => Err(Reader { place, known }),
+            Err(place) => Err(Reader {
+                place,
+                known,
+                learned,
+            }),
         }
     }
 }
@@ -187,9 +206,8 @@ impl Look {
         ensures { result ≡ self }
     {
         let Look { reading } = self;
-        let known = reading.get().prefix().again();
-        let place = reading.leave();
-        Reader { place, known }
+        let seen = reading.get().prefix().again();
+        Reader::at(reading.leave(), seen)
     }
 }
 

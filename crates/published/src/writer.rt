@@ -130,8 +130,7 @@ fn seat_all<R: Wait>(
 )
     requires empty { seats.old.items ≡ [] }
     requires room { readers ≤ vec_capacity seats.old }
-    requires told { (told : Front) × (view copies.old.desk.place ≡ Some told)
-        × (told.origin ≡ front.now.origin) }
+    requires told { view copies.old.desk.place ≡ Some front.now }
     ensures shown { copies.new.desk.shown ≡ copies.old.desk.shown }
     ensures readers { length seats.new.items ≡ readers }
     ensures fresh { All (λ reader. reader ≡ front.now) seats.new.items }
@@ -154,7 +153,9 @@ impl Writer {
     ///
     /// `Full` exactly where the entries of what is published, of the batch and of these updates
     /// would be more than the map can accept, with the entries before; it is judged before memory
-    /// is taken, where no update is a sweep. `NoMemory`. After either nothing has changed.
+    /// is taken, where no update is a sweep. `NoMemory` where memory isn't had, and where the
+    /// updates of all time would be 2^64 or more, so that no length could tell them. After either
+    /// nothing has changed.
     pub fn stage<R: Threads + Sync, G: Gate>(
         &mut self,
         rt: &R,
@@ -246,7 +247,9 @@ impl Writer {
     /// see all of it or nothing. Answers the published length, in updates. An empty batch leaves
     /// the history as it is.
     ///
-    /// It merges and builds nothing, and may wait for a look that is kept.
+    /// It merges and builds nothing, and may wait for a look that is kept. Once the batch is in the
+    /// history it asks again for its place in the queue of the copies and for a share of the map,
+    /// where one isn't had. `start_map` took the room of the queue, and a share takes no memory.
     ///
     /// # Errors
     ///
@@ -265,9 +268,7 @@ impl Writer {
         }
         let map = Arc::try_clone(&self.map)?;
         let mut front = self.front.again();
-        if !front.publish(&self.head, &self.batch) {
-            return Err(NoMemory);
-        }
+        front.publish(rt, &self.head, &self.batch);
         let version = Version::new(map, front.again());
         let Some(copies) = self.copies.take() else {
             unreachable!()

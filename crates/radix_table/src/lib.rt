@@ -19,6 +19,3 @@ mod table;
 
 pub use entries::fill_to;
 pub use table::RadixTable;
-
-#[cfg(test)]
-mod tests;

@@ -1,3 +1,4 @@
 pub mod Runs
 pub mod Unique
+pub mod SegmentsExist
 pub mod WholeLemmas

@@ -1,5 +1,5 @@
 -- The run that the hulls stand for, as the longest run and its segment.
-use Rattle.std.proofs.Common.{◌≡◌, ℕ, ◌+◌, ◌-◌, ◌<◌, ◌≤◌, List, length, slice_index, Some, refl, sym, subst, arith}
+use Rattle.std.proofs.Common.{◌≡◌, ℕ, ◌+◌, ◌<◌, List, length, slice_index, Some, refl, sym, subst, arith}
 use Rattle.exact_cross.specs.declared.segment.Witness.{Witness}
 use Rattle.exact_cross.specs.declared.segment.Segment.{Segment}
 use Rattle.exact_cross.specs.Points.{Points, points_of}
@@ -7,15 +7,11 @@ use Rattle.exact_cross.specs.Lines.{SomeLineFits}
 use Rattle.exact_cross.specs.Covers.{IsLongest}
 use Rattle.exact_cross.specs.Cuts.{IsCutOf, HasItsCut}
 use Rattle.hulls.specs.declared.fitting.Hulls.{Hulls}
-use Rattle.hulls.specs.Hulls.{StandsFor, IsNext, AreNext}
+use Rattle.hulls.specs.Hulls.{StandsFor, IsNext}
 
 pub IsNext-place : (hulls : Hulls) (xs ys : List ℕ) (eps s e : ℕ) → StandsFor hulls (points_of xs ys) eps s e → e < length xs →
     IsNext hulls (points_of xs ys) eps s e (slice_index xs e) (slice_index ys e)
 IsNext-place hulls xs ys eps s e stands inside = record { stands = stands; more = inside; at_x = refl; at_y = refl }
-
-pub AreNext-places : (hulls : Hulls) (xs ys : List ℕ) (eps s e count : ℕ) → StandsFor hulls (points_of xs ys) eps s e → 1 ≤ count → e + count ≤ length xs →
-    AreNext hulls (points_of xs ys) eps s e count (slice_index xs e) (slice_index ys e) (slice_index xs (e + count - 1)) (slice_index ys (e + count - 1))
-AreNext-places hulls xs ys eps s e count stands some inside = record { stands = stands; some = some; more = inside; at_x = refl; at_y = refl; last_x = refl; last_y = refl }
 
 -- a run that ends at the range's end, or before a place that no line goes on to
 pub IsLongest-whole : (hulls : Hulls) (p : Points) (eps to s : ℕ) → StandsFor hulls p eps s to → IsLongest p eps to s to

@@ -19,12 +19,14 @@ ghost use Rattle.exact_cross.specs.Cuts.{HasItsCut};
 ghost use Rattle.exact_cross.specs.Checked.{IsLeastCover, AreChecked};
 ghost use Rattle.segmenter.specs.Segmentation.{IsSegmentation};
 
+mod laws;
 pub mod run;
 mod whole;
 
 use budget::{NoMemory, Steps};
 use exact_cross::{MAX_EPSILON, Segment};
 use hulls::Hulls;
+pub use laws::some_segmentation;
 use run::longest_run;
 use std::alloc::Global;
 use std::marker::Brand;
@@ -41,7 +43,7 @@ use whole::whole_run;
 ///
 /// # Errors
 ///
-/// `NoMemory` alone, where the list of segments or the two hulls find none. The hulls ask for 64
+/// `NoMemory` alone, where the list of segments or the two hulls find none. The hulls ask for 32
 /// bytes a point, once for the whole range, and touch as much as the longest hulls of a run take.
 ///
 /// Source: Ferragina and Vinciguerra, PVLDB 13(8), 2020, section 3.1; O'Rourke, CACM 24(9), 1981.

@@ -12,12 +12,6 @@ use exact_cross::{MAX_EPSILON, Segment, Witness};
 use hulls::{Hulls, Offer};
 use std::sync::ledger::Ledger;
 
-/// How many places are passed at once, if none of them turns a line of the run.
-const AT_ONCE: u32 = 8;
-
-/// After how many places in a row that turned none this is tried.
-const CALM: u32 = 4;
-
 /// A segment and the end of its run, a place.
 #[derive(Clone, Copy)]
 pub struct Run {
@@ -30,7 +24,7 @@ pub struct Run {
 /// This is for a caller that goes from run to run by itself: the greedy segments are those of the
 /// longest runs, each from the end of the one before it. The segment has the run's steep pair, and
 /// its cut unless the run ends at `to`. The hulls begin anew with the error bound that they were
-/// made with, and have room for the places `start..to`. It takes at most 11 steps for each place of
+/// made with, and have room for the places `start..to`. It takes at most 10 steps for each place of
 /// the run, and no memory.
 pub fn longest_run<L: Ledger>(
     hulls: &mut Hulls,
@@ -56,37 +50,19 @@ pub fn longest_run<L: Ledger>(
         (bound_of hulls.old) result.segment result.end }
     ensures cut { HasItsCut (points_of xs.now ys.now)
         (bound_of hulls.old) to result.segment result.end }
-    ensures cost { steps.new + 11 * start ≤ steps.old + 11 * result.end }
+    ensures cost { steps.new + 10 * start ≤ steps.old + 10 * result.end }
     ensures room { room_of hulls.old ≤ room_of hulls.new }
     ensures bound { bound_of hulls.new ≡ bound_of hulls.old }
 {
     hulls.start(start, xs[start as usize], ys[start as usize]);
-    let mut place = start + 1;
-    let mut calm = 0;
-    while place < to {
-        if calm >= CALM && to - place >= AT_ONCE {
-            let last = place + AT_ONCE - 1;
-            let (x, y) = (xs[place as usize], ys[place as usize]);
-            let (x_last, y_last) = (xs[last as usize], ys[last as usize]);
-            if hulls.pass(x, y, x_last, y_last, AT_ONCE, steps) {
-                place += AT_ONCE;
-                continue;
-            }
-            calm = 0;
-            continue;
+    for place in start + 1..to {
+        if let Offer::Cut(witness) = hulls.offer(xs[place as usize], ys[place as usize], steps) {
+            let segment = segment_of(hulls, start, Some(witness));
+            return Run {
+                segment,
+                end: place,
+            };
         }
-        calm = match hulls.offer(xs[place as usize], ys[place as usize], steps) {
-            Offer::Calm => CALM.min(calm + 1),
-            Offer::Turned => 0,
-            Offer::Cut(witness) => {
-                let segment = segment_of(hulls, start, Some(witness));
-                return Run {
-                    segment,
-                    end: place,
-                };
-            }
-        };
-        place += 1;
     }
     let segment = segment_of(hulls, start, None);
     Run { segment, end: to }

@@ -181,59 +181,9 @@ fn heights_of_their_own(rt: HostRuntime) -> Result<(), Fail> {
     Ok(())
 }
 
-/// What the guess says, and the segments that the hulls alone give.
-fn apart<L: Ledger>(
-    alloc: Global,
-    xs: &[u64],
-    ys: &[u32],
-    eps: u32,
-    to: u32,
-    blank: Blank,
-) -> Result<(Option<Segment>, Vec<Segment>), NoMemory>
-    requires same_length { length ys.now ≡ length xs.now }
-    requires rising { IsStrictlyIncreasing xs.now }
-    requires never_falls { IsNonDecreasing ys.now }
-    requires few { length xs.now < 2 ^ 32 }
-    requires bounded { eps ≤ 1048576 }
-    requires within { to ≤ length xs.now }
-    requires name { blank.name ≡ L.name }
-    requires parts { blank.parts ≡ L.parts }
-    requires one { blank.parts ≡ 1 }
-{
-    let mut steps = Steps::<L>::new(blank);
-    let guess = whole_run(xs, ys, eps, 0, to, &mut steps);
-    let mut segments = Vec::new(alloc);
-    let mut hulls = Hulls::new(alloc, eps, to)?;
-    let mut start = 0;
-    while start < to {
-        let run = longest_run(&mut hulls, xs, ys, start, to, &mut steps);
-        segments.push(run.segment)?;
-        start = run.end;
-    }
-    Ok((guess, segments))
-}
-
-/// `guessed` tells whether the guess finds the one run.
-fn expect_hulls<R: Abort + AllocGlobal>(
-    rt: &R,
-    points: Points,
-    eps: u32,
-    guessed: bool,
-) -> Result<(), NoMemory> {
-    let (xs, ys) = points;
-    assert!(rt; rises(xs) && never_falls(ys));
-    assert!(rt; eps <= 1_048_576 && xs.len() < 1000 && xs.len() == ys.len());
-    let to = xs.len() as u32;
-    let (guess, alone) = apart::<Brand>(rt.alloc(), xs, ys, eps, to, Blank::new(1))?;
-    assert_eq!(rt; guess.is_some(), guessed);
-    let segments = segment(rt.alloc(), xs, ys, eps, 0, to)?;
-    assert_eq!(rt; segments.as_slice(), alone.as_slice());
-    Ok(())
-}
-
 // The steep slope of two places is 1 / 10 and 8 over their distance, so the ends are the pair.
 #[test]
-fn one_run_by_a_guess(rt: HostRuntime) -> Result<(), Fail> {
+fn runs_of_many_places(rt: HostRuntime) -> Result<(), Fail> {
     let mut xs = [0u64; 100];
     let mut ys = [0u32; 100];
     for i in 0..100 {
@@ -242,11 +192,6 @@ fn one_run_by_a_guess(rt: HostRuntime) -> Result<(), Fail> {
     }
     let rows = [row(0, 0, 99, line(0, -4, 107, 990), None)];
     expect_rows(&rt, (&xs, &ys), 4, (0, 100), &rows)?;
-    let rows = [row(0, 0, 99, line(0, -64, 227, 990), None)];
-    expect_rows(&rt, (&xs, &ys), 64, (0, 100), &rows)?;
-    // The guess takes a test a place at most, which do for blocks of places below the bound alone.
-    expect_hulls(&rt, (&xs, &ys), 4, false)?;
-    expect_hulls(&rt, (&xs, &ys), 64, true)?;
     // A jump of the keys after 48 places. The line of the least slope passes far above the next.
     for i in 48..100 {
         xs[i] = 100_000 + 10 * i as u64;
@@ -256,27 +201,5 @@ fn one_run_by_a_guess(rt: HostRuntime) -> Result<(), Fail> {
         row(48, 48, 99, line(100_480, 44, 59, 510), None),
     ];
     expect_rows(&rt, (&xs, &ys), 4, (0, 100), &rows)?;
-    expect_hulls(&rt, (&xs, &ys), 4, false)?;
-    Ok(())
-}
-
-// Gaps that look random. At the greatest bound they are one run, by the second pair that is tried.
-#[test]
-fn same_as_the_hulls_alone(rt: HostRuntime) -> Result<(), Fail> {
-    let mut xs = [0u64; 300];
-    let mut ys = [0u32; 300];
-    let mut state = 1u64;
-    let mut x = 0u64;
-    for i in 0..300 {
-        state = state
-            .wrapping_mul(6_364_136_223_846_793_005)
-            .wrapping_add(1_442_695_040_888_963_407);
-        x += 1 + (state >> 60);
-        xs[i] = x;
-        ys[i] = i as u32;
-    }
-    expect_hulls(&rt, (&xs, &ys), 4, false)?;
-    expect_hulls(&rt, (&xs, &ys), 16, false)?;
-    expect_hulls(&rt, (&xs, &ys), 64, true)?;
     Ok(())
 }

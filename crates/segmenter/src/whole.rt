@@ -20,8 +20,8 @@ const MOST: u32 = 8192;
 /// How many places at each end are tried for the first pair.
 const ENDS: u32 = 6;
 
-/// How many tests the guess takes: four that see whether it is worth while, and those of the ends.
-const GUESS: u32 = 4 + 2 * ENDS;
+/// How many tests the guess takes: six that see whether it is worth while, and those of the ends.
+const GUESS: u32 = 6 + 2 * ENDS;
 
 /// How many pairs are tried.
 const PAIRS: u32 = 8;
@@ -37,8 +37,8 @@ const PART: u32 = 4;
 /// lower one, and none lower than its upper one. So all places are looked at beside a pair's line,
 /// and those that lie highest and lowest are the next pair, whose slope is less, until they are the
 /// pair itself. Of points that rise none lies higher than the first x of theirs with the last y, so
-/// most are passed in blocks. `None` tells nothing. It takes at most a step for each place, which
-/// is a test of a point against a line or a comparison of two slopes, and no memory.
+/// most are passed in blocks. `None` tells nothing. It takes at most two steps for each place, which
+/// are tests of a point against a line and comparisons of two slopes, and no memory.
 ///
 /// Source: Dinkelbach, Management Science 13(7), 1967.
 pub fn whole_run<L: Ledger>(
@@ -57,7 +57,7 @@ pub fn whole_run<L: Ledger>(
     requires range { from ≤ to }
     requires within { to ≤ length xs.now }
     ensures whole { IfSome result (IsWhole (points_of xs.now ys.now) eps from to) }
-    ensures cost { steps.new ≤ steps.old + (to - from) }
+    ensures cost { steps.new ≤ steps.old + 2 * (to - from) }
 {
     let count = to - from;
     if count < FEWEST || count > MOST {
@@ -67,7 +67,7 @@ pub fn whole_run<L: Ledger>(
         return None;
     }
     let (mut a, mut b) = pair_at_ends(xs, ys, eps, from, to, steps);
-    let mut left = count - GUESS;
+    let mut left = 2 * count - GUESS;
     for _ in 0..PAIRS {
         let mut found = Extremes::of(xs, ys, eps, a, b, left);
         if !found.go_over(xs, ys, from, to, steps) {
@@ -93,7 +93,8 @@ pub fn whole_run<L: Ledger>(
 }
 
 /// Whether three places between the ends lie so near to the line through the ends that one line may
-/// fit all places. It decides nothing. It takes four steps at most.
+/// fit all places. It decides nothing. It takes six steps at most: each of the three is tested against
+/// two lines.
 fn may_fit<L: Ledger>(
     xs: &[u64],
     ys: &[u32],
@@ -109,7 +110,7 @@ fn may_fit<L: Ledger>(
     requires some { from + FEWEST ≤ to }
     requires few { to ≤ from + MOST }
     requires within { to ≤ length xs.now }
-    ensures cost { steps.new ≤ steps.old + 4 }
+    ensures cost { steps.new ≤ steps.old + 6 }
 {
     let last = (to - 1) as usize;
     let first = from as usize;
@@ -117,12 +118,12 @@ fn may_fit<L: Ledger>(
     let rise = u64::from(ys[last] - ys[first]);
     let run = xs[last] - xs[first];
     let far = u128::from((2 * eps).min(quarter)) * u128::from(run);
-    steps.tick();
     let chord = height(rise, run, xs[first], ys[first]);
     for i in 1..4 {
         let place = (from + i * quarter) as usize;
-        steps.tick();
         let other = height(rise, run, xs[place], ys[place]);
+        steps.tick();
+        steps.tick();
         if other > chord + far || chord > other + far {
             return false;
         }
@@ -377,7 +378,7 @@ impl Extremes {
         ensures line { self.new.line ≡ self.old.line }
         ensures cost { steps.new + self.new.left ≡ steps.old + self.old.left }
     {
-        if self.left < 2 + (to - from) {
+        if self.left < 2 + 2 * (to - from) {
             return false;
         }
         if self.are_between(xs, ys, from, to, steps) {
@@ -427,21 +428,22 @@ impl Extremes {
         highest < self.top_height && self.bottom_height < lowest
     }
 
-    /// Looks at the next place.
+    /// Looks at the next place: whether it lies above the highest one, and whether below the lowest.
     #[inline(always)]
     fn look_at<L: Ledger>(&mut self, xs: &[u64], ys: &[u32], place: u32, steps: &mut Steps<L>)
         requires same_length { length ys.now ≡ length xs.now }
         requires low { self.old.line.rise < 2 ^ 34 }
-        requires left { 1 ≤ self.old.left }
+        requires left { 2 ≤ self.old.left }
         requires inside { place < length xs.now }
         ensures more { (s e : ℕ) → s ≤ place → place < e →
             AreExtremes (points_of xs.now ys.now) s e place self.old →
             AreExtremes (points_of xs.now ys.now) s e (place + 1) self.new }
         ensures line { self.new.line ≡ self.old.line }
-        ensures left { self.new.left + 1 ≡ self.old.left }
-        ensures step { steps.new ≡ steps.old + 1 }
+        ensures left { self.new.left + 2 ≡ self.old.left }
+        ensures steps { steps.new ≡ steps.old + 2 }
     {
-        self.left -= 1;
+        self.left -= 2;
+        steps.tick();
         steps.tick();
         let (x, y) = (xs[place as usize], ys[place as usize]);
         let height = height(self.line.rise, self.line.run, x, y);

@@ -18,8 +18,6 @@ mod keys;
 mod number_list;
 mod points;
 mod reading;
-#[cfg(test)]
-mod tests;
 
 pub use fault::KeyFault;
 pub use keys::{read_keys, readings_are_one};

@@ -18,6 +18,3 @@ mod windows;
 pub use keys::CountedKeys;
 pub use searches::{lower_in, predecessor_in};
 pub use windows::window;
-
-#[cfg(test)]
-mod tests;

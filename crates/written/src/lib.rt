@@ -9,8 +9,6 @@
 #![tactic(auto)]
 
 mod handing;
-#[cfg(test)]
-mod tests;
 mod text_line;
 mod unfinished;
 

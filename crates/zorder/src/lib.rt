@@ -28,6 +28,3 @@ pub use corner_codes::{Corners, is_between};
 pub use dilated::dilated_coordinate;
 pub use regions::{Region, inside, is_empty};
 pub use triples::decode_triples;
-
-#[cfg(test)]
-mod tests;

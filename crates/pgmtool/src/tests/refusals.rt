@@ -1,351 +1,331 @@
-// What each refusal writes, and how the program ends.
+// What each refusal writes, and how the program ends, whichever of its calls is refused.
 use super::*;
+use damage::{Case, EXPLAIN, FOUR, check_calls};
 
-// Words, the bytes of the files `keys` and `script`, which call of the shelf and which of the sink
-// fails, and what comes.
-#[derive(Clone, Copy)]
-struct Row {
-    name: &'static str,
-    words: &'static [&'static str],
-    keys: &'static [u8],
-    script: &'static [u8],
-    read: u64,
-    put: u64,
-    status: Status,
-    text: &'static [&'static str],
-}
+const QUERY: &str = "query keys script";
 
-const EXPLAIN: &[&str] = &["explain", "keys", "--eps", "0", "--rec", "0"];
+const BOX: &str = "box keys script";
 
-const QUERY: &[&str] = &["query", "keys", "script"];
+const SPACE: &str = "box keys script --dims 3";
 
-const BOX: &[&str] = &["box", "keys", "script"];
+// A name, words, the files `keys` and `script`, and the fault line.
+type Refused = (
+    &'static str,
+    &'static str,
+    &'static [u8],
+    &'static [u8],
+    &'static str,
+);
 
-const SPACE: &[&str] = &["box", "keys", "script", "--dims", "3"];
-
-const FOUR: &[u8] =
-    b"\x04\0\0\0\0\0\0\0\0\0\0\0\0\0\0\0\x01\0\0\0\0\0\0\0\x02\0\0\0\0\0\0\0\x0a\0\0\0\0\0\0\0";
-
-const NONE: &[u8] = b"";
-
-const ROWS: [Row; 28] = [
-    Row {
-        name: "no command",
-        words: &[],
-        keys: FOUR,
-        script: NONE,
-        read: 0,
-        put: 0,
-        status: Status::Usage,
-        text: &["fault usage"],
-    },
-    Row {
-        name: "a command that isn't there",
-        words: &["nothing", "keys"],
-        keys: FOUR,
-        script: NONE,
-        read: 0,
-        put: 0,
-        status: Status::Usage,
-        text: &["fault usage"],
-    },
-    Row {
-        name: "no script",
-        words: &["query", "keys"],
-        keys: FOUR,
-        script: NONE,
-        read: 0,
-        put: 0,
-        status: Status::Usage,
-        text: &["fault usage"],
-    },
-    Row {
-        name: "an error bound past its range",
-        words: &["explain", "keys", "--eps", "1048577"],
-        keys: FOUR,
-        script: NONE,
-        read: 0,
-        put: 0,
-        status: Status::Usage,
-        text: &["fault usage"],
-    },
-    Row {
-        name: "a file that isn't there",
-        words: &["explain", "none"],
-        keys: FOUR,
-        script: NONE,
-        read: 0,
-        put: 0,
-        status: Status::ReadFault,
-        text: &["fault read"],
-    },
-    Row {
-        name: "a script that isn't there",
-        words: &["query", "keys", "none"],
-        keys: FOUR,
-        script: NONE,
-        read: 0,
-        put: 0,
-        status: Status::ReadFault,
-        text: &["fault read"],
-    },
-    Row {
-        name: "bad keys before a script that isn't there",
-        words: &["query", "keys", "none"],
-        keys: b"\0\0\0\0\0\0\0",
-        script: NONE,
-        read: 0,
-        put: 0,
-        status: Status::BadKeys,
-        text: &["fault keys short 7"],
-    },
-    Row {
-        name: "keys that aren't there before a bad script",
-        words: &["query", "none", "script"],
-        keys: FOUR,
-        script: b"look",
-        read: 0,
-        put: 0,
-        status: Status::ReadFault,
-        text: &["fault read"],
-    },
-    Row {
-        name: "a file that can't be read to its end",
-        words: EXPLAIN,
-        keys: FOUR,
-        script: NONE,
-        read: 3,
-        put: 0,
-        status: Status::ReadFault,
-        text: &["fault read"],
-    },
-    Row {
-        name: "seven bytes",
-        words: EXPLAIN,
-        keys: b"\0\0\0\0\0\0\0",
-        script: NONE,
-        read: 0,
-        put: 0,
-        status: Status::BadKeys,
-        text: &["fault keys short 7"],
-    },
-    Row {
-        name: "keys that fall",
-        words: EXPLAIN,
-        keys: b"\x02\0\0\0\0\0\0\0\x03\0\0\0\0\0\0\0\x02\0\0\0\0\0\0\0",
-        script: NONE,
-        read: 0,
-        put: 0,
-        status: Status::BadKeys,
-        text: &["fault keys unsorted 1 3 2"],
-    },
-    Row {
-        name: "too many keys",
-        words: EXPLAIN,
-        keys: b"\0\0\0\0\x01\0\0\0",
-        script: NONE,
-        read: 0,
-        put: 0,
-        status: Status::BadKeys,
-        text: &["fault keys too many 4294967296"],
-    },
-    Row {
-        name: "a byte too much",
-        words: EXPLAIN,
-        keys: b"\x01\0\0\0\0\0\0\0\x07\0\0\0\0\0\0\0\xff",
-        script: NONE,
-        read: 0,
-        put: 0,
-        status: Status::BadKeys,
-        text: &["fault keys trailing 255"],
-    },
-    Row {
-        name: "narrow keys that end early",
-        words: &["build", "keys", "--narrow"],
-        keys: b"\x02\0\0\0\0\0\0\0\0\0\0\0\0\0",
-        script: NONE,
-        read: 0,
-        put: 0,
-        status: Status::BadKeys,
-        text: &["fault keys short 14"],
-    },
-    Row {
-        name: "a count of 4000000000 and three keys, with memory for one chunk",
-        words: EXPLAIN,
-        keys: b"\x00\x28\x6b\xee\0\0\0\0\x01\0\0\0\0\0\0\0\x02\0\0\0\0\0\0\0\x03\0\0\0\0\0\0\0",
-        script: NONE,
-        read: 0,
-        put: 0,
-        status: Status::BadKeys,
-        text: &["fault keys short 32"],
-    },
-    Row {
-        name: "a line that isn't UTF-8",
-        words: QUERY,
-        keys: FOUR,
-        script: b"\xff",
-        read: 0,
-        put: 0,
-        status: Status::BadScript,
-        text: &["fault script 1 utf8"],
-    },
-    Row {
-        name: "a comment that isn't UTF-8",
-        words: QUERY,
-        keys: FOUR,
-        script: b"find 1\n# \xff",
-        read: 0,
-        put: 0,
-        status: Status::BadScript,
-        text: &["fault script 2 utf8"],
-    },
-    Row {
-        name: "a command of another kind",
-        words: QUERY,
-        keys: FOUR,
-        script: b"put 1 1",
-        read: 0,
-        put: 0,
-        status: Status::BadScript,
-        text: &["fault script 1 word"],
-    },
-    Row {
-        name: "a number past 64 bits",
-        words: QUERY,
-        keys: FOUR,
-        script: b"find 18446744073709551616",
-        read: 0,
-        put: 0,
-        status: Status::BadScript,
-        text: &["fault script 1 number"],
-    },
-    Row {
-        name: "a number missing",
-        words: QUERY,
-        keys: FOUR,
-        script: b"\nfind",
-        read: 0,
-        put: 0,
-        status: Status::BadScript,
-        text: &["fault script 2 missing"],
-    },
-    Row {
-        name: "a word too much",
-        words: QUERY,
-        keys: FOUR,
-        script: b"find 1 2",
-        read: 0,
-        put: 0,
-        status: Status::BadScript,
-        text: &["fault script 1 extra"],
-    },
-    Row {
-        name: "a coordinate out of range",
-        words: SPACE,
-        keys: b"\x01\0\0\0\0\0\0\0\0\0\x20\0\0\0\0\0\0\0\0\0",
-        script: b"box 0 0 0",
-        read: 0,
-        put: 0,
-        status: Status::BadKeys,
-        text: &["fault keys wide 0 2097152"],
-    },
-    Row {
-        name: "a point without its last coordinate",
-        words: BOX,
-        keys: b"\x01\0\0\0\0\0\0\0\x02\0\0\0",
-        script: b"box 0 0 1 1",
-        read: 0,
-        put: 0,
-        status: Status::BadKeys,
-        text: &["fault keys short 12"],
-    },
-    Row {
-        name: "a box without its last coordinate",
-        words: BOX,
-        keys: b"\0\0\0\0\0\0\0\0",
-        script: b"box 0 0 1",
-        read: 0,
-        put: 0,
-        status: Status::BadScript,
-        text: &["fault script 1 missing"],
-    },
-    Row {
-        name: "a box out of range",
-        words: SPACE,
-        keys: b"\0\0\0\0\0\0\0\0",
-        script: b"box 0 0 0 1 1 1\nbox 0 0 0 1 1 2097152",
-        read: 0,
-        put: 0,
-        status: Status::BadScript,
-        text: &["fault script 2 number"],
-    },
-    Row {
-        name: "a text line of a point that can't be written",
-        words: BOX,
-        keys: b"\x01\0\0\0\0\0\0\0\x02\0\0\0\x01\0\0\0",
-        script: b"box 0 0 3 3",
-        read: 0,
-        put: 2,
-        status: Status::WriteFault,
-        text: &["box 1 1"],
-    },
-    Row {
-        name: "a third text line that can't be written",
-        words: EXPLAIN,
-        keys: FOUR,
-        script: NONE,
-        read: 0,
-        put: 3,
-        status: Status::WriteFault,
-        text: &["keys 4 distinct 4 levels 2", "level 0 list 4 eps 0 runs 2"],
-    },
-    Row {
-        name: "the text line of a refusal that can't be written",
-        words: EXPLAIN,
-        keys: b"",
-        script: NONE,
-        read: 0,
-        put: 1,
-        status: Status::BadKeys,
-        text: &[],
-    },
+const USAGE: [Refused; 8] = [
+    ("no command", "", FOUR, b"", "fault usage\n"),
+    (
+        "a command that isn't there",
+        "nothing keys",
+        FOUR,
+        b"",
+        "fault usage\n",
+    ),
+    ("no script", "query keys", FOUR, b"", "fault usage\n"),
+    (
+        "an error bound past its range",
+        "explain keys --eps 1048577",
+        FOUR,
+        b"",
+        "fault usage\n",
+    ),
+    (
+        "a drill of nothing",
+        "drill 0 1",
+        FOUR,
+        b"",
+        "fault usage\n",
+    ),
+    (
+        "a drill of too many",
+        "drill 1000001 1",
+        FOUR,
+        b"",
+        "fault usage\n",
+    ),
+    (
+        "a seed past its range",
+        "drill 1 2147483648",
+        FOUR,
+        b"",
+        "fault usage\n",
+    ),
+    (
+        "a seed below its range",
+        "drill 1 -1",
+        FOUR,
+        b"",
+        "fault usage\n",
+    ),
 ];
 
-#[test]
-fn refusals_have_their_line(rt: HostRuntime) -> Result<(), Fail> {
-    for row in ROWS {
-        let given = Given {
-            words: row.words,
-            keys: row.keys,
-            script: row.script,
-            reading: Device {
-                failing: row.read,
-                most: 65_536,
-            },
-            writing: Device {
-                failing: row.put,
-                most: 65_536,
-            },
+const MISSING: [Refused; 4] = [
+    ("a file", "explain none", FOUR, b"", "fault read\n"),
+    ("a script", "query keys none", FOUR, b"", "fault read\n"),
+    ("updates", "replay nowhere", b"", b"", "fault read\n"),
+    (
+        "keys, before a bad script",
+        "query none script",
+        FOUR,
+        b"look",
+        "fault read\n",
+    ),
+];
+
+const BAD_KEYS: [Refused; 15] = [
+    (
+        "bad keys before a script that isn't there",
+        "query keys none",
+        b"\0\0\0\0\0\0\0",
+        b"",
+        "fault keys short 7\n",
+    ),
+    (
+        "bad keys before a bad script",
+        QUERY,
+        b"\0\0\0\0\0\0\0",
+        b"look",
+        "fault keys short 7\n",
+    ),
+    (
+        "seven bytes",
+        EXPLAIN,
+        b"\0\0\0\0\0\0\0",
+        b"",
+        "fault keys short 7\n",
+    ),
+    (
+        "keys that fall",
+        EXPLAIN,
+        b"\x02\0\0\0\0\0\0\0\x03\0\0\0\0\0\0\0\x02\0\0\0\0\0\0\0",
+        b"",
+        "fault keys unsorted 1 3 2\n",
+    ),
+    (
+        "keys that fall before the file ends",
+        EXPLAIN,
+        b"\x03\0\0\0\0\0\0\0\x03\0\0\0\0\0\0\0\x02\0\0\0\0\0\0\0",
+        b"",
+        "fault keys unsorted 1 3 2\n",
+    ),
+    (
+        "too many keys",
+        EXPLAIN,
+        b"\0\0\0\0\x01\0\0\0",
+        b"",
+        "fault keys too many 4294967296\n",
+    ),
+    (
+        "the greatest count",
+        EXPLAIN,
+        b"\xff\xff\xff\xff\xff\xff\xff\xff",
+        b"",
+        "fault keys too many 18446744073709551615\n",
+    ),
+    (
+        "the greatest count that may be, and no key",
+        EXPLAIN,
+        b"\xff\xff\xff\xff\0\0\0\0",
+        b"",
+        "fault keys short 8\n",
+    ),
+    (
+        "a count of 4000000000 and three keys, with memory for one chunk",
+        EXPLAIN,
+        b"\x00\x28\x6b\xee\0\0\0\0\x01\0\0\0\0\0\0\0\x02\0\0\0\0\0\0\0\x03\0\0\0\0\0\0\0",
+        b"",
+        "fault keys short 32\n",
+    ),
+    (
+        "a byte too much",
+        EXPLAIN,
+        b"\x01\0\0\0\0\0\0\0\x07\0\0\0\0\0\0\0\xff",
+        b"",
+        "fault keys trailing 255\n",
+    ),
+    (
+        "a byte behind the last key",
+        EXPLAIN,
+        b"\x04\0\0\0\0\0\0\0\0\0\0\0\0\0\0\0\x01\0\0\0\0\0\0\0\
+            \x02\0\0\0\0\0\0\0\x0a\0\0\0\0\0\0\0\0",
+        b"",
+        "fault keys trailing 0\n",
+    ),
+    (
+        "narrow keys that end early",
+        "build keys --narrow",
+        b"\x02\0\0\0\0\0\0\0\0\0\0\0\0\0",
+        b"",
+        "fault keys short 14\n",
+    ),
+    (
+        "a coordinate out of range",
+        SPACE,
+        b"\x01\0\0\0\0\0\0\0\0\0\x20\0\0\0\0\0\0\0\0\0",
+        b"box 0 0 0",
+        "fault keys wide 0 2097152\n",
+    ),
+    (
+        "a coordinate out of range before the file ends",
+        SPACE,
+        b"\x02\0\0\0\0\0\0\0\0\0\0\0\0\0\x20\0",
+        b"",
+        "fault keys wide 1 2097152\n",
+    ),
+    (
+        "a point without its last coordinate",
+        BOX,
+        b"\x01\0\0\0\0\0\0\0\x02\0\0\0",
+        b"box 0 0 1 1",
+        "fault keys short 12\n",
+    ),
+];
+
+const BAD_SCRIPTS: [Refused; 11] = [
+    (
+        "a line that isn't UTF-8",
+        QUERY,
+        FOUR,
+        b"\xff",
+        "fault script 1 utf8\n",
+    ),
+    (
+        "a comment that isn't UTF-8",
+        QUERY,
+        FOUR,
+        b"find 1\n# \xff",
+        "fault script 2 utf8\n",
+    ),
+    (
+        "a command of another kind",
+        QUERY,
+        FOUR,
+        b"put 1 1",
+        "fault script 1 word\n",
+    ),
+    (
+        "a number past 64 bits",
+        QUERY,
+        FOUR,
+        b"find 18446744073709551616",
+        "fault script 1 number\n",
+    ),
+    (
+        "a number missing",
+        QUERY,
+        FOUR,
+        b"\nfind",
+        "fault script 2 missing\n",
+    ),
+    (
+        "a word too much",
+        QUERY,
+        FOUR,
+        b"find 1 2",
+        "fault script 1 extra\n",
+    ),
+    (
+        "a box without its last coordinate",
+        BOX,
+        b"\0\0\0\0\0\0\0\0",
+        b"box 0 0 1",
+        "fault script 1 missing\n",
+    ),
+    (
+        "a box out of range",
+        SPACE,
+        b"\0\0\0\0\0\0\0\0",
+        b"box 0 0 0 1 1 1\nbox 0 0 0 1 1 2097152",
+        "fault script 2 number\n",
+    ),
+    (
+        "a question about keys in a replay",
+        "replay script --levels 20",
+        b"",
+        b"find 1\n",
+        "fault script 1 word\n",
+    ),
+    (
+        "a sweep without its high end",
+        "replay script --levels 20",
+        b"",
+        b"put 1 1\nsweep 1\n",
+        "fault script 2 missing\n",
+    ),
+    (
+        "a count of three numbers",
+        "replay script --levels 20",
+        b"",
+        b"count 1 2 3\n",
+        "fault script 1 extra\n",
+    ),
+];
+
+fn check_refused<R: AllocGlobal + Abort + Threads + Wait + Sync>(
+    rt: &R,
+    rows: &[Refused],
+    status: Status,
+) -> Result<(), Fail> {
+    for (name, words, keys, script, text) in rows {
+        let case = Case {
+            name: *name,
+            words: *words,
+            keys: *keys,
+            script: *script,
+            status,
+            text: *text,
         };
-        check(&rt, row.name, given, row.status, row.text)?;
+        check_calls(rt, case)?;
     }
     Ok(())
 }
 
-// The numbers that the program ends with.
 #[test]
-fn statuses_have_their_numbers(rt: HostRuntime) {
-    let statuses = [
-        Status::Done,
-        Status::NoMemory,
-        Status::Usage,
-        Status::ReadFault,
-        Status::WriteFault,
-        Status::BadKeys,
-        Status::BadScript,
-        Status::Full,
-    ];
-    for (number, status) in statuses.iter().enumerate() {
-        assert_eq!(rt; usize::from(status.code()), number);
+fn words_that_are_no_command(rt: HostRuntime) -> Result<(), Fail> {
+    check_refused(&rt, &USAGE, Status::Usage)
+}
+
+#[test]
+fn files_that_are_not_there(rt: HostRuntime) -> Result<(), Fail> {
+    check_refused(&rt, &MISSING, Status::ReadFault)
+}
+
+#[test]
+fn key_files_have_their_fault_line(rt: HostRuntime) -> Result<(), Fail> {
+    check_refused(&rt, &BAD_KEYS, Status::BadKeys)
+}
+
+#[test]
+fn scripts_have_their_fault_line(rt: HostRuntime) -> Result<(), Fail> {
+    check_refused(&rt, &BAD_SCRIPTS, Status::BadScript)
+}
+
+fn check_cut<R: AllocGlobal + Abort + Threads + Wait + Sync>(
+    rt: &R,
+    keys: &[u8],
+) -> Result<(), Fail> {
+    let len = keys.len();
+    let text = format!(in rt.alloc(); "fault keys short {len}\n")?;
+    let case = Case {
+        name: "cut off",
+        words: EXPLAIN,
+        keys,
+        script: b"",
+        status: Status::BadKeys,
+        text: &text,
+    };
+    check_calls(rt, case)
+}
+
+#[test]
+fn a_key_file_cut_anywhere_is_short(rt: HostRuntime) -> Result<(), Fail> {
+    for (len, _) in FOUR.iter().enumerate() {
+        check_cut(&rt, &FOUR[..len])?;
     }
+    Ok(())
 }

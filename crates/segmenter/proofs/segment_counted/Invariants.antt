@@ -17,7 +17,7 @@ invariant-loop-start g l = record {
   fitted : EachRun (IsFitted (points_of l.xs l.ys) l.eps) l.start l.segments.items;
   cuts : EachRun (HasItsCut (points_of l.xs l.ys) l.eps l.to) l.start l.segments.items;
   in_range : EachRun (λ segment e. IsInRange segment.line) l.start l.segments.items;
-  cost : l.steps + 11 * l.from ≤ l.fn.steps + (l.to - l.from) + 11 * l.start;
+  cost : l.steps + 10 * l.from ≤ l.fn.steps + 2 * (l.to - l.from) + 10 * l.start;
   room : l.to ≤ l.from + room_of l.hulls;
   bound : bound_of l.hulls ≡ l.eps;
 }

@@ -1,4 +1,4 @@
-use Rattle.published.proofs.OneHistory.{admits}
+use Rattle.published.proofs.OnlyGrows.{admits}
 use Rattle.published.proofs.copies.free_place.Goals as goal
 
 pub reader-requires : goal.reader-requires

@@ -1,4 +1,4 @@
-use Rattle.published.proofs.OneHistory.{forks, merges}
+use Rattle.published.proofs.OnlyGrows.{forks, merges}
 use Rattle.published.proofs.copies.seated.Goals as goal
 
 pub tell-requires : goal.tell-requires

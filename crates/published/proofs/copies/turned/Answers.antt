@@ -1,21 +1,17 @@
-use Rattle.std.proofs.Common.{◌≡◌, List, fold, sym, ap, ◌∙◌}
+use Rattle.std.proofs.Common.{◌≡◌, sym, ◌∙◌, subst}
 use Rattle.published.specs.Histories.{Front}
-use Rattle.published.specs.Rules.{IsLastOf}
-use Rattle.published.proofs.OneHistory.{shows, last_of}
+use Rattle.published.specs.Rules.{GoesOn}
+use Rattle.published.proofs.OnlyGrows.{sees, is_last}
 use Rattle.published.proofs.copies.turned.Goals as goal
-
--- once all that wait are applied, the last one is left
-is_last : (first : Front) (queue waiting : List Front) (last : Front) → queue ≡ waiting → IsLastOf waiting last → fold (λ (_ : Front) (v : Front). v) first queue ≡ last
-is_last first queue waiting last same ends =
-    ap (fold (λ (_ : Front) (v : Front). v) first) (same ∙ ends.1) ∙ last_of first ends.0 last
 
 pub publish_as-requires : goal.publish_as-requires
 publish_as-requires g c = λ next is.
     let last = c.requires.some in
     let inv = c.loop-turn.invariant in
     let now = c.loop-turn.copies.desk.shown.value in
-    let same : next ≡ last.0 = is ∙ is_last now _ _ last.0 inv.queue last.1 in
-    shows _ _ now next (ap (λ (f : Front). f.origin) same ∙ (c.requires.own last.0 last.1 ∙ sym (ap (λ (f : Front). f.origin) inv.shown)))
+    let same : last.0 ≡ next = sym (is ∙ is_last now _ _ last.0 inv.queue last.1) in
+    let from : GoesOn now last.0 = subst (λ (f : Front). GoesOn f last.0) (sym inv.shown) (c.requires.more last.0 last.1) in
+    sees _ _ now next (subst (λ (f : Front). GoesOn now f) same from)
 
 pub returns-in_default-Ok-clause-shown : goal.returns-in_default-Ok-clause-shown
 returns-in_default-Ok-clause-shown g c = λ last ends.

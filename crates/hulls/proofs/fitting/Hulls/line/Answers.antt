@@ -6,7 +6,6 @@ use lib.Dec.{T}
 use lib.Signed.{non_neg}
 use Rattle.hulls.specs.declared.vertex.Vertex.{Vertex}
 use Rattle.hulls.specs.Hull.{IsVertexOf, lower_of}
-use Rattle.hulls.proofs.Waiting.{low_point}
 use Rattle.hulls.proofs.PairLine.{Rises, Rises-from_stands, line_of_pair-from_slope}
 use Rattle.hulls.proofs.fitting.Hulls.line.Goals as goal
 
@@ -24,14 +23,15 @@ overflow_cast-line c =
     let r = c.requires in
     let apart : lower_of hulls.steep ≡ hulls.steep.upper → ⊥ = λ same. c.if-low-b.false (ap (λ (v : Vertex). v.place) c.lower-low.ensures ∙ same ∙ sym c.upper-b.ensures) in
     let rises = Rises-from_stands hulls r.0 r.1 r.2 r.3 r.4 apart in
-    rw (c.slope-slope.ensures, rises.own) (rise_fits (r.0.y (lower_of hulls.steep)) (r.0.y hulls.steep.upper) r.1 _ rises.climbs rises.low rises.bounded refl)
+    rw (c.rise_and_run-rise.ensures.rise, rises.own) (rise_fits (r.0.y (lower_of hulls.steep)) (r.0.y hulls.steep.upper) r.1 _ rises.climbs rises.low rises.bounded refl)
 
 pub returns-else-low-b-clause-line : goal.returns-else-low-b-clause-line
 returns-else-low-b-clause-line c = λ p eps s e stands.
     let hulls = c.args.self.now in
     let apart : lower_of hulls.steep ≡ hulls.steep.upper → ⊥ = λ same. c.if-low-b.false (ap (λ (v : Vertex). v.place) c.lower-low.ensures ∙ same ∙ sym c.upper-b.ensures) in
-    let rises : Rises p eps c.lower-low.result.place c.upper-b.result c.slope-slope.result =
-    rw (c.lower-low.ensures, c.upper-b.ensures, c.slope-slope.ensures) (Rises-from_stands hulls p eps s e stands apart) in
-    let point : IsVertexOf p c.lower-low.result = rw c.lower-low.ensures (low_point p eps s e e hulls.steep stands.steep) in
-    line_of_pair-from_slope p eps hulls.eps c.lower-low.result.place c.upper-b.result c.lower-low.result c.slope-slope.result c.from-y.result c.from.result
-    rises point refl stands.bound c.from-y.ensures c.from.ensures
+    let rises : Rises p eps c.lower-low.result.place c.upper-b.result hulls.steep.slope.slope =
+    rw (c.lower-low.ensures, c.upper-b.ensures) (Rises-from_stands hulls p eps s e stands apart) in
+    let point : IsVertexOf p c.lower-low.result = rw c.lower-low.ensures (stands.steep.are_points hulls.steep.tangent (omega arith) stands.steep.inside) in
+    rw (c.rise_and_run-rise.ensures.rise, c.rise_and_run-rise.ensures.run)
+    (line_of_pair-from_slope p eps hulls.eps c.lower-low.result.place c.upper-b.result c.lower-low.result hulls.steep.slope.slope c.from-y.result c.from.result
+    rises point refl stands.bound c.from-y.ensures c.from.ensures)

@@ -10,11 +10,3 @@ offset_bounds-starts-i c =
 pub bounds-starts-i : goal.bounds-starts-i
 bounds-starts-i c =
     omega (arith, bit-within c.loop-rest.rest (length c.args.self.now.levels) c.lowest_and_rest-i.result.0 c.loop-rest.invariant.0 c.lowest_and_rest-i.ensures.set)
-
-pub offset_bounds-starts-i-in-loop-rest : goal.offset_bounds-starts-i-in-loop-rest
-offset_bounds-starts-i-in-loop-rest c =
-    omega (arith, bit-within c.loop-rest.rest (length c.args.self.now.levels) c.lowest_and_rest-i.result.0 c.loop-rest.invariant.0 c.lowest_and_rest-i.ensures.set)
-
-pub bounds-starts-i-in-loop-rest : goal.bounds-starts-i-in-loop-rest
-bounds-starts-i-in-loop-rest c =
-    omega (arith, bit-within c.loop-rest.rest (length c.args.self.now.levels) c.lowest_and_rest-i.result.0 c.loop-rest.invariant.0 c.lowest_and_rest-i.ensures.set)

@@ -13,12 +13,3 @@ invariant-loop-rest l = record {
 
 abbrev pub decreases-loop-rest : goal.decreases-loop-rest
 decreases-loop-rest l = l.rest
-
-abbrev pub invariant-loop-rest-2 : goal.invariant-loop-rest-2
-invariant-loop-rest-2 l = record {
-  taken : (i : ℕ) → bit_at l.rest i ≡ 1 → IsSome (level_of l.self i);
-  reached : (entries : List Entry) → IsCutOf l.self entries → IsReached entries l.key l.rest;
-}
-
-abbrev pub decreases-loop-rest-2 : goal.decreases-loop-rest-2
-decreases-loop-rest-2 l = l.rest

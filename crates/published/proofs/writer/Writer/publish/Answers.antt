@@ -23,7 +23,7 @@ new-version-requires g c =
     let front = c.self.inside.front in
     let batch = c.self.inside.batch.items in
     let added : c.publish.new.self.batches ≡ front.batches ++ batch ∷ [] =
-    (rw c.if-not-publish.false at c.publish.ensures.added) ∙ ap (λ (f : Front). f.batches ++ batch ∷ []) c.again-front.ensures in
+    c.publish.ensures.added ∙ ap (λ (f : Front). f.batches ++ batch ∷ []) c.again-front.ensures in
     stands_as (arc_value c.self.inside.map) _ (updates_of front.batches ++ batch) _ c.self.invariant.3 c.in_ok-map.ensures
     (ap (λ (f : Front). updates_of f.batches) c.again.ensures ∙ (ap updates_of added ∙ updates_of-snoc front.batches batch))
 
@@ -32,7 +32,7 @@ invariant_of-self g c =
     let front = c.self.inside.front in
     let batch = c.self.inside.batch.items in
     let added : c.publish.new.self.batches ≡ front.batches ++ batch ∷ [] =
-    (rw c.if-not-publish.false at c.publish.ensures.added) ∙ ap (λ (f : Front). f.batches ++ batch ∷ []) c.again-front.ensures in
+    c.publish.ensures.added ∙ ap (λ (f : Front). f.batches ++ batch ∷ []) c.again-front.ensures in
     let shown : c.show-shown.result.desk.shown.value ≡ c.publish.new.self = c.show-shown.ensures.shown ∙ (c.new-version.ensures ∙ c.again.ensures) in
     let origin : c.publish.new.self.origin ≡ front.origin = c.publish.ensures.own ∙ ap (λ (f : Front). f.origin) c.again-front.ensures in
     let emptied : c.clear.new.self.items ≡ [] = c.clear.ensures.items in
@@ -50,7 +50,7 @@ returns-clause-published g c =
     let front = c.self.inside.front in
     let batch = c.self.inside.batch.items in
     let added : c.publish.new.self.batches ≡ front.batches ++ batch ∷ [] =
-    (rw c.if-not-publish.false at c.publish.ensures.added) ∙ ap (λ (f : Front). f.batches ++ batch ∷ []) c.again-front.ensures in
+    c.publish.ensures.added ∙ ap (λ (f : Front). f.batches ++ batch ∷ []) c.again-front.ensures in
     let shown : c.show-shown.result.desk.shown.value ≡ c.publish.new.self = c.show-shown.ensures.shown ∙ (c.new-version.ensures ∙ c.again.ensures) in
     let history : front.batches ≡ c.args.self.now.history = sym (ap (λ (f : Front). f.batches) c.self.invariant.1) ∙ ap (λ (w : Written). w.history) c.self.view_is in
     let in_hand : batch ≡ c.args.self.now.batch = ap (λ (w : Written). w.batch) c.self.view_is in

@@ -1,0 +1,10 @@
+pub mod Numbers
+pub mod Stopping
+pub mod Lists
+pub mod Runs
+pub mod Levels
+pub mod Spelled
+pub mod Heads
+pub mod Unique
+pub mod Readings
+pub mod Wherever

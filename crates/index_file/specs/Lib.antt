@@ -1,0 +1,4 @@
+pub mod Spelling
+pub mod Spelled
+pub mod Stops
+pub mod Faults

@@ -1,0 +1,95 @@
+-- Where the reading of a piece of the file stops.
+use Rattle.std.specs.Prelude.{◌≡◌, ◌⊎◌, ℕ, ◌+◌, ◌<◌, ◌≤◌, ◌^◌, List, ◌∷◌, ◌++◌, length, take, All, Option, IfSome, Result, MatchResult}
+use Rattle.std.specs.List.{flat_map}
+use Rattle.edge.specs.Risen.{HasRisen}
+use Rattle.index_file.specs.declared.saved.SavedRun.{SavedRun}
+use Rattle.index_file.specs.declared.saved.SavedCut.{SavedCut}
+use Rattle.index_file.specs.declared.fault.IndexFault.{IndexFault}
+use Rattle.index_file.specs.declared.fault.IndexFault.TheVariants.{ReadFault, Short, Magic, Epsilon, Side, Trailing, NoMemory}
+use Rattle.index_file.specs.Spelling.{number, cut_bytes, pair_bytes, run_bytes, level_bytes, CutFits, RunFits, LevelFits}
+
+-- the bytes of a number
+abbrev pub IsNumber : List ℕ → Type 0
+IsNumber bytes = (n : ℕ) × (n < 2 ^ 32) × (bytes ≡ number n)
+
+-- the bytes that follow this one in a cut
+abbrev pub FollowsInCut : ℕ → List ℕ → Type 0
+FollowsInCut byte bytes = (cut : SavedCut) × CutFits cut × (byte ∷ bytes ≡ cut_bytes cut)
+
+-- the bytes of a run
+abbrev pub IsRun : List ℕ → Type 0
+IsRun bytes = (run : SavedRun) × RunFits run × (bytes ≡ run_bytes run)
+
+-- what stands before the cut byte of a run
+abbrev pub IsBeforeCut : List ℕ → Type 0
+IsBeforeCut front = (start : ℕ) × (a : ℕ) × (b : ℕ) × (start < 2 ^ 32) × (a < 2 ^ 32) × (b < 2 ^ 32) × (front ≡ pair_bytes start a b)
+
+-- the bytes of n runs
+abbrev pub AreRuns : ℕ → List ℕ → Type 0
+AreRuns n bytes = (runs : List SavedRun) × (length runs ≡ n) × All RunFits runs × (bytes ≡ flat_map run_bytes runs)
+
+-- what stands before a cut byte of n runs: runs, and the front of one more
+abbrev pub AreBeforeCut : ℕ → List ℕ → Type 0
+AreBeforeCut n front = (runs : List SavedRun) × (last : List ℕ) × (length runs < n) × All RunFits runs × IsBeforeCut last × (front ≡ flat_map run_bytes runs ++ last)
+
+-- the same of a level
+abbrev pub IsLevel : List ℕ → Type 0
+IsLevel bytes = (runs : List SavedRun) × LevelFits runs × (bytes ≡ level_bytes runs)
+
+abbrev pub IsBeforeLevelCut : List ℕ → Type 0
+IsBeforeLevelCut front = (n : ℕ) × (rest : List ℕ) × (n < 2 ^ 32) × AreBeforeCut n rest × (front ≡ number n ++ rest)
+
+-- and of n levels
+abbrev pub AreLevels : ℕ → List ℕ → Type 0
+AreLevels n bytes = (levels : List (List SavedRun)) × (length levels ≡ n) × All LevelFits levels × (bytes ≡ flat_map level_bytes levels)
+
+abbrev pub AreBeforeLevelCut : ℕ → List ℕ → Type 0
+AreBeforeLevelCut n front =
+    (levels : List (List SavedRun)) × (last : List ℕ) × (length levels < n) × All LevelFits levels × IsBeforeLevelCut last × (front ≡ flat_map level_bytes levels ++ last)
+
+-- no byte is a cut byte
+abbrev pub IsNoCut : List ℕ → Type 0
+IsNoCut front = ⊥
+
+-- the bytes go on to a whole piece
+pub record IsFront (Whole : List ℕ → Type 0) (bytes : List ℕ) : Type 0 where
+  pub rest : List ℕ
+  pub more : 0 < length rest
+  pub whole : Whole (bytes ++ rest)
+
+-- a byte above 2 stands where the cut byte of a run is to stand
+pub record IsSide (BeforeCut : List ℕ → Type 0) (offset : ℕ) (bytes : List ℕ) (at byte : ℕ) : Type 0 where
+  pub front : List ℕ
+  pub behind : List ℕ
+  pub stand : bytes ≡ front ++ byte ∷ behind
+  pub before_cut : BeforeCut front
+  pub place : at ≡ offset + length front
+  pub no_side : 2 < byte
+
+-- the bytes, which begin at this offset of the file, end before the piece does, or have a byte that is no side
+abbrev pub StopsIn : (List ℕ → Type 0) → (List ℕ → Type 0) → ℕ → List ℕ → IndexFault → Type 0
+StopsIn Whole BeforeCut offset bytes (Short got) = IsFront Whole bytes × (got ≡ offset + length bytes)
+StopsIn Whole BeforeCut offset bytes (Side at byte) = IsSide BeforeCut offset bytes at byte
+StopsIn Whole BeforeCut offset bytes ReadFault = ⊥
+StopsIn Whole BeforeCut offset bytes (Magic at) = ⊥
+StopsIn Whole BeforeCut offset bytes (Epsilon value) = ⊥
+StopsIn Whole BeforeCut offset bytes (Trailing byte) = ⊥
+StopsIn Whole BeforeCut offset bytes NoMemory = ⊥
+
+-- the bytes end before this buffer is full, whose front they are
+abbrev pub EndsIn : List ℕ → ℕ → List ℕ → IndexFault → Type 0
+EndsIn buf offset bytes (Short got) = (n : ℕ) × (n < length buf) × (bytes ≡ take n buf) × (got ≡ offset + n)
+EndsIn buf offset bytes _ = ⊥
+
+-- the shelf failed, or memory ran out, or the fault is what `says` tells of the bytes that were left
+abbrev pub HasFault : (List ℕ → IndexFault → Type 0) → Option (List ℕ) → IndexFault → Type 0
+HasFault says told fault = IfSome told (λ bytes. (fault ≡ ReadFault) ⊎ (fault ≡ NoMemory) ⊎ says bytes fault)
+
+-- the count of faults rose where this is the answer, else it stayed
+abbrev pub HasCauseOf : IndexFault → ℕ → ℕ → Type 0
+HasCauseOf ReadFault before after = (before ≤ after) × HasRisen before after
+HasCauseOf _ before after = after ≡ before
+
+-- the same of a call, which leaves the count where it succeeds
+abbrev pub HasReadCause : {T : Type 0} → ℕ → ℕ → Result T IndexFault → Type 0
+HasReadCause before after result = MatchResult result (λ _. after ≡ before) (λ fault. HasCauseOf fault before after)

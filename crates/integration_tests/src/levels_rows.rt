@@ -1,0 +1,240 @@
+//! Indexes worked out by hand: how many runs each level has, and positions of questions.
+ghost use Rattle.std.specs.Prelude.{◌≡◌, ◌+◌, ◌<◌, ◌≤◌};
+ghost use Rattle.std.specs.Prelude.{◌^◌, length, vec_len, IsTrue};
+ghost use Rattle.std.specs.List.Sorted.{IsNonDecreasing};
+
+use crate::common::{index_of, is_ordered, keys_of};
+use budget::{NoMemory, Steps};
+use edge::OpenGate;
+use exact_cross::MAX_EPSILON;
+use levels::{Index, Keys, positions_among, positions_grouped};
+use std::alloc::Global;
+use std::marker::Brand;
+use std::process::Abort;
+use std::sync::ledger::{Blank, Ledger};
+use std::test::Fail;
+use std::thread::Threads;
+
+/// Compares how many runs each level has.
+fn expect_runs(rt: &impl Abort, index: &Index, runs: &[usize]) {
+    assert_eq!(rt; index.levels() as usize, runs.len());
+    for (level, count) in runs.iter().enumerate() {
+        assert!(rt; level < index.levels() as usize);
+        assert_eq!(rt; index.level(level as u32).len(), *count);
+    }
+}
+
+/// Builds the index of these keys, and compares its runs by level and the positions.
+fn expect_index<R: Abort + AllocGlobal>(
+    rt: &R,
+    keys: &[u64],
+    eps: u32,
+    runs: &[usize],
+    positions: &[(u64, u32)],
+) -> Result<Index, NoMemory> {
+    let index = index_of(rt, keys, eps)?;
+    expect_runs(rt, &index, runs);
+    assert!(rt; positions.len() < 1000);
+    let mut together = Vec::with_capacity(rt.alloc(), positions.len())?;
+    let mut qs = Vec::with_capacity(rt.alloc(), positions.len())?;
+    for (q, position) in positions {
+        assert_eq!(rt; index.position(*q), *position);
+        qs.push(*q)?;
+    }
+    assert_eq!(rt; qs.len(), positions.len());
+    index.positions(&qs, &mut together);
+    assert_eq!(rt; together.len(), positions.len());
+    for ((_, position), found) in positions.iter().zip(&together) {
+        assert_eq!(rt; *found, *position);
+    }
+    Ok(index)
+}
+
+#[test]
+fn worked_lists(rt: HostRuntime) -> Result<(), Fail> {
+    let _ = expect_index(&rt, &[], 0, &[], &[(5, 0)])?;
+    let _ = expect_index(&rt, &[7], 0, &[1], &[(6, 0), (7, 0), (8, 1)])?;
+    let four = [(0, 0), (1, 1), (2, 2), (3, 3), (9, 3), (10, 3), (11, 4)];
+    let _ = expect_index(&rt, &[0, 1, 2, 10], 0, &[2, 1], &four)?;
+    let _ = expect_index(
+        &rt,
+        &[0, 10, 11, 12],
+        0,
+        &[2, 1],
+        &[(9, 1), (10, 1), (11, 2), (99, 4)],
+    )?;
+    let _ = expect_index(
+        &rt,
+        &[0, 10, 11, 12],
+        1,
+        &[1],
+        &[(9, 1), (10, 1), (11, 2), (99, 4)],
+    )?;
+    let squares = [(0, 0), (3, 2), (4, 2), (16, 4), (17, 5), (25, 5), (26, 6)];
+    let _ = expect_index(&rt, &[0, 1, 4, 9, 16, 25], 0, &[3, 2, 1], &squares)?;
+    let last = u64::MAX;
+    let _ = expect_index(&rt, &[0, last], 1_048_576, &[1], &[(1, 1), (last, 1)])?;
+    Ok(())
+}
+
+/// The index of these keys, built by workers in two pieces, with both bounds 0.
+fn built_in_pieces<R: Threads + Abort + AllocGlobal + Sync>(
+    rt: &R,
+    keys: &[u64],
+    cut: u32,
+    workers: u32,
+) -> Result<Index, NoMemory> {
+    let keys = keys_of(rt, keys)?;
+    assert!(rt; 0 < cut && (cut as usize) < keys.xs().len());
+    assert!(rt; 1 <= workers && workers <= 64);
+    Index::build(rt, rt.alloc(), keys, 0, 0, &[cut], workers, &OpenGate)
+}
+
+// The runs of level 0 are 0..2, 2..4 and 4..6, so that no run starts at the cut.
+#[test]
+fn any_number_of_workers(rt: HostRuntime) -> Result<(), Fail> {
+    let squares = [0, 1, 4, 9, 16, 25];
+    let here = index_of(&rt, &squares, 0)?;
+    expect_runs(&rt, &here, &[3, 2, 1]);
+    for workers in [1, 2, 3, 64] {
+        let index = built_in_pieces(&rt, &squares, 3, workers)?;
+        expect_runs(&rt, &index, &[3, 2, 1]);
+        for level in 0..3 {
+            assert!(rt; level < index.levels() && level < here.levels());
+            assert_eq!(rt;
+                index.level(level),
+                here.level(level),
+                "level {level} by {workers}"
+            );
+        }
+    }
+    Ok(())
+}
+
+// Equal keys have a closing point, at both ends of 64 bits too.
+#[test]
+fn keys_that_repeat(rt: HostRuntime) -> Result<(), Fail> {
+    let rows = [(4, 0), (5, 0), (6, 3), (8, 3), (9, 3), (10, 4)];
+    let index = expect_index(&rt, &[5, 5, 5, 9], 0, &[2, 1], &rows)?;
+    assert!(rt; index.levels() == 2);
+    assert_eq!(rt; index.list(0), [5, 6, 9].as_slice());
+    assert_eq!(rt; index.ranks(0), [0, 3, 3].as_slice());
+    assert_eq!(rt; index.list(1), [5, 9].as_slice());
+    assert_eq!(rt; index.ranks(1), [0, 1].as_slice());
+    assert_eq!(rt; index.keys().len(), 4);
+    let last = u64::MAX;
+    let rows = [(0, 0), (1, 3), (last - 1, 3), (last, 3)];
+    let _ = expect_index(&rt, &[0, 0, 0, last, last], 0, &[2, 1], &rows)?;
+    Ok(())
+}
+
+/// A question, and the windows along its lookup: level, first and last place.
+struct WindowRow<'a> {
+    keys: &'a [u64],
+    q: u64,
+    windows: &'a [(u32, u32, u32)],
+}
+
+// Both error bounds are 0: a question below the first key, equal keys, and three levels.
+const WINDOW_ROWS: [WindowRow; 6] = [
+    WindowRow {
+        keys: &[],
+        q: 4,
+        windows: &[],
+    },
+    WindowRow {
+        keys: &[5, 5, 5, 9],
+        q: 4,
+        windows: &[],
+    },
+    WindowRow {
+        keys: &[5, 5, 5, 9],
+        q: 5,
+        windows: &[(1, 0, 1), (0, 0, 1)],
+    },
+    WindowRow {
+        keys: &[5, 5, 5, 9],
+        q: 6,
+        windows: &[(1, 0, 1), (0, 2, 4)],
+    },
+    WindowRow {
+        keys: &[5, 5, 5, 9],
+        q: 10,
+        windows: &[(1, 0, 2), (0, 2, 4)],
+    },
+    WindowRow {
+        keys: &[0, 1, 4, 9, 16, 25],
+        q: 17,
+        windows: &[(2, 0, 2), (1, 1, 3), (0, 3, 5)],
+    },
+];
+
+#[test]
+fn windows_along_lookups(rt: HostRuntime) -> Result<(), Fail> {
+    for row in &WINDOW_ROWS {
+        let index = index_of(&rt, row.keys, 0)?;
+        let windows = index.windows(rt.alloc(), row.q)?;
+        assert_eq!(rt; windows.as_slice(), row.windows, "question {}", row.q);
+    }
+    Ok(())
+}
+
+// More questions than go in step, of which the last ones go one by one: the numbers 0, 1, 2 and so
+// on, whose positions are counted one key at a time. By an index and without one.
+#[test]
+fn questions_in_step(rt: HostRuntime) -> Result<(), Fail> {
+    let squares: &[u64] = &[0, 1, 4, 9, 16, 25];
+    let repeats: &[u64] = &[3, 5, 5, 5, 9, 9, 10, 20, 20, 30];
+    let none: &[u64] = &[];
+    for keys in [squares, repeats, none] {
+        let index = index_of(&rt, keys, 0)?;
+        let mut qs = Vec::new(rt.alloc());
+        for q in 0..37 {
+            qs.push(q)?;
+        }
+        let mut found = Vec::with_capacity(rt.alloc(), qs.len())?;
+        index.positions(&qs, &mut found);
+        assert_eq!(rt; found.len(), qs.len());
+        assert!(rt; is_ordered(keys));
+        assert!(rt; keys.len() < 1000);
+        let mut among = Vec::with_capacity(rt.alloc(), qs.len())?;
+        positions_among(keys, &qs, &mut among);
+        assert_eq!(rt; among.as_slice(), found.as_slice(), "without an index");
+        let mut grouped = Vec::with_capacity(rt.alloc(), qs.len())?;
+        assert!(rt; qs.len() < 1000);
+        positions_grouped(rt.alloc(), keys, &qs, &mut grouped);
+        assert_eq!(rt;
+            grouped.as_slice(),
+            found.as_slice(),
+            "without an index, grouped"
+        );
+        for (q, position) in qs.iter().zip(&found) {
+            let below = keys.iter().filter(|key| **key < *q).count();
+            assert_eq!(rt; *position as usize, below, "question {q} of {keys:?}");
+        }
+    }
+    Ok(())
+}
+
+// Scattered questions, several in each part of the keys: of the multiples of 10 from 0 on, as many
+// are below a number as it has tens, a begun one too.
+#[test]
+fn groups_questions(rt: HostRuntime) -> Result<(), NoMemory> {
+    let mut keys = Vec::with_capacity(rt.alloc(), 900)?;
+    for i in 0..900 {
+        keys.push(i * 10)?;
+    }
+    let mut qs = Vec::with_capacity(rt.alloc(), 700)?;
+    for i in 0..700 {
+        qs.push(i * 7919 % 8991)?;
+    }
+    let mut found = Vec::with_capacity(rt.alloc(), qs.len())?;
+    assert!(rt; is_ordered(&keys));
+    assert!(rt; keys.len() == 900 && qs.len() == 700);
+    positions_grouped(rt.alloc(), &keys, &qs, &mut found);
+    assert_eq!(rt; found.len(), qs.len());
+    for (q, position) in qs.iter().zip(&found) {
+        assert_eq!(rt; u64::from(*position), q.div_ceil(10), "question {q}");
+    }
+    Ok(())
+}

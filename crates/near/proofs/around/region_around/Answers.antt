@@ -1,0 +1,37 @@
+-- One more interval has its ends; when all have, the region is the box.
+use Rattle.std.proofs.Common.{◌≡◌, ℕ, ◌+◌, ◌-◌, ◌*◌, ◌%◌, ◌^◌, ◌<◌, ◌≢◌, length, min, get_or, get_or-set_other, get_or-set_same, below_more, ◌∙◌, ap, arith}
+use Rattle.std.proofs.Math.ListN.{length-set}
+use Rattle.std.proofs.Math.Pow.{pow_mono}
+use Rattle.zorder.specs.Codes.{coordinate_bits}
+use Rattle.near.proofs.Distances.{range_fits, same_box, shifted_one}
+use Rattle.near.proofs.around.region_around.Goals as goal
+
+pub loop-c-preserved : goal.loop-c-preserved
+loop-c-preserved c =
+    let limit = range_fits c.args.d c.requires.dimension in
+    let shifted = shifted_one (coordinate_bits c.args.d) (2 ^ 32) (omega arith) limit in
+    let at = c.loop-c.c in
+    record {
+      four = length-set c.loop-c.low at c.saturating_sub.result ∙ c.loop-c.invariant.four;
+      four' = length-set c.loop-c.high at c.min.result ∙ c.loop-c.invariant.four';
+      lows = below_more _ _
+          (λ k h. let other : k ≢ at = omega arith in get_or-set_other c.loop-c.low at k c.saturating_sub.result 0 other ∙ c.loop-c.invariant.lows k h)
+          (let inside : at < length c.loop-c.low = omega arith in get_or-set_same c.loop-c.low at c.saturating_sub.result 0 inside ∙ c.saturating_sub.ensures);
+      highs = below_more _ _
+          (λ k h. let other : k ≢ at = omega arith in get_or-set_other c.loop-c.high at k c.min.result 0 other ∙ c.loop-c.invariant.highs k h)
+          (let inside : at < length c.loop-c.high = omega arith in omega (arith, get_or-set_same c.loop-c.high at c.min.result 0 inside, c.min.ensures, c.saturating_add.ensures, shifted));
+    }
+
+pub returns-clause-region : goal.returns-clause-region
+returns-clause-region c =
+    let d = c.args.d in
+    let centre = c.args.centre.now in
+    let long : length c.loop-c.low ≡ length centre = omega (arith, c.told-centre, c.loop-c.invariant.four) in
+    let long' : length c.loop-c.high ≡ length centre = omega (arith, c.told-centre, c.loop-c.invariant.four') in
+    let shifted = shifted_one c.args.exponent (2 ^ 32) (omega arith) (pow_mono c.requires.exponent) in
+    let bits = shifted_one (coordinate_bits d) (2 ^ 32) (omega arith) (range_fits d c.requires.dimension) in
+    same_box d centre (2 ^ c.args.exponent - 1) c.loop-c.low c.loop-c.high long long'
+    (λ k within. c.loop-c.invariant.lows k (omega (arith, c.told-centre)) ∙ ap (λ (n : ℕ). get_or centre k 0 - (n - 1)) shifted)
+    (λ k within. c.loop-c.invariant.highs k (omega (arith, c.told-centre))
+    ∙ ap (λ (n : ℕ). min (get_or centre k 0 + (n - 1)) (1 * 2 ^ coordinate_bits d % 2 ^ 64 - 1)) shifted
+    ∙ ap (λ (n : ℕ). min (get_or centre k 0 + (2 ^ c.args.exponent - 1)) (n - 1)) bits)

@@ -1,0 +1,4 @@
+pub mod Around
+pub mod Nearest
+pub use Rattle.boxes.specs.BoxAnswers
+pub use Rattle.boxes.specs.PointCodes
