@@ -25,9 +25,9 @@ entry_at index bits h = lb (run_buckets index bits) h
 abbrev pub runs_beside : PgmIndex → ℕ → ℕ → ℕ
 runs_beside index bits q = entry_at index bits (bucket_of bits q + 1) - entry_at index bits (bucket_of bits q)
 
--- two to the number of keys that are read: 16 times the runs that the bucket leaves open and the places of a window
+-- two to the number of keys that are read: 4 times the runs that the bucket leaves open and the places of a window
 abbrev pub lookup_bound : PgmIndex → ℕ → ℕ → ℕ
-lookup_bound index bits q = 16 * (runs_beside index bits q + 1) * (2 * index.eps + 3)
+lookup_bound index bits q = 4 * (runs_beside index bits q + 1) * (2 * index.eps + 3)
 
 -- a table has an entry for each bucket, and one more
 pub record IsTable (index : PgmIndex) (bits : ℕ) (table : List ℕ) : Type 0 where

@@ -12,9 +12,6 @@ use budget::Steps;
 use std::marker::Brand;
 use std::sync::ledger::{Blank, Ledger};
 
-/// So few runs take at most two steps, which the bound on steps has room for in every bucket.
-const FEW: u32 = 3;
-
 impl<'a> Buckets<'a> {
     /// The position of `q` in the file: how many of its keys are below `q`.
     ///
@@ -30,7 +27,7 @@ impl<'a> Buckets<'a> {
     ///
     /// The run that begins last at or before `q` is searched among those that begin in the bucket
     /// of `q`, and is the last one before them where none of them does. A step is a key read; two
-    /// to their number is at most 16 times a window's places, times one more than the runs that
+    /// to their number is at most 4 times a window's places, times one more than the runs that
     /// begin in the bucket. Cannot fail and takes no memory.
     pub fn lower_bound<L: Ledger>(&self, q: u64, steps: &mut Steps<L>) -> u32
         ensures found { result ≡ lb self.now.index.keys q }
@@ -51,7 +48,7 @@ impl<'a> Buckets<'a> {
     fn begun<L: Ledger>(&self, q: u64, steps: &mut Steps<L>) -> u32
         ensures runs { IsBetween (xs_at self.now.index.keys self.now.index.levels 1) q result
             result }
-        ensures cost { TakesAtMost (8 * (runs_beside self.now.index self.now.bits q + 1)) steps.old
+        ensures cost { TakesAtMost (2 * (runs_beside self.now.index self.now.bits q + 1)) steps.old
             steps.new }
     {
         let index = self.index();
@@ -71,24 +68,19 @@ impl<'a> Buckets<'a> {
         begun
     }
 
-    /// At least and at most how many runs of level 0 begin at or before `q`: by the table of the
-    /// index where that leaves open few, and else by the bucket and that table together.
+    /// At least and at most how many runs of level 0 begin at or before `q`: by the bucket, narrowed
+    /// by what the table of the index tells.
     #[inline(always)]
     pub(crate) fn begun_between(&self, q: u64) -> (u32, u32)
         ensures between { IsBetween (xs_at self.now.index.keys self.now.index.levels 1) q result.0
             result.1 }
-        ensures few { result.1 - result.0 < 4 * (runs_beside self.now.index self.now.bits q + 1) }
+        ensures bucket { result.1 - result.0 ≤ runs_beside self.now.index self.now.bits q }
     {
         let index = self.index();
         let _runs = index.runs();
-        let near = index.begun_near(q);
-        if let Some((from, to)) = near {
-            if to.saturating_sub(from) <= FEW {
-                return (from, to);
-            }
-        }
         let bucket = (q >> (64 - self.bits())) as u32;
         let (low, high) = (self.entry(bucket), self.entry(bucket + 1));
+        let near = index.begun_near(q);
         match near {
             Some((from, to)) => (low.max(from), high.min(to)),
             None => (low, high),

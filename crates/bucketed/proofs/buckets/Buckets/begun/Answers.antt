@@ -1,5 +1,5 @@
 -- The runs that are left to halve lie between what the tables say.
-use Rattle.std.proofs.Common.{◌≡◌, ◌+◌, ◌*◌, ◌-◌, ◌/◌, slice_index, ap, ◌∙◌, arith}
+use Rattle.std.proofs.Common.{◌≡◌, ◌+◌, ◌-◌, ◌/◌, slice_index, ap, ◌∙◌, arith}
 use Rattle.levels.specs.Indexes.{PgmIndex, xs_at}
 use Rattle.levels.proofs.CallerLemmas.{first_x-order}
 use Rattle.bucketed.specs.Tables.{runs_beside}
@@ -14,7 +14,7 @@ loop-left-init g c =
       within = omega (arith, c.saturating_sub-left.ensures, here.begins, here.within);
       before = here.before;
       from = λ k past inside. here.from k (omega (arith, c.saturating_sub-left.ensures)) inside;
-      halved = halved_none c.args.steps.now (4 * (runs_beside c.args.self.now.index c.args.self.now.bits c.args.q + 1)) c.saturating_sub-left.result (omega (arith, c.saturating_sub-left.ensures, c.begun_between-low.ensures.few));
+      halved = halved_none c.args.steps.now (runs_beside c.args.self.now.index c.args.self.now.bits c.args.q + 1) c.saturating_sub-left.result (omega (arith, c.saturating_sub-left.ensures, c.begun_between-low.ensures.bucket));
     }
 
 pub loop-left-preserved : goal.loop-left-preserved
@@ -30,7 +30,7 @@ loop-left-preserved g c =
       within = omega (arith, inv.within);
       before = inv.before;
       from = λ k past inside. omega (arith, read, c.if-read_first-q.false, order middle k 0 past inside);
-      halved = rw c.read_first.ensures.cost (halved_to c.args.steps.now c.loop-left.steps (4 * (runs_beside index c.args.self.now.bits c.args.q + 1)) c.loop-left.left (c.loop-left.left / 2) c.loop-left-test.true (omega arith) inv.halved);
+      halved = rw c.read_first.ensures.cost (halved_to c.args.steps.now c.loop-left.steps (runs_beside index c.args.self.now.bits c.args.q + 1) c.loop-left.left (c.loop-left.left / 2) c.loop-left-test.true (omega arith) inv.halved);
     }
 
 pub loop-left-preserved-then-read_first-q : goal.loop-left-preserved-then-read_first-q
@@ -47,7 +47,7 @@ loop-left-preserved-then-read_first-q g c =
       within = omega (arith, inv.within, c.loop-left-test.true);
       before = λ k less. omega (arith, read, c.if-read_first-q.true, order k middle 0 (omega arith) (omega (arith, inv.within, c.loop-left-test.true)));
       from = λ k past inside. inv.from k (omega (arith, c.loop-left-test.true)) inside;
-      halved = rw c.read_first.ensures.cost (halved_to c.args.steps.now c.loop-left.steps (4 * (runs_beside index c.args.self.now.bits c.args.q + 1)) left (left - (left / 2 + 1)) c.loop-left-test.true (omega (arith, c.loop-left-test.true)) inv.halved);
+      halved = rw c.read_first.ensures.cost (halved_to c.args.steps.now c.loop-left.steps (runs_beside index c.args.self.now.bits c.args.q + 1) left (left - (left / 2 + 1)) c.loop-left-test.true (omega (arith, c.loop-left-test.true)) inv.halved);
     }
 
 pub returns-clause-runs : goal.returns-clause-runs

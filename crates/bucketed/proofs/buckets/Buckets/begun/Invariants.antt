@@ -1,5 +1,5 @@
 -- The runs before `begun` begin at or before the question, and those from `begun + left` on behind it.
-use Rattle.std.proofs.Common.{◌+◌, ◌*◌, ◌<◌, ◌≤◌, ℕ, length, slice_index}
+use Rattle.std.proofs.Common.{◌+◌, ◌<◌, ◌≤◌, ℕ, length, slice_index}
 use Rattle.levels.specs.Indexes.{xs_at}
 use Rattle.window_search.proofs.Halving.{IsHalved}
 use Rattle.bucketed.specs.Tables.{runs_beside}
@@ -10,7 +10,7 @@ invariant-loop-left g l = record {
   within : l.begun + l.left ≤ length (xs_at l.self.index.keys l.self.index.levels 1);
   before : (k : ℕ) → k < l.begun → slice_index (xs_at l.self.index.keys l.self.index.levels 1) k ≤ l.q;
   from : (k : ℕ) → l.begun + l.left ≤ k → k < length (xs_at l.self.index.keys l.self.index.levels 1) → l.q < slice_index (xs_at l.self.index.keys l.self.index.levels 1) k;
-  halved : IsHalved l.fn.steps l.steps (4 * (runs_beside l.self.index l.self.bits l.q + 1)) (l.left + 1);
+  halved : IsHalved l.fn.steps l.steps (runs_beside l.self.index l.self.bits l.q + 1) (l.left + 1);
 }
 
 abbrev pub decreases-loop-left : goal.decreases-loop-left

@@ -42,15 +42,15 @@ beside index value bits own q first last same order bit low high =
     let upper : last ≡ entry_at index own (bucket_of own q + 1) = high ∙ ap (λ (h : ℕ). entry_at index own (h + 1)) bucket in
     IsBetween-bucket own (xs_at index.keys index.levels 1) q first last (order_of index value same order) lower upper
 
-pub returns-in-Some-near-clause-between : goal.returns-in-Some-near-clause-between
-returns-in-Some-near-clause-between c =
+pub returns-in-Some-clause-between : goal.returns-in-Some-clause-between
+returns-in-Some-clause-between c =
     let index = c.args.self.now.index in
     let value = c.index-index.result.now in
     let runs = c.runs-runs.ensures in
     let order = first_x-order value.keys value.eps value.eps_rec value.levels runs.never_falls runs.index in
     let bucket = beside index value c.bits.result c.args.self.now.bits c.args.q c.entry-low.result c.entry-high.result c.index-index.ensures order c.bits.ensures.bits c.entry-low.ensures c.entry-high.ensures in
-    let near = subst (λ (i : PgmIndex). IsBetween (xs_at i.keys i.levels 1) c.args.q c.in-Some-near.from c.in-Some-near.to) c.index-index.ensures c.in-Some-near.ensures in
-    narrowed (xs_at index.keys index.levels 1) c.args.q c.entry-low.result c.entry-high.result c.in-Some-near.from c.in-Some-near.to c.max.result c.min.result bucket near c.max.ensures c.min.ensures
+    let near = subst (λ (i : PgmIndex). IsBetween (xs_at i.keys i.levels 1) c.args.q c.in-Some.from c.in-Some.to) c.index-index.ensures c.in-Some.ensures in
+    narrowed (xs_at index.keys index.levels 1) c.args.q c.entry-low.result c.entry-high.result c.in-Some.from c.in-Some.to c.max.result c.min.result bucket near c.max.ensures c.min.ensures
 
 pub returns-in-None-clause-between : goal.returns-in-None-clause-between
 returns-in-None-clause-between c =

@@ -17,7 +17,7 @@ returns-then-begun-eq0-clause-found g c =
     lb-before_runs value.keys value.eps value.eps_rec value.levels c.args.q runs.never_falls runs.index (λ k inside. begun.from k (omega (arith, c.if-begun-eq0.true)) inside)
     ∙ ap (λ (i : PgmIndex). lb i.keys c.args.q) same
 
-product : (runs eps : ℕ) → 8 * (runs + 1) * (2 * (2 * eps + 3)) ≤ 16 * (runs + 1) * (2 * eps + 3)
+product : (runs eps : ℕ) → 2 * (runs + 1) * (2 * (2 * eps + 3)) ≤ 4 * (runs + 1) * (2 * eps + 3)
 product runs eps = omega arith
 
 pub returns-clause-cost : goal.returns-clause-cost
@@ -26,5 +26,5 @@ returns-clause-cost g c =
     let runs = runs_beside index c.args.self.now.bits c.args.q in
     let last : TakesAtMost (2 * (2 * index.eps + 3)) c.begun-begun.new.steps c.lower_bound_in.new.steps =
     subst (λ (i : PgmIndex). TakesAtMost (2 * (2 * i.eps + 3)) c.begun-begun.new.steps c.lower_bound_in.new.steps) c.index-index.ensures c.lower_bound_in.ensures.cost in
-    TakesAtMost-raise (8 * (runs + 1) * (2 * (2 * index.eps + 3))) (lookup_bound index c.args.self.now.bits c.args.q) c.args.steps.now c.lower_bound_in.new.steps (product runs index.eps)
-    (TakesAtMost-more (8 * (runs + 1)) (2 * (2 * index.eps + 3)) c.args.steps.now c.begun-begun.new.steps c.lower_bound_in.new.steps c.begun-begun.ensures.cost last)
+    TakesAtMost-raise (2 * (runs + 1) * (2 * (2 * index.eps + 3))) (lookup_bound index c.args.self.now.bits c.args.q) c.args.steps.now c.lower_bound_in.new.steps (product runs index.eps)
+    (TakesAtMost-more (2 * (runs + 1)) (2 * (2 * index.eps + 3)) c.args.steps.now c.begun-begun.new.steps c.lower_bound_in.new.steps c.begun-begun.ensures.cost last)
