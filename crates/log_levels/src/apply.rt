@@ -68,6 +68,39 @@ impl LogMap {
         ensures unchanged { OnErr result (self.new ≡ self.old) }
         ensures levels { length self.new.levels ≡ length self.old.levels }
     {
+        *self = self.applied(rt, alloc, updates, workers, gate)?;
+        Ok(())
+    }
+
+    /// The map that [`LogMap::apply`] makes of this one, which stays as it is: they share levels.
+    ///
+    /// # Errors
+    ///
+    /// As of [`LogMap::apply`].
+    pub fn applied<R: Threads + Sync, G: Gate>(
+        &self,
+        rt: &R,
+        alloc: Global,
+        updates: &[Update],
+        workers: u32,
+        gate: &G,
+    ) -> Result<LogMap, MapFault>
+        requires staffed { 1 ≤ workers }
+        requires few_workers { workers ≤ 64 }
+        ensures applied { IfOk result (λ map. (before : List Update) →
+            StandsFor self.now before → StandsFor map (before ++ updates.now)) }
+        ensures full { (before : List Update) → StandsFor self.now before →
+            capacity_of self.now < length (entries_of (before ++ updates.now)) →
+            (result ≡ Err (Full self.now.accepted)) ⊎ (result ≡ Err MapFault.NoMemory) }
+        ensures full_first { All IsPlain updates.now →
+            capacity_of self.now < self.now.accepted + length updates.now →
+            result ≡ Err (Full self.now.accepted) }
+        ensures full_only { (accepted : ℕ) → result ≡ Err (Full accepted) →
+            (accepted ≡ self.now.accepted) × ((before : List Update) →
+            StandsFor self.now before →
+            capacity_of self.now < length (entries_of (before ++ updates.now))) }
+        ensures levels { IfOk result (λ map. length map.levels ≡ length self.now.levels) }
+    {
         let merge = |newer: &[Entry], older: &[Entry], deepest: bool| -> Merged
             requires staffed { 1 ≤ workers }
             requires few_workers { workers ≤ 64 }
@@ -81,8 +114,7 @@ impl LogMap {
             ensures { IsIndexFor keys result }
         { index_in_pieces(rt, alloc, keys, workers, gate) };
         let builder = Workers { merge, index };
-        *self = self.with_updates(&builder, alloc, updates)?;
-        Ok(())
+        self.with_updates(&builder, alloc, updates)
     }
 
     /// The map with updates.

@@ -108,18 +108,6 @@ pub fn start_map<R: Wait>(
     Ok((writer, seats))
 }
 
-/// Whether no update is a sweep, so that each is one entry.
-fn are_plain(updates: &[Update]) -> bool
-    ensures { IsTrue result ↔ All IsPlain updates.now }
-{
-    for update in updates {
-        if let Update::Sweep(_, _) = update {
-            return false;
-        }
-    }
-    true
-}
-
 /// Takes a place for each reader.
 fn seat_all<R: Wait>(
     rt: &R,
@@ -180,61 +168,11 @@ impl Writer {
         ensures full_only { (accepted : ℕ) → result ≡ Err (Full accepted) →
             (accepted ≡ count_in self.old) × IsOverfull self.old updates.now }
     {
-        if self.are_too_many(updates) {
-            let accepted = self.accepted();
-            return Err(MapFault::Full { accepted });
-        }
-        self.stage_aside(rt, alloc, updates, workers, gate)
-    }
-
-    /// How many entries the map has accepted, of the batch too.
-    fn accepted(&self) -> u64
-        ensures { result ≡ count_in self.now }
-    {
-        self.map.accepted()
-    }
-
-    /// Whether these updates, none of them a sweep, are more than there is room for. Of others it
-    /// isn't judged.
-    fn are_too_many(&self, updates: &[Update]) -> bool
-        ensures plain { All IsPlain updates.now →
-            self.now.capacity < count_in self.now + length updates.now → result ≡ true }
-        ensures full { OnTrue result (IsOverfull self.now updates.now) }
-    {
-        let room = self.map.capacity().saturating_sub(self.map.accepted());
-        if room < updates.len() as u64 && are_plain(updates) {
-            return true;
-        }
-        false
-    }
-
-    /// As [`Writer::stage`], where whether the updates are too many is judged as the map judges it.
-    fn stage_aside<R: Threads + Sync, G: Gate>(
-        &mut self,
-        rt: &R,
-        alloc: Global,
-        updates: &[Update],
-        workers: u32,
-        gate: &G,
-    ) -> Result<(), MapFault>
-        requires staffed { 1 ≤ workers }
-        requires few_workers { workers ≤ 64 }
-        ensures staged { OnOk result (self.new.batch ≡ self.old.batch ++ updates.now) }
-        ensures history { self.new.history ≡ self.old.history }
-        ensures unchanged { OnErr result (self.new ≡ self.old) }
-        ensures own { self.new.origin ≡ self.old.origin }
-        ensures capacity { self.new.capacity ≡ self.old.capacity }
-        ensures full { IsOverfull self.old updates.now →
-            (result ≡ Err (Full (count_in self.old))) ⊎ (result ≡ Err MapFault.NoMemory) }
-        ensures full_only { (accepted : ℕ) → result ≡ Err (Full accepted) →
-            (accepted ≡ count_in self.old) × IsOverfull self.old updates.now }
-    {
+        let next = self.map.applied(rt, alloc, updates, workers, gate)?;
         let staged = self.front.len() + self.batch.len() as u64;
         if u64::MAX - staged < updates.len() as u64 {
             return Err(MapFault::NoMemory);
         }
-        let mut next = self.map.copy(alloc)?;
-        next.apply(rt, alloc, updates, workers, gate)?;
         let Ok(next) = Arc::new(alloc, next) else {
             return Err(MapFault::NoMemory);
         };
