@@ -31,7 +31,7 @@ def main():
             # Its type, and the left sides of its equations, begin a line with its name.
             starts = re.compile(rf"^(?:abbrev |unfoldable )?(?:pub )?{re.escape(name)}(?:\s|$)|^unfolding ")
             lines = text.split("\n")
-            others = [(p, n) for p, n in named.get(name, []) if p != path or not starts.match(lines[n - 1].lstrip())
+            others = [(p, n) for p, n in named.get(name, []) if p != path or not starts.match(lines[n - 1])
                       or lines[n - 1].split(name, 1)[1].find(f" {name} ") >= 0]
             if not others:
                 uncited.append(f"{path.relative_to(TOP)}:{line} {name}")

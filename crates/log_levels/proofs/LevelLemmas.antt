@@ -58,9 +58,6 @@ missing-at entries key ascending apart = go (entry_at entries key) refl
 pub missing-past : (entries : List Entry) (key : ℕ) → IsAscending entries → length entries ≤ lb (level_keys entries) key → entry_at entries key ≡ None
 missing-past entries key ascending end = missing-at entries key ascending (λ inside is. absurd (omega arith))
 
-pub missing-here : (entries : List Entry) (key : ℕ) (e : Entry) → IsAscending entries → slice_index_or entries (lb (level_keys entries) key) e ≡ e → (e.key ≡ key → ⊥) → entry_at entries key ≡ None
-missing-here entries key e ascending is other = missing-at entries key ascending (λ inside same. other (sym (key-at entries (lb (level_keys entries) key) 0 e inside ∙ ap (λ (x : Entry). x.key) is) ∙ same))
-
 -- a key below at the place before: the place is at most the lower bound
 pub past-below : (entries : List Entry) (key place : ℕ) → IsAscending entries → 0 < place → place ≤ length entries → (slice_index_or entries (place - 1) no_entry).key < key → place ≤ lb (level_keys entries) key
 past-below entries key place ascending some within below = elim (cases_lt (lb (level_keys entries) key) place) [
@@ -147,12 +144,6 @@ place-next entries key ascending inside here =
       | inl less ↦ omega (arith, bound.before k less)
       | inr at_least ↦ let same : place ≡ k = omega arith in omega (arith, ap (λ i. slice_index_or (level_keys entries) i 0) same)
     ]) (λ k past inside'. omega (arith, keys-rise entries ascending place k 0 (omega arith) inside'))
-
-pub place-passed : (entries : List Entry) (key : ℕ) → IsAscending entries → (lb (level_keys entries) key < length entries → slice_index_or (level_keys entries) (lb (level_keys entries) key) 0 ≡ key → ⊥)
-    → lb (level_keys entries) (key + 1) ≡ lb (level_keys entries) key
-place-passed entries key ascending apart =
-    let absent = missing-at entries key ascending apart in
-    sym (place-stays entries key (key + 1) ascending (omega arith) (λ j from to. let same : key ≡ j = omega arith in ap (entry_at entries) (sym same) ∙ absent))
 
 -- the key at a bound's place isn't below the bound
 pub key-above : (list entries : List Entry) (from place : ℕ) → list ≡ entries → IsAscending entries → place ≡ lb (level_keys entries) from → place < length list
