@@ -20,15 +20,6 @@ place_below n i fits one = elim (cases_lt i 64) [ inl low ↦ low | inr high ↦
 abbrev pub IsFilledFor : ℕ → ℕ → ℕ → ℕ → Type 0
 IsFilledFor d count bits filled = (i : ℕ) → (bit_at filled i ≡ 1) ↔ ((steps : ℕ) × (steps < count) × (bit_at bits (i + steps * d) ≡ 1))
 
-pub filled_once : (d bits : ℕ) → IsFilledFor d 1 bits bits
-filled_once d bits i = (
-  λ one. (0, omega arith, ap (bit_at bits) (here 0 (omega arith)) ∙ one),
-  λ (steps, few, one). sym (ap (bit_at bits) (here steps few)) ∙ one,
-)
-  where
-    here : (steps : ℕ) → steps < 1 → i + steps * d ≡ i
-    here steps few = let none : steps ≡ 0 = omega arith in ap (λ n. i + n * d) none ∙ omega arith
-
 pub filled_twice : (d count shift bits filled : ℕ) → shift ≡ count * d → IsFilledFor d count bits filled → IsFilledFor d (count * 2) bits (bit_or filled (filled / 2 ^ shift))
 filled_twice d count shift bits filled width so_far i = (only, wherever)
   where

@@ -36,11 +36,6 @@ greatest_push a (x ∷ xs) y = greatest_push (max a x) xs y
 abbrev pub greatest_apart : ℕ → List ℕ → ℕ → ℕ → ℕ
 greatest_apart d centre z n = fold max 0 (map (apart d centre z) (range_with_len 0 n))
 
-pub greatest_apart-more : (d : ℕ) (centre : List ℕ) (z n : ℕ) → greatest_apart d centre z (n + 1) ≡ max (greatest_apart d centre z n) (apart d centre z n)
-greatest_apart-more d centre z n =
-    ap (fold max 0) (map-range_with_len_more (apart d centre z) 0 n n (omega arith))
-    ∙ greatest_push 0 (map (apart d centre z) (range_with_len 0 n)) (apart d centre z n)
-
 pub distance-is : (d : ℕ) (centre : List ℕ) (z : ℕ) → distance d centre z ≡ greatest_apart d centre z d
 unfolding distance
 distance-is d centre z = refl
