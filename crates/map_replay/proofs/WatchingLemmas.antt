@@ -47,17 +47,6 @@ seen_count batches [] (s ∷ sightings) seen = absurd seen
 seen_count batches (q ∷ questions) [] seen = absurd seen
 seen_count batches (q ∷ questions) (s ∷ sightings) seen = ap (λ (n : ℕ). suc n) (seen_count batches questions sightings seen.1)
 
-pub asked_count : (batches : List (List Update)) (questions : List Question) (sightings : List Sighting) → WasAsked batches questions sightings →
-    length sightings ≡ length questions
-asked_count batches questions sightings asked = seen_count batches questions sightings asked.seen
-
-pub asked_none : (batches : List (List Update)) → WasAsked batches [] []
-asked_none batches = record {
-  seen = tt;
-  never_falls = IsNonDecreasingBy-short (λ (s : Sighting). s.length) [] (omega arith);
-  known = All-nil _;
-}
-
 -- a look that begins with what was known
 pub asked_push : (known shown : List (List Update)) (questions : List Question) (sightings : List Sighting) (question : Question) (sighting : Sighting) →
     IsPrefix known shown → sighting.length ≡ count_of shown → sighting.answer ≡ answer_of (map_after (updates_of shown)) question →
