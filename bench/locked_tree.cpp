@@ -1,6 +1,6 @@
-// A B-tree that many threads read under one lock, beside `crates/read_bench`: absl::btree_map and std::shared_mutex.
+// A B-tree that many threads read under one lock, beside `bench read`: absl::btree_map and std::shared_mutex.
 //   locked_tree KEYS LOOKS
-// The same keys, questions and batches as read_bench, and the same lines: one, two and four readers look LOOKS times each at one
+// The same keys, questions and batches as `bench read`, and the same lines: one, two and four readers look LOOKS times each at one
 // key, first while the writer is still and then while it writes batches of 16 puts without pause, each batch under the lock. A
 // look takes the lock shared. Millions of looks a second of all readers together, batches written meanwhile, the sum of what
 // was found, and the longest time of a look in microseconds, of a round of its own in which each look is timed.

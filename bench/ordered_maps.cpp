@@ -1,4 +1,4 @@
-// The updates and questions of `map_bench`, in its order and on its keys, on absl::btree_map and on
+// The updates and questions of `bench map`, in its order and on its keys, on absl::btree_map and on
 // std::map: nanoseconds each, the least of three rounds on a new map, and the same checksums.
 //
 //     ordered_maps tree N

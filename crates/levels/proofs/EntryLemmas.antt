@@ -9,7 +9,7 @@ use Rattle.window_search.proofs.CallerLemmas.{predecessor_exists}
 use Rattle.levels.specs.declared.level.Level.{Level}
 use Rattle.levels.specs.Costs.{TakesAtMost}
 use Rattle.levels.specs.Entries.{IsEntry}
-use Rattle.levels.specs.Indexes.{xs_at, IsIndex}
+use Rattle.levels.specs.Indexes.{xs_at, IsLaidIndex}
 use Rattle.levels.specs.Stored.{segments_of, AreStored}
 use Rattle.levels.proofs.LevelLemmas.{some_at}
 use Rattle.levels.proofs.StoredLemmas.{segments_of-count}
@@ -17,7 +17,7 @@ use Rattle.levels.proofs.LookupLemmas.{no_segment, ascends, first_at, IsNonDecre
 use Rattle.levels.proofs.CostLemmas.{TakesAtMost-more, TakesAtMost-one}
 
 -- each level has the predecessor of a question that isn't below the first key
-pub predecessor_at : (keys : List ℕ) (eps eps_rec : ℕ) (levels : List (List Segment)) (order : IsNonDecreasing keys) (index : IsIndex keys eps eps_rec levels) (i q : ℕ) → i ≤ length levels → 0 < length keys →
+pub predecessor_at : (keys : List ℕ) (eps eps_rec : ℕ) (levels : List (List Segment)) (order : IsNonDecreasing keys) (index : IsLaidIndex keys eps eps_rec levels) (i q : ℕ) → i ≤ length levels → 0 < length keys →
     slice_index keys 0 ≤ q → (place : ℕ) × IsPredecessor (xs_at keys levels i) q place
 predecessor_at keys eps eps_rec levels order index i q within some first =
     predecessor_exists (xs_at keys levels i) q (IsNonDecreasing-from_rising (xs_at keys levels i) (ascends keys eps eps_rec levels order index i within).rises)

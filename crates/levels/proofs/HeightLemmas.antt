@@ -1,7 +1,8 @@
 -- How long runs are at least, and how many levels there are at most.
 --
 -- Main results: `long_level`: since 2ε + 2 places at their own heights have a line, each run above level 0 but the last one has
--- as many; `levels_low`: each level has so many times more points than the one above it, counted from the first one on.
+-- as many; `levels_low_over_runs`, `levels_low`: each level has so many times more points than the one above it, counted from
+-- the runs of level 0 on, or from its points on.
 use Rattle.std.proofs.Common.{◌≡◌, inl, inr, ℕ, zero, suc, ◌+◌, ◌-◌, ◌*◌, ◌^◌, ◌<◌, ◌≤◌, List, [], ◌∷◌, length, slice_index_or, ap, ◌∙◌, subst, arith, add-one, pos, ◌-ℤ◌}
 use Rattle.std.proofs.lemmas.Bool.{cases_lt, cases_eq}
 use Rattle.std.proofs.lemmas.Bool.Decides.{nat_tests}
@@ -16,8 +17,8 @@ use Rattle.exact_cross.specs.Covers.{run_end, CutsInto, IsLongest}
 use Rattle.exact_cross.specs.Segments.{starts_of}
 use Rattle.exact_cross.proofs.CallerLemmas.{IsWithin-in, CutsInto-rises}
 use Rattle.key_points.specs.KeyPoints.{xs_of}
-use Rattle.levels.specs.Indexes.{level_at, xs_at, points_at, eps_at, IsIndex}
-use Rattle.levels.specs.Heights.{least_places, HasLongRuns, IsLow}
+use Rattle.levels.specs.Indexes.{level_at, xs_at, points_at, eps_at, IsLevel, IsIndex, IsLaidIndex}
+use Rattle.levels.specs.Heights.{least_places, HasLongRuns, IsLow, IsLowOverRuns}
 use Rattle.levels.proofs.SegmentLemmas.{two_places, IsLong, cuts_long, runs-count, starts_count}
 use Rattle.levels.proofs.LevelLemmas.{xs_at-base, xs_at-length, some_at}
 use Rattle.levels.proofs.StoredLemmas.{eps_at-above}
@@ -104,15 +105,15 @@ long_runs least to from (segment ∷ next ∷ later) cuts (suc k) d more =
     subst (λ (n : ℕ). (slice_index_or (next ∷ later) k d).start + least ≤ (slice_index_or (segment ∷ next ∷ later) n d).start) shift
     (long_runs least to next.start (next ∷ later) cuts.3 k d (omega arith))
 
-module _ (keys : List ℕ) (eps eps_rec : ℕ) (levels : List (List Segment)) (order : IsNonDecreasing keys) (index : IsIndex keys eps eps_rec levels) where
+module _ (keys : List ℕ) (eps eps_rec : ℕ) (levels : List (List Segment)) (order : IsNonDecreasing keys) (index : IsLaidIndex keys eps eps_rec levels) where
   least-base : (i : ℕ) → i ≡ 0 → least_places eps_rec i ≡ 2
   least-base i base = grind (arith, nat_tests)
 
   least-above : (i : ℕ) → 0 < i → least_places eps_rec i ≡ 2 * eps_rec + 2
   least-above i above = grind (arith, nat_tests)
 
-  long_cuts : (i : ℕ) → i < length levels → CutsInto (IsLong (least_places eps_rec i) (length (xs_at keys levels i))) 0 (length (xs_at keys levels i)) (starts_of (level_at levels i))
-  long_cuts i inside =
+  long_cuts : (i : ℕ) → i < length levels → IsLevel keys eps eps_rec levels i → CutsInto (IsLong (least_places eps_rec i) (length (xs_at keys levels i))) 0 (length (xs_at keys levels i)) (starts_of (level_at levels i))
+  long_cuts i inside level =
       let here = ascends keys eps eps_rec levels order index i (omega arith) in
       let to = length (xs_at keys levels i) in
       cuts_long (points_at keys levels i) (eps_at eps eps_rec i) to 0 (least_places eps_rec i) (starts_of (level_at levels i))
@@ -124,23 +125,23 @@ module _ (keys : List ℕ) (eps eps_rec : ℕ) (levels : List (List Segment)) (o
             omega (arith, least-above i above, bound, enough)
         | inr base ↦
             omega (arith, least-base i (omega arith), two_places (points_at keys levels i) (eps_at eps eps_rec i) to s e here.ascends (omega arith) some before longest)
-      ]) (index.each i inside).greedy
+      ]) level.greedy
 
-  pub long_level : (i : ℕ) → i < length levels → HasLongRuns (least_places eps_rec i) (level_at levels i)
-  long_level i inside = long_runs (least_places eps_rec i) (length (xs_at keys levels i)) 0 (level_at levels i) (long_cuts i inside)
+  pub long_level : (i : ℕ) → i < length levels → IsLevel keys eps eps_rec levels i → HasLongRuns (least_places eps_rec i) (level_at levels i)
+  long_level i inside level = long_runs (least_places eps_rec i) (length (xs_at keys levels i)) 0 (level_at levels i) (long_cuts i inside level)
 
   some_key : 0 < length levels → 0 < length keys
   some_key level = elim (cases_eq (length keys) 0) [ inl none ↦ absurd (omega (arith, index.none none)) | inr key ↦ omega arith ]
 
   -- the runs of a level, each with so many places, are no more than its points
-  runs_few : (i : ℕ) → i < length levels → 0 < length (level_at levels i) →
+  runs_few : (i : ℕ) → i < length levels → IsLevel keys eps eps_rec levels i → 0 < length (level_at levels i) →
       least_places eps_rec i * length (level_at levels i) + 1 ≤ length (xs_at keys levels i) + least_places eps_rec i
-  runs_few i inside some =
+  runs_few i inside level some =
       let count = starts_count (level_at levels i) in
       omega (
         arith,
         ap (λ (n : ℕ). least_places eps_rec i * n) count,
-        runs-count (least_places eps_rec i) (length (xs_at keys levels i)) 0 (starts_of (level_at levels i)) (omega (arith, count)) (long_cuts i inside),
+        runs-count (least_places eps_rec i) (length (xs_at keys levels i)) 0 (starts_of (level_at levels i)) (omega (arith, count)) (long_cuts i inside level),
       )
 
   -- from level i up there are k more levels
@@ -160,7 +161,7 @@ module _ (keys : List ℕ) (eps eps_rec : ℕ) (levels : List (List Segment)) (o
   points_many (suc k) (suc i) is above =
       let up_there = points_many k (suc i + 1) (omega arith) (omega arith) in
       let count = xs_at-length keys levels (suc i) in
-      let few = runs_few (suc i) (omega arith) (omega (arith, count, up_there)) in
+      let few = runs_few (suc i) (omega arith) ((index.each (suc i) (omega arith)).above above) (omega (arith, count, up_there)) in
       let least = least-above (suc i) above in
       let scaled = mul-le-mul_left (2 * eps_rec + 2) up_there in
       omega (
@@ -173,9 +174,11 @@ module _ (keys : List ℕ) (eps eps_rec : ℕ) (levels : List (List Segment)) (o
         ap (λ (n : ℕ). (2 * eps_rec + 2) * n) count,
       )
 
-  pub levels_low : IsLow eps_rec (length levels) (length (xs_of keys))
-  levels_low two =
-      let above = points_many (length levels - 2) 1 (omega arith) (omega arith) in
-      let count = xs_at-length keys levels 0 in
-      let few = runs_few 0 (omega arith) (omega (arith, count, above)) in
-      omega (arith, above, count, few, ap length (xs_at-base keys levels))
+  pub levels_low_over_runs : IsLowOverRuns eps_rec (length levels) (length (level_at levels 0))
+  levels_low_over_runs two = omega (arith, points_many (length levels - 2) 1 (omega arith) (omega arith), xs_at-length keys levels 0)
+
+  pub levels_low : IsIndex keys eps eps_rec levels → IsLow eps_rec (length levels) (length (xs_of keys))
+  levels_low greedy two =
+      let above = levels_low_over_runs two in
+      let few = runs_few 0 (omega arith) (greedy.each 0 (omega arith)) (omega (arith, above)) in
+      omega (arith, above, few, ap length (xs_at-base keys levels))

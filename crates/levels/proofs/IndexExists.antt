@@ -8,9 +8,9 @@ use Rattle.std.proofs.lemmas.List.{length-append}
 use Rattle.std.specs.List.Sorted.{IsNonDecreasing}
 use Rattle.exact_cross.specs.declared.segment.Segment.{Segment}
 use Rattle.segmenter.proofs.SegmentsExist.{IsSegmentation-some}
-use Rattle.levels.specs.Indexes.{level_at, xs_at, points_at, eps_at, IsLevel, IsIndex}
+use Rattle.levels.specs.Indexes.{level_at, xs_at, points_at, eps_at, IsLevel, IsLaidLevel, IsIndex}
 use Rattle.levels.proofs.SegmentLemmas.{fewer_runs}
-use Rattle.levels.proofs.LevelLemmas.{xs_at-length, ascends_at, some_at}
+use Rattle.levels.proofs.LevelLemmas.{xs_at-length, ascends_at, some_at, IsLaidLevel-from_level}
 use Rattle.levels.proofs.StoredLemmas.{level_at-below, level_at-last, IsLevel-push}
 
 -- the first levels, each of which has more runs than one
@@ -21,11 +21,12 @@ record AreUnfinished (keys : List ℕ) (eps eps_rec : ℕ) (levels : List (List 
 index_from : (keys : List ℕ) (eps eps_rec : ℕ) → IsNonDecreasing keys → 0 < length keys → (fuel : ℕ) (levels : List (List Segment)) →
     AreUnfinished keys eps eps_rec levels → length (xs_at keys levels (length levels)) ≤ fuel → (whole : List (List Segment)) × IsIndex keys eps eps_rec whole
 index_from keys eps eps_rec order some zero levels so_far few =
-    absurd (omega (arith, few, some_at keys eps eps_rec levels order some (length levels) so_far.each))
+    absurd (omega (arith, few, some_at keys eps eps_rec levels order some (length levels) (λ k less. IsLaidLevel-from_level keys eps eps_rec levels k (so_far.each k less))))
 index_from keys eps eps_rec order some (suc fuel) levels so_far few =
     let n = length levels in
-    let here = ascends_at keys eps eps_rec levels order n so_far.each in
-    let points = some_at keys eps eps_rec levels order some n so_far.each in
+    let laid : (k : ℕ) → k < n → IsLaidLevel keys eps eps_rec levels k = λ k less. IsLaidLevel-from_level keys eps eps_rec levels k (so_far.each k less) in
+    let here = ascends_at keys eps eps_rec levels order n laid in
+    let points = some_at keys eps eps_rec levels order some n laid in
     let level = IsSegmentation-some (points_at keys levels n) (eps_at eps eps_rec n) 0 (length (xs_at keys levels n)) here.ascends (omega arith) (omega arith) in
     let segments = level.0 in
     let higher = levels ++ segments ∷ [] in
@@ -57,7 +58,7 @@ index_from keys eps eps_rec order some (suc fuel) levels so_far few =
                   more (sym (ap length last) ∙ ap (λ (k : ℕ). length (level_at higher k)) top ∙ one)
             ];
           })
-          (omega (arith, ap (λ (k : ℕ). length (xs_at keys higher k)) count, xs_at-length keys higher n, ap length last, runs.0, runs.1, points, few))
+          (omega (arith, ap (λ (k : ℕ). length (xs_at keys higher k)) count, xs_at-length keys higher n, ap length last, runs, points, few))
     ]
 
 pub IsIndex-some : (keys : List ℕ) (eps eps_rec : ℕ) → IsNonDecreasing keys → (levels : List (List Segment)) × IsIndex keys eps eps_rec levels

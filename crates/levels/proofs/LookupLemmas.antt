@@ -8,18 +8,20 @@ use Rattle.std.proofs.lemmas.Bool.{cases_lt, cond-true, cond-false, eq-eqb, ne_e
 use Rattle.std.specs.List.Sorted.{IsNonDecreasing, IsStrictlyIncreasing}
 use Rattle.exact_cross.specs.declared.segment.Segment.{Segment}
 use Rattle.exact_cross.specs.Points.{Points}
-use Rattle.exact_cross.specs.Covers.{IsGreedy, IsLongest}
+use Rattle.exact_cross.specs.Lines.{SomeLineFits}
+use Rattle.exact_cross.specs.Covers.{IsCover}
 use Rattle.exact_cross.specs.Segments.{starts_of, EachRun, IsFitted}
 use Rattle.exact_cross.specs.Checked.{IsInRange}
 use Rattle.exact_cross.proofs.CallerLemmas.{slice_index-places, slice_index-rises, IsNonDecreasing-from_neighbours}
 use Rattle.window_search.specs.Searches.{lb, IsPredecessor}
 use Rattle.window_search.specs.Windows.{IsWindow, IsLineOf, IsLastAtMost, IsClose, IsNext}
 use Rattle.window_search.proofs.CallerLemmas.{predecessor_exists, lb-predecessor}
+use Rattle.piece_join.proofs.RelaxedLemmas.{runs-from_laid}
 use Rattle.key_points.specs.KeyPoints.{xs_of}
-use Rattle.levels.specs.Indexes.{level_at, xs_at, ys_at, points_at, eps_at, IsIndex}
+use Rattle.levels.specs.Indexes.{level_at, xs_at, ys_at, points_at, eps_at, IsLaidIndex}
 use Rattle.key_points.proofs.CallerLemmas.{xs-first, next_of_point, close_of_point}
 use Rattle.levels.specs.Lookups.{HasRun, extent_at, IsWindowAt}
-use Rattle.levels.proofs.SegmentLemmas.{first_x_at, run_at, HasRun-at, IsRun, end_at, fitted_runs, predecessor_in_run}
+use Rattle.levels.proofs.SegmentLemmas.{first_x_at, run_at, HasRun-at, IsRun, end_at, predecessor_in_run}
 use Rattle.levels.proofs.LevelLemmas.{xs_at-base, ys_at-base, xs_at-above, ys_at-above, xs_at-length, AscendsAt, ascends_at, heights_few, some_at}
 
 pub IsNonDecreasing-from_rising : (xs : List ℕ) → IsStrictlyIncreasing xs → IsNonDecreasing xs
@@ -30,9 +32,9 @@ abbrev pub no_segment : Segment
 no_segment = record { start = 0; a = 0; b = 0; line = record { x0 = 0; y0 = pos 0; rise = 0; run = 0 }; cut = None }
 
 -- the first run starts at the first place
-first_start : (p : Points) (eps to : ℕ) (segments : List Segment) (d : Segment) → 0 < length segments → IsGreedy p eps 0 to (starts_of segments) → (slice_index_or segments 0 d).start ≡ 0
-first_start p eps to [] d some greedy = absurd (omega arith)
-first_start p eps to (segment ∷ later) d some greedy = greedy.0
+first_start : (p : Points) (eps to : ℕ) (segments : List Segment) (d : Segment) → 0 < length segments → IsCover p eps 0 to (starts_of segments) → (slice_index_or segments 0 d).start ≡ 0
+first_start p eps to [] d some cover = absurd (omega arith)
+first_start p eps to (segment ∷ later) d some cover = cover.0
 
 pub extent_at-base : (keys : List ℕ) (levels : List (List Segment)) (i : ℕ) → i ≡ 0 → extent_at keys levels i ≡ length keys
 extent_at-base keys levels i base = cond-true (eqb i 0) _ _ (eq-eqb i 0 base)
@@ -40,7 +42,7 @@ extent_at-base keys levels i base = cond-true (eqb i 0) _ _ (eq-eqb i 0 base)
 pub extent_at-above : (keys : List ℕ) (levels : List (List Segment)) (i : ℕ) → 0 < i → extent_at keys levels i ≡ length (xs_at keys levels i)
 extent_at-above keys levels i above = cond-false (eqb i 0) _ _ (ne_eqb i 0 (λ base. omega arith))
 
-module _ (keys : List ℕ) (eps eps_rec : ℕ) (levels : List (List Segment)) (order : IsNonDecreasing keys) (index : IsIndex keys eps eps_rec levels) where
+module _ (keys : List ℕ) (eps eps_rec : ℕ) (levels : List (List Segment)) (order : IsNonDecreasing keys) (index : IsLaidIndex keys eps eps_rec levels) where
   pub ascends : (i : ℕ) → i ≤ length levels → AscendsAt keys levels i
   ascends i within = ascends_at keys eps eps_rec levels order i (λ k less. index.each k (omega arith))
 
@@ -50,7 +52,7 @@ module _ (keys : List ℕ) (eps eps_rec : ℕ) (levels : List (List Segment)) (o
   first_at some d (suc i) within =
       let points = some_at keys eps eps_rec levels order some (suc i) (λ k less. index.each k (omega arith)) in
       let runs : 0 < length (level_at levels i) = omega (arith, xs_at-length keys levels i, ap (λ (k : ℕ). length (xs_at keys levels k)) (add-one i)) in
-      let start = first_start (points_at keys levels i) (eps_at eps eps_rec i) (length (xs_at keys levels i)) (level_at levels i) d runs (index.each i (omega arith)).greedy in
+      let start = first_start (points_at keys levels i) (eps_at eps eps_rec i) (length (xs_at keys levels i)) (level_at levels i) d runs (index.each i (omega arith)).laid.cover in
       ap (λ (k : ℕ). slice_index (xs_at keys levels k) 0) (sym (add-one i)) ∙ ap (λ (xs : List ℕ). slice_index xs 0) (xs_at-above keys levels i)
       ∙ first_x_at (xs_at keys levels i) (level_at levels i) 0 d runs ∙ ap (slice_index (xs_at keys levels i)) start ∙ first_at some d i (omega arith)
 
@@ -74,9 +76,9 @@ module _ (keys : List ℕ) (eps eps_rec : ℕ) (levels : List (List Segment)) (o
       let xs = xs_at keys levels i in
       let p = points_at keys levels i in
       let e = eps_at eps eps_rec i in
-      let level = index.each i inside in
+      let cover = (index.each i inside).laid.cover in
       let run_inside : run < length (level_at levels i) = omega (arith, count, found.inside) in
-      let at = run_at (λ segment e. Unit {0}) (IsLongest p e (length xs)) 0 (length xs) (level_at levels i) run d run_inside level.greedy (all (length xs) (level_at levels i)) in
+      let at = run_at (λ segment e. Unit {0}) (SomeLineFits p e) 0 (length xs) (level_at levels i) run d run_inside cover (all (length xs) (level_at levels i)) in
       let first : slice_index (xs_at keys levels (i + 1)) run ≡ slice_index xs (slice_index_or (level_at levels i) run d).start =
       ap (λ (l : List ℕ). slice_index l run) (xs_at-above keys levels i) ∙ first_x_at xs (level_at levels i) run d run_inside in
       predecessor_exists xs q (IsNonDecreasing-from_rising xs here.rises) (omega (arith, at.some, at.within))
@@ -104,12 +106,12 @@ module _ (keys : List ℕ) (eps eps_rec : ℕ) (levels : List (List Segment)) (o
       let xs = xs_at keys levels i in
       let p = points_at keys levels i in
       let bound = eps_at eps eps_rec i in
-      let level = index.each i inside in
+      let level = (index.each i inside).laid in
       let segments = level_at levels i in
-      let fitted = fitted_runs p bound 0 (length xs) segments here.ascends (omega arith) (λ j under. omega (arith, heights_few keys levels i here j under, few))
-      bounded level.greedy level.steep in
-      let ranged = run_at (λ segment e. IsInRange segment.line) (IsLongest p bound (length xs)) 0 (length xs) segments run d run_inside level.greedy fitted.0 in
-      let fits = run_at (IsFitted p bound) (IsLongest p bound (length xs)) 0 (length xs) segments run d run_inside level.greedy fitted.1 in
+      let fitted = runs-from_laid p bound 0 (length xs) segments here.ascends (λ j under. omega (arith, heights_few keys levels i here j under, few)) bounded (omega arith)
+      level.cover level.steep in
+      let ranged = run_at (λ segment e. IsInRange segment.line) (SomeLineFits p bound) 0 (length xs) segments run d run_inside level.cover fitted.0 in
+      let fits = run_at (IsFitted p bound) (SomeLineFits p bound) 0 (length xs) segments run d run_inside level.cover fitted.1 in
       let end : end_at segments run (length xs) ≡ e = elim (cases_lt (run + 1) (length segments)) [
         | inl more ↦ fits.next d more ∙ sym (next d more)
         | inr final ↦ let count : length segments ≡ run + 1 = omega arith in fits.last count ∙ sym (last count)

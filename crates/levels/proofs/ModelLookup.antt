@@ -6,7 +6,7 @@ use Rattle.std.proofs.lemmas.Bool.{cases_lt}
 use Rattle.std.specs.List.Sorted.{IsNonDecreasing}
 use Rattle.exact_cross.specs.declared.line.Line.{Line}
 use Rattle.exact_cross.specs.declared.segment.Segment.{Segment}
-use Rattle.exact_cross.specs.Covers.{IsLongest}
+use Rattle.exact_cross.specs.Lines.{SomeLineFits}
 use Rattle.exact_cross.specs.Segments.{EachRun}
 use Rattle.exact_cross.specs.Floors.{IsFloorAt}
 use Rattle.exact_cross.proofs.FloorLemmas.{IsFloorAt-right, IsFloorAt-left}
@@ -14,7 +14,7 @@ use Rattle.window_search.specs.Searches.{lb, IsPredecessor}
 use Rattle.window_search.specs.Windows.{IsNext, IsClose}
 use Rattle.window_search.proofs.CallerLemmas.{IsLowerBound-lb, IsPredecessor-unique}
 use Rattle.levels.specs.declared.model.RunModel.{RunModel}
-use Rattle.levels.specs.Indexes.{level_at, xs_at, ys_at, points_at, eps_at, IsIndex}
+use Rattle.levels.specs.Indexes.{level_at, xs_at, ys_at, points_at, eps_at, IsLaidIndex}
 use Rattle.levels.specs.Lookups.{extent_at, HoldsAnswers}
 use Rattle.levels.specs.Models.{IsEndOf, IsModelOf, clamped_at}
 use Rattle.levels.proofs.SegmentLemmas.{run_at, end_at, first_x_at}
@@ -38,13 +38,13 @@ floor_exists line q positive = elim (cases_lt q line.x0) [
   )
 ]
 
-module _ (keys : List ℕ) (eps eps_rec : ℕ) (levels : List (List Segment)) (order : IsNonDecreasing keys) (index : IsIndex keys eps eps_rec levels) where
+module _ (keys : List ℕ) (eps eps_rec : ℕ) (levels : List (List Segment)) (order : IsNonDecreasing keys) (index : IsLaidIndex keys eps eps_rec levels) where
   -- a run that is there has an end
   pub run_ends : (i run : ℕ) (d : Segment) → i < length levels → run < length (level_at levels i) →
       IsEndOf (level_at levels i) (length (xs_at keys levels i)) run (end_at (level_at levels i) run (length (xs_at keys levels i)))
   run_ends i run d inside run_inside =
       let to = length (xs_at keys levels i) in
-      let at = run_at (λ segment e. Unit {0}) (IsLongest (points_at keys levels i) (eps_at eps eps_rec i) to) 0 to (level_at levels i) run d run_inside (index.each i inside).greedy (all to (level_at levels i)) in
+      let at = run_at (λ segment e. Unit {0}) (SomeLineFits (points_at keys levels i) (eps_at eps eps_rec i)) 0 to (level_at levels i) run d run_inside (index.each i inside).laid.cover (all to (level_at levels i)) in
       record { next = at.next; last = at.last }
     where
       all : (to : ℕ) (segments : List Segment) → EachRun (λ segment e. Unit {0}) to segments

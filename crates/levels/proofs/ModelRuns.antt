@@ -9,15 +9,15 @@ use borrow.Author.Differences.{up, down}
 use Rattle.exact_cross.specs.declared.line.Line.{Line}
 use Rattle.exact_cross.specs.declared.segment.Segment.{Segment}
 use Rattle.exact_cross.specs.Points.{Points, IsAscending}
-use Rattle.exact_cross.specs.Lines.{IsWithin, rational}
-use Rattle.exact_cross.specs.Covers.{IsLongest}
+use Rattle.exact_cross.specs.Lines.{IsWithin, rational, SomeLineFits}
 use Rattle.exact_cross.specs.Segments.{IsSteepSegment, IsFitted}
 use Rattle.exact_cross.specs.Checked.{IsInRange}
 use Rattle.exact_cross.proofs.CallerLemmas.{IsWithin-below, line_of_pair-level, line_of_pair-rising}
-use Rattle.segmenter.specs.Segmentation.{IsSegmentation}
+use Rattle.piece_join.specs.Laid.{IsLaid}
+use Rattle.piece_join.proofs.RelaxedLemmas.{runs-from_laid}
 use Rattle.levels.specs.declared.model.RunModel.{RunModel}
 use Rattle.levels.specs.Models.{IsEndOf, IsModelOf}
-use Rattle.levels.proofs.SegmentLemmas.{run_at, end_at, fitted_runs}
+use Rattle.levels.proofs.SegmentLemmas.{run_at, end_at}
 
 -- a product of a whole number with a natural, as sums of naturals
 times : (z : ℤ) (n : ℕ) → up (z *ℤ pos n) + down z * n ≡ down (z *ℤ pos n) + up z * n
@@ -73,13 +73,13 @@ pub record HasModel (p : Points) (eps : ℕ) (segment : Segment) (e : ℕ) : Typ
   pub left : p.x segment.start ≤ segment.line.x0
   pub not_below : (raised : ℕ) × (pos raised ≡ segment.line.y0 +ℤ pos eps) × (segment.line.rise * (segment.line.x0 - p.x segment.start) ≤ raised * segment.line.run)
 
-pub model_run : (p : Points) (eps : ℕ) (segments : List Segment) (k : ℕ) (d : Segment) (e : ℕ) → IsAscending p → ((j : ℕ) → j < p.count → p.y j < 2 ^ 32) → eps ≤ 1048576 → IsSegmentation p eps 0 p.count segments →
+pub model_run : (p : Points) (eps : ℕ) (segments : List Segment) (k : ℕ) (d : Segment) (e : ℕ) → IsAscending p → ((j : ℕ) → j < p.count → p.y j < 2 ^ 32) → eps ≤ 1048576 → IsLaid p eps 0 p.count segments →
     k < length segments → IsEndOf segments p.count k e → HasModel p eps (slice_index_or segments k d) e
-model_run p eps segments k d e ascends small bounded level inside ends =
-    let fitted = fitted_runs p eps 0 p.count segments ascends (omega arith) small bounded level.greedy level.steep in
-    let ranged = run_at (λ segment e. IsInRange segment.line) (IsLongest p eps p.count) 0 p.count segments k d inside level.greedy fitted.0 in
-    let fits = run_at (IsFitted p eps) (IsLongest p eps p.count) 0 p.count segments k d inside level.greedy fitted.1 in
-    let steep = run_at (IsSteepSegment p eps) (IsLongest p eps p.count) 0 p.count segments k d inside level.greedy level.steep in
+model_run p eps segments k d e ascends small bounded laid inside ends =
+    let fitted = runs-from_laid p eps 0 p.count segments ascends small bounded (omega arith) laid.cover laid.steep in
+    let ranged = run_at (λ segment e. IsInRange segment.line) (SomeLineFits p eps) 0 p.count segments k d inside laid.cover fitted.0 in
+    let fits = run_at (IsFitted p eps) (SomeLineFits p eps) 0 p.count segments k d inside laid.cover fitted.1 in
+    let steep = run_at (IsSteepSegment p eps) (SomeLineFits p eps) 0 p.count segments k d inside laid.cover laid.steep in
     let end : end_at segments k p.count ≡ e = elim (cases_lt (k + 1) (length segments)) [
       | inl more ↦ fits.next d more ∙ sym (ends.next d more)
       | inr final ↦ let count : length segments ≡ k + 1 = omega arith in fits.last count ∙ sym (ends.last count)

@@ -3,7 +3,7 @@ use Rattle.std.proofs.Common.{◌≡◌, ℕ, ◌<◌, ◌≤◌, List, [], ◌�
 use Rattle.std.proofs.lemmas.Bool.{cases_lt}
 use Rattle.std.specs.List.Sorted.{IsNonDecreasing}
 use Rattle.exact_cross.specs.declared.segment.Segment.{Segment}
-use Rattle.levels.specs.Indexes.{level_at, xs_at, IsIndex}
+use Rattle.levels.specs.Indexes.{level_at, xs_at, IsLaidIndex}
 use Rattle.window_search.specs.Searches.{lb}
 use Rattle.window_search.proofs.CallerLemmas.{lb-is}
 use Rattle.levels.proofs.LevelLemmas.{xs_at-length, some_at}
@@ -30,14 +30,14 @@ no_runs keys levels none = elim (cases_lt 0 (length (xs_at keys levels 1))) [
 ]
 
 -- the first x of the runs never fall
-pub first_x-order : (keys : List ℕ) (eps eps_rec : ℕ) (levels : List (List Segment)) → IsNonDecreasing keys → IsIndex keys eps eps_rec levels → IsNonDecreasing (xs_at keys levels 1)
+pub first_x-order : (keys : List ℕ) (eps eps_rec : ℕ) (levels : List (List Segment)) → IsNonDecreasing keys → IsLaidIndex keys eps eps_rec levels → IsNonDecreasing (xs_at keys levels 1)
 first_x-order keys eps eps_rec levels order index = elim (cases_lt 0 (length levels)) [
   | inl some ↦ IsNonDecreasing-from_rising (xs_at keys levels 1) (ascends keys eps eps_rec levels order index 1 (omega arith)).rises
   | inr none ↦ λ i j d less inside. absurd (omega (arith, no_runs keys levels (omega arith)))
 ]
 
 -- where there is a key, the first run begins at the first one
-pub first_run : (keys : List ℕ) (eps eps_rec : ℕ) (levels : List (List Segment)) → IsNonDecreasing keys → IsIndex keys eps eps_rec levels → 0 < length keys →
+pub first_run : (keys : List ℕ) (eps eps_rec : ℕ) (levels : List (List Segment)) → IsNonDecreasing keys → IsLaidIndex keys eps eps_rec levels → 0 < length keys →
     (0 < length (xs_at keys levels 1)) × (slice_index (xs_at keys levels 1) 0 ≡ slice_index keys 0)
 first_run keys eps eps_rec levels order index some =
     let level = index.some some in (
@@ -46,7 +46,7 @@ first_run keys eps eps_rec levels order index some =
     )
 
 -- where all runs begin behind a question, no key is below it
-pub lb-before_runs : (keys : List ℕ) (eps eps_rec : ℕ) (levels : List (List Segment)) (q : ℕ) → IsNonDecreasing keys → IsIndex keys eps eps_rec levels →
+pub lb-before_runs : (keys : List ℕ) (eps eps_rec : ℕ) (levels : List (List Segment)) (q : ℕ) → IsNonDecreasing keys → IsLaidIndex keys eps eps_rec levels →
     ((k : ℕ) → k < length (xs_at keys levels 1) → q < slice_index (xs_at keys levels 1) k) → 0 ≡ lb keys q
 lb-before_runs keys eps eps_rec levels q order index behind =
     sym (lb-is keys q 0 (omega arith) (λ k less. absurd (omega arith)) (λ k low inside. omega (arith, first (omega arith), order 0 k 0 low inside)))

@@ -3,7 +3,7 @@
 -- Main results: `runs-halve`: since two points always have a line, each run but the last has two places or more; `run_at`: a
 -- segment's run begins at its start and ends at the next segment's; `predecessor_in_run`: where the run's first x is the last
 -- one at or before a question, the predecessor of the question stands in the run.
-use Rattle.std.proofs.Common.{◌≡◌, inl, inr, ℕ, zero, suc, ◌+◌, ◌*◌, ◌^◌, ◌<◌, ◌≤◌, List, [], ◌∷◌, length, slice_index, slice_index_or, refl, sym, ap, ◌∙◌, subst, arith}
+use Rattle.std.proofs.Common.{◌≡◌, inl, inr, ℕ, zero, suc, ◌+◌, ◌*◌, ◌<◌, ◌≤◌, List, [], ◌∷◌, length, slice_index, slice_index_or, refl, ap, ◌∙◌, subst, arith}
 use Rattle.std.proofs.lemmas.Bool.{cases_lt}
 use Rattle.std.proofs.lemmas.List.{length-map, get_or-map}
 use Rattle.std.specs.List.Sorted.{IsStrictlyIncreasing}
@@ -11,9 +11,8 @@ use Rattle.exact_cross.specs.declared.segment.Segment.{Segment}
 use Rattle.exact_cross.specs.Points.{Points, IsAscending}
 use Rattle.exact_cross.specs.Lines.{SomeLineFits}
 use Rattle.exact_cross.specs.Covers.{run_end, CutsInto, IsGreedy, IsLongest}
-use Rattle.exact_cross.specs.Segments.{starts_of, EachRun, IsSteepSegment, IsFitted}
-use Rattle.exact_cross.specs.Checked.{IsInRange}
-use Rattle.exact_cross.proofs.CallerLemmas.{IsInRange-from_steep, IsFitted-from_steep, CutsInto-rises, some_line-two_places, slice_index-rises}
+use Rattle.exact_cross.specs.Segments.{starts_of, EachRun}
+use Rattle.exact_cross.proofs.CallerLemmas.{CutsInto-rises, some_line-two_places, slice_index-rises}
 use Rattle.window_search.specs.Searches.{IsPredecessor}
 use Rattle.levels.specs.Indexes.{first_xs}
 use Rattle.levels.specs.Lookups.{HasRun}
@@ -58,15 +57,21 @@ starts_count segments = rw length-map refl
 pub first_xs-count : (xs : List ℕ) (segments : List Segment) → length (first_xs xs segments) ≡ length segments
 first_xs-count xs segments = rw length-map refl
 
--- fewer runs than points, where there are two points or more
-pub fewer_runs : (p : Points) (eps : ℕ) (segments : List Segment) → IsAscending p → IsGreedy p eps 0 p.count (starts_of segments) →
-    (2 * length segments ≤ p.count + 1) × (0 < p.count → 0 < length segments)
-fewer_runs p eps segments ascends greedy =
-    (omega (arith, runs-halve p eps p.count 0 (starts_of segments) ascends (omega arith) greedy, starts_count segments), some segments greedy)
+-- no more runs than places, and one where there is a place
+pub runs_within : (C : ℕ → ℕ → Type 0) (to : ℕ) (segments : List Segment) → CutsInto C 0 to (starts_of segments) → (length segments ≤ to) × (0 < to → 0 < length segments)
+runs_within C to segments cuts = (omega (arith, count 0 (starts_of segments) cuts, starts_count segments), some segments cuts)
   where
-    some : (segments : List Segment) → IsGreedy p eps 0 p.count (starts_of segments) → 0 < p.count → 0 < length segments
-    some [] greedy points = absurd (omega (arith, greedy))
-    some (segment ∷ later) greedy points = omega arith
+    count : (from : ℕ) (starts : List ℕ) → CutsInto C from to starts → length starts + from ≤ to
+    count from [] cuts = omega (arith, cuts)
+    count from (start ∷ later) cuts = omega (arith, cuts.1, count (run_end later to) later cuts.3)
+
+    some : (segments : List Segment) → CutsInto C 0 to (starts_of segments) → 0 < to → 0 < length segments
+    some [] cuts places = absurd (omega (arith, cuts))
+    some (segment ∷ later) cuts places = omega arith
+
+-- fewer greedy runs than points, where there are two points or more
+pub fewer_runs : (p : Points) (eps : ℕ) (segments : List Segment) → IsAscending p → IsGreedy p eps 0 p.count (starts_of segments) → 2 * length segments ≤ p.count + 1
+fewer_runs p eps segments ascends greedy = omega (arith, runs-halve p eps p.count 0 (starts_of segments) ascends (omega arith) greedy, starts_count segments)
 
 -- the end of the run of the segment at this place
 abbrev pub end_at : List Segment → ℕ → ℕ → ℕ
@@ -168,19 +173,3 @@ predecessor_in_run R xs segments run d segment e q place rises is at found prede
             absurd (omega (arith, at.last here, predecessor.inside))
       ]
     ]
-
--- each line fits its run, and is in range where the heights are
-pub fitted_runs : (p : Points) (eps from to : ℕ) (segments : List Segment) → IsAscending p → to ≤ p.count → ((j : ℕ) → j < p.count → p.y j < 2 ^ 32) → eps ≤ 1048576 →
-    IsGreedy p eps from to (starts_of segments) → EachRun (IsSteepSegment p eps) to segments →
-    EachRun (λ segment e. IsInRange segment.line) to segments × EachRun (IsFitted p eps) to segments
-fitted_runs p eps from to [] ascends inside small bounded greedy steep = (tt, tt)
-fitted_runs p eps from to (segment ∷ later) ascends inside small bounded greedy steep =
-    let e = run_end (starts_of later) to in
-    let within : e ≤ to = CutsInto-rises (IsLongest p eps to) (starts_of later) e to greedy.3 in
-    let starts : segment.start ≡ from = greedy.0 in
-    let some : segment.start < e = omega (arith, greedy.1) in
-    let fits : SomeLineFits p eps segment.start e = subst (λ (s : ℕ). SomeLineFits p eps s e) (sym starts) greedy.2.fits in
-    let rest = fitted_runs p eps e to later ascends inside small bounded greedy.3 steep.1 in (
-      (IsInRange-from_steep p eps e segment ascends small bounded some (omega arith) steep.0, rest.0),
-      (IsFitted-from_steep p eps e segment ascends some (omega arith) steep.0 fits, rest.1),
-    )

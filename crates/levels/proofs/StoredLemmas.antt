@@ -10,17 +10,18 @@ use Rattle.std.proofs.Math.Seq.{get_or-append_seam}
 use Rattle.std.specs.List.Sorted.{IsNonDecreasing, IsStrictlyIncreasing}
 use Rattle.exact_cross.specs.declared.segment.Segment.{Segment}
 use Rattle.exact_cross.specs.Points.{points_of, places}
-use Rattle.exact_cross.specs.Covers.{IsLongest}
+use Rattle.exact_cross.specs.Lines.{SomeLineFits}
 use Rattle.exact_cross.specs.Segments.{IsSteepSegment}
 use Rattle.segmenter.specs.Segmentation.{IsSegmentation}
+use Rattle.piece_join.specs.Laid.{IsLaid}
 use Rattle.levels.specs.declared.level.Level.{Level}
 use Rattle.levels.specs.declared.model.RunModel.{RunModel}
 use Rattle.levels.specs.Models.{AreModels}
 use Rattle.key_points.specs.KeyPoints.{xs_of, ys_of}
-use Rattle.levels.specs.Indexes.{first_xs, level_at, xs_at, ys_at, points_at, eps_at, IsLevel, places_below}
+use Rattle.levels.specs.Indexes.{first_xs, level_at, xs_at, ys_at, points_at, eps_at, IsLevel, IsLaidLevel, places_below}
 use Rattle.levels.specs.Stored.{segments_of, AreLevels, AreStored}
-use Rattle.levels.proofs.SegmentLemmas.{fewer_runs, run_at}
-use Rattle.levels.proofs.LevelLemmas.{xs_at-base, ys_at-base, xs_at-above, ys_at-above, AscendsAt, ascends_at, some_at, xs_at-same, ys_at-same, xs_at-length, IsLevel-in, AreModels-in}
+use Rattle.levels.proofs.SegmentLemmas.{runs_within, fewer_runs, run_at}
+use Rattle.levels.proofs.LevelLemmas.{xs_at-base, ys_at-base, xs_at-above, ys_at-above, AscendsAt, ascends_at, some_at, xs_at-same, ys_at-same, xs_at-length, IsLevel-in, IsLaidLevel-in, AreModels-in}
 
 pub segments_of-count : (levels : List Level) → length (segments_of levels) ≡ length levels
 segments_of-count levels = length-map levels (λ (level : Level). level.segments.items)
@@ -52,14 +53,31 @@ IsLevel-push keys eps eps_rec levels more n count below here i inside = elim (ca
       (IsLevel-in keys eps eps_rec levels (levels ++ more ∷ []) n more (λ k less. level_at-below levels more k (omega arith)) (level_at-last levels more n count) here)
 ]
 
+IsLaidLevel-push : (keys : List ℕ) (eps eps_rec : ℕ) (levels : List (List Segment)) (more : List Segment) (n : ℕ) → n ≡ length levels →
+    ((i : ℕ) → i < n → IsLaidLevel keys eps eps_rec levels i) →
+    IsLaid (points_at keys levels n) (eps_at eps eps_rec n) 0 (length (xs_at keys levels n)) more →
+    (0 < n → IsSegmentation (points_at keys levels n) (eps_at eps eps_rec n) 0 (length (xs_at keys levels n)) more) →
+    (i : ℕ) → i < n + 1 → IsLaidLevel keys eps eps_rec (levels ++ more ∷ []) i
+IsLaidLevel-push keys eps eps_rec levels more n count below here above i inside = elim (cases_lt i n) [
+  | inl before ↦
+      IsLaidLevel-in keys eps eps_rec levels (levels ++ more ∷ []) i (level_at levels i) (λ k less. level_at-below levels more k (omega arith)) (level_at-below levels more i (omega arith))
+      (below i before).laid (below i before).above
+  | inr from ↦
+      let last : n ≡ i = omega arith in
+      subst (λ (k : ℕ). IsLaidLevel keys eps eps_rec (levels ++ more ∷ []) k) last
+      (IsLaidLevel-in keys eps eps_rec levels (levels ++ more ∷ []) n more (λ k less. level_at-below levels more k (omega arith)) (level_at-last levels more n count) here above)
+]
+
 pub AreLevels-push : (keys : List ℕ) (eps eps_rec : ℕ) (levels : List Level) (level : Level) → AreLevels keys eps eps_rec levels →
     ((i : ℕ) → i + 1 ≡ length levels → length (level_at (segments_of levels) i) ≢ 1) →
-    IsSegmentation (points_at keys (segments_of levels) (length levels)) (eps_at eps eps_rec (length levels)) 0 (length (xs_at keys (segments_of levels) (length levels))) level.segments.items →
+    IsLaid (points_at keys (segments_of levels) (length levels)) (eps_at eps eps_rec (length levels)) 0 (length (xs_at keys (segments_of levels) (length levels))) level.segments.items →
+    (0 < length levels → IsSegmentation (points_at keys (segments_of levels) (length levels)) (eps_at eps eps_rec (length levels)) 0
+    (length (xs_at keys (segments_of levels) (length levels))) level.segments.items) →
     AreModels (points_at keys (segments_of levels) (length levels)) (eps_at eps eps_rec (length levels)) (length (xs_at keys (segments_of levels) (length levels))) level.segments.items level.models.items →
     (0 < length levels → level.xs.items ≡ xs_at keys (segments_of levels) (length levels)) →
     (0 < length levels → level.ys.items ≡ ys_at keys (segments_of levels) (length levels)) →
     AreLevels keys eps eps_rec (levels ++ level ∷ [])
-AreLevels-push keys eps eps_rec levels level so_far unfinished here own_models xs ys = record {
+AreLevels-push keys eps eps_rec levels level so_far unfinished here above own_models xs ys = record {
   never_falls = so_far.never_falls;
   few = so_far.few;
   bounded = so_far.bounded;
@@ -82,8 +100,8 @@ AreLevels-push keys eps eps_rec levels level so_far unfinished here own_models x
     same : (i : ℕ) → i ≤ length levels → (k : ℕ) → k < i → level_at (segments_of levels) k ≡ level_at (segments_of levels ++ level.segments.items ∷ []) k
     same i within k less = level_at-below (segments_of levels) level.segments.items k (omega (arith, segments_of-count levels))
 
-    each : (i : ℕ) → i < length levels + 1 → IsLevel keys eps eps_rec (segments_of levels ++ level.segments.items ∷ []) i
-    each = IsLevel-push keys eps eps_rec (segments_of levels) level.segments.items (length levels) (sym (segments_of-count levels)) so_far.each here
+    each : (i : ℕ) → i < length levels + 1 → IsLaidLevel keys eps eps_rec (segments_of levels ++ level.segments.items ∷ []) i
+    each = IsLaidLevel-push keys eps eps_rec (segments_of levels) level.segments.items (length levels) (sym (segments_of-count levels)) so_far.each here above
 
     others : (i : ℕ) → i + 1 < length levels + 1 → length (level_at (segments_of levels ++ level.segments.items ∷ []) i) ≢ 1
     others i inside =
@@ -119,10 +137,10 @@ AreLevels-push keys eps eps_rec levels level so_far unfinished here own_models x
     kept : (i : ℕ) (d : Level) → 0 < i → i < length levels + 1 →
         ((slice_index_or (levels ++ level ∷ []) i d).xs.items ≡ xs_at keys (segments_of levels ++ level.segments.items ∷ []) i)
         × ((slice_index_or (levels ++ level ∷ []) i d).ys.items ≡ ys_at keys (segments_of levels ++ level.segments.items ∷ []) i)
-    kept i d above inside = elim (cases_lt i (length levels)) [
+    kept i d upper inside = elim (cases_lt i (length levels)) [
       | inl before ↦
           let is = get_or_append_left levels (level ∷ []) d i before in
-          let own = so_far.kept i d above before in (
+          let own = so_far.kept i d upper before in (
             ap (λ (l : Level). l.xs.items) is ∙ own.0 ∙ xs_at-same keys (segments_of levels) (segments_of levels ++ level.segments.items ∷ []) i (same i (omega arith)),
             ap (λ (l : Level). l.ys.items) is ∙ own.1 ∙ ys_at-same keys (segments_of levels) (segments_of levels ++ level.segments.items ∷ []) i (same i (omega arith)),
           )
@@ -139,6 +157,10 @@ AreLevels-push keys eps eps_rec levels level so_far unfinished here own_models x
 pub level_at-pushed : (levels : List Level) (level : Level) (i : ℕ) → i ≡ length levels → level_at (segments_of (levels ++ level ∷ [])) i ≡ level.segments.items
 level_at-pushed levels level i last =
     rw (segments_of-push levels level) (sym (level_at-last (segments_of levels) level.segments.items i (omega (arith, segments_of-count levels))))
+
+pub level_at-before : (levels : List Level) (level : Level) (i : ℕ) → i < length levels → level_at (segments_of (levels ++ level ∷ [])) i ≡ level_at (segments_of levels) i
+level_at-before levels level i before =
+    rw (segments_of-push levels level) (sym (level_at-below (segments_of levels) level.segments.items i (omega (arith, segments_of-count levels))))
 
 -- all levels
 pub AreStored-in : (keys : List ℕ) (eps eps_rec : ℕ) (levels : List Level) → AreLevels keys eps eps_rec levels → 0 < length keys → 0 < length levels →
@@ -174,7 +196,7 @@ fewer_above keys eps eps_rec levels runs segments all some above last more level
     let points = some_at keys eps eps_rec old all.never_falls some n (λ k less. all.each k less) in
     let at : n - 1 + 1 ≡ n = omega arith in
     let list : length (xs_at keys old n) ≡ runs = ap (λ (k : ℕ). length (xs_at keys old k)) (sym at) ∙ xs_at-length keys old (n - 1) ∙ last (n - 1) at in
-    omega (arith, list, fewer.0, points, more)
+    omega (arith, list, fewer, points, more)
 
 -- ---- how many places there are
 
@@ -214,13 +236,10 @@ eps_at-bounded eps eps_rec i low high = grind (arith, nat_tests)
 pub eps_at-above : (eps eps_rec i : ℕ) → 0 < i → eps_rec ≡ eps_at eps eps_rec i
 eps_at-above eps eps_rec i above = grind (arith, nat_tests)
 
-base_level : (keys : List ℕ) (eps eps_rec : ℕ) (levels : List Level) (xs ys : List ℕ) (segments : List Segment) → length levels ≡ 0 → xs ≡ xs_of keys → ys ≡ ys_of keys →
-    IsSegmentation (points_of xs ys) eps 0 (length xs) segments →
-    IsSegmentation (points_at keys (segments_of levels) (length levels)) (eps_at eps eps_rec (length levels)) 0 (length (xs_at keys (segments_of levels) (length levels))) segments
-base_level keys eps eps_rec levels xs ys segments none x_is y_is level =
-    rw (none, xs_at-base keys (segments_of levels), ys_at-base keys (segments_of levels))
-    (subst (λ (ys : List ℕ). IsSegmentation (points_of (xs_of keys) ys) eps 0 (length (xs_of keys)) segments) y_is
-    (subst (λ (xs : List ℕ). IsSegmentation (points_of xs ys) eps 0 (length xs) segments) x_is level))
+base_level : (keys : List ℕ) (eps eps_rec : ℕ) (levels : List Level) (segments : List Segment) → length levels ≡ 0 →
+    IsLaid (points_of (xs_of keys) (ys_of keys)) eps 0 (length (xs_of keys)) segments →
+    IsLaid (points_at keys (segments_of levels) (length levels)) (eps_at eps eps_rec (length levels)) 0 (length (xs_at keys (segments_of levels) (length levels))) segments
+base_level keys eps eps_rec levels segments none laid = rw (none, xs_at-base keys (segments_of levels), ys_at-base keys (segments_of levels)) laid
 
 pub above_xs : (keys : List ℕ) (levels : List Level) (below : ℕ) (level : Level) (list xs : List ℕ) (segments : List Segment) → below + 1 ≡ length levels →
     level ≡ slice_index_or levels below level → segments ≡ level.segments.items → list ≡ xs_at keys (segments_of levels) below → xs ≡ first_xs list segments →
@@ -268,10 +287,10 @@ eps_at-base eps eps_rec i base = grind (arith, nat_tests)
 
 -- level 0 by itself
 pub AreLevels-base : (keys : List ℕ) (eps eps_rec : ℕ) (level : Level) → IsNonDecreasing keys → length keys < 2 ^ 32 → eps ≤ 1048576 → eps_rec ≤ 1048576 →
-    IsSegmentation (points_of (xs_of keys) (ys_of keys)) eps 0 (length (xs_of keys)) level.segments.items →
+    IsLaid (points_of (xs_of keys) (ys_of keys)) eps 0 (length (xs_of keys)) level.segments.items →
     AreModels (points_of (xs_of keys) (ys_of keys)) eps (length (xs_of keys)) level.segments.items level.models.items → AreLevels keys eps eps_rec (level ∷ [])
 AreLevels-base keys eps eps_rec level order few bounded bounded_rec segments models =
-    AreLevels-push keys eps eps_rec [] level none (λ i last. absurd (omega arith)) (base_level keys eps eps_rec [] (xs_of keys) (ys_of keys) level.segments.items refl refl refl segments)
+    AreLevels-push keys eps eps_rec [] level none (λ i last. absurd (omega arith)) (base_level keys eps eps_rec [] level.segments.items refl segments) (λ some. absurd (omega arith))
     (level_models keys eps eps_rec [] (xs_of keys) (ys_of keys) eps level.segments.items level.models.items (base_xs keys [] (xs_of keys) refl refl) (base_ys keys [] (ys_of keys) refl refl)
     (eps_at-base eps eps_rec 0 refl) models) (λ some. absurd (omega arith)) (λ some. absurd (omega arith))
   where
@@ -297,7 +316,7 @@ starts_inside keys eps eps_rec levels below level list segments all inside at se
     let here = all.each below inside in
     let p = points_at keys (segments_of levels) below in
     let e = eps_at eps eps_rec below in
-    let run = run_at (IsSteepSegment p e) (IsLongest p e p.count) 0 p.count (level_at (segments_of levels) below) k d (omega (arith, ap length own)) here.greedy here.steep in
+    let run = run_at (IsSteepSegment p e) (SomeLineFits p e) 0 p.count (level_at (segments_of levels) below) k d (omega (arith, ap length own)) here.laid.cover here.laid.steep in
     omega (arith, run.some, run.within, ap (λ (s : List Segment). (slice_index_or s k d).start) own, ap length list_is)
 
 -- the same by the lists themselves
@@ -314,32 +333,49 @@ ascends_list keys eps eps_rec levels xs ys all xs_are ys_are =
 
 -- ---- what is known of each level
 
--- each list is shorter than the one below, so that there are no more levels than keys
-list_and_place : (keys : List ℕ) (eps eps_rec : ℕ) (levels : List Level) → AreLevels keys eps eps_rec levels → 0 < length keys → (i : ℕ) → i < length levels →
-    length (xs_at keys (segments_of levels) i) + i ≤ length keys
-list_and_place keys eps eps_rec levels all some zero inside = omega (arith, (ascends_next keys eps eps_rec levels all 0 (omega arith)).few)
-list_and_place keys eps eps_rec levels all some (suc i) inside =
-    let here = ascends_next keys eps eps_rec levels all i (omega arith) in
+-- a level below the last one has two runs or more
+several_runs : (keys : List ℕ) (eps eps_rec : ℕ) (levels : List Level) → AreLevels keys eps eps_rec levels → 0 < length keys → (i : ℕ) → i + 1 < length levels →
+    2 ≤ length (level_at (segments_of levels) i)
+several_runs keys eps eps_rec levels all some i inside =
     let segments = segments_of levels in
-    let runs = fewer_runs (points_at keys segments i) (eps_at eps eps_rec i) (level_at segments i) here.ascends (all.each i (omega arith)).greedy in
-    let points = some_at keys eps eps_rec segments all.never_falls some i (λ k less. all.each k (omega arith)) in
+    let points = some_at keys eps eps_rec segments all.never_falls some (i + 1) (λ k less. all.each k (omega arith)) in
+    omega (arith, points, xs_at-length keys segments i, all.others i inside)
+
+-- above level 0 each list is shorter than the one below, so that there are no more levels than keys
+list_and_place : (keys : List ℕ) (eps eps_rec : ℕ) (levels : List Level) → AreLevels keys eps eps_rec levels → 0 < length keys → (i : ℕ) → i + 1 < length levels →
+    length (level_at (segments_of levels) i) + i ≤ length keys
+list_and_place keys eps eps_rec levels all some zero inside =
+    let segments = segments_of levels in
+    let here = ascends_next keys eps eps_rec levels all 0 (omega arith) in
+    let p = points_at keys segments 0 in
+    let runs = runs_within (SomeLineFits p (eps_at eps eps_rec 0)) p.count (level_at segments 0) (all.each 0 (omega arith)).laid.cover in
+    omega (arith, here.few, runs.0)
+list_and_place keys eps eps_rec levels all some (suc i) inside =
+    let segments = segments_of levels in
+    let here = ascends_next keys eps eps_rec levels all (suc i) (omega arith) in
+    let level = (all.each (suc i) (omega arith)).above (omega arith) in
+    let runs = fewer_runs (points_at keys segments (suc i)) (eps_at eps eps_rec (suc i)) (level_at segments (suc i)) here.ascends level.greedy in
     omega (
       arith,
       list_and_place keys eps eps_rec levels all some i (omega arith),
-      runs.0,
-      runs.1 points,
-      all.others i (omega arith),
+      runs,
+      several_runs keys eps eps_rec levels all some (suc i) inside,
       xs_at-length keys segments i,
       ap (λ (k : ℕ). length (xs_at keys segments k)) (add-one i),
     )
 
 pub levels_few : (keys : List ℕ) (eps eps_rec : ℕ) (levels : List Level) → AreStored keys eps eps_rec levels → length levels ≤ length keys
-levels_few keys eps eps_rec levels stored = elim (cases_lt 0 (length levels)) [
-  | inr none ↦ omega arith
-  | inl level ↦
-      let count = segments_of-count levels in
-      let some : 0 < length keys = elim (cases_eq (length keys) 0) [ inl none ↦ absurd (omega (arith, stored.index.none none)) | inr key ↦ omega arith ] in
-      let last = length levels - 1 in
-      let points = some_at keys eps eps_rec (segments_of levels) stored.first.never_falls some last (λ k less. stored.first.each k (omega arith)) in
-      omega (arith, list_and_place keys eps eps_rec levels stored.first some last (omega arith))
+levels_few keys eps eps_rec levels stored = elim (cases_eq (length keys) 0) [
+  | inl none ↦ omega (arith, segments_of-count levels, stored.index.none none)
+  | inr key ↦ elim (cases_lt 1 (length levels)) [
+    | inr single ↦ omega arith
+    | inl several ↦
+        let below = length levels - 2 in
+        let some : 0 < length keys = omega arith in
+        omega (
+          arith,
+          list_and_place keys eps eps_rec levels stored.first some below (omega arith),
+          several_runs keys eps eps_rec levels stored.first some below (omega arith),
+        )
+  ]
 ]

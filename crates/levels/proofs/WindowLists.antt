@@ -7,11 +7,11 @@ use Rattle.std.proofs.Math.Seq.{get_or-append_seam}
 use Rattle.std.specs.List.Sorted.{IsNonDecreasing}
 use Rattle.exact_cross.specs.declared.line.Line.{Line}
 use Rattle.exact_cross.specs.declared.segment.Segment.{Segment}
-use Rattle.exact_cross.specs.Covers.{IsLongest}
+use Rattle.exact_cross.specs.Lines.{SomeLineFits}
 use Rattle.exact_cross.specs.Segments.{IsSteepSegment}
 use Rattle.exact_cross.proofs.CallerLemmas.{line_of_pair-positive}
 use Rattle.window_search.proofs.CallerLemmas.{IsPredecessor-unique, IsWindow-unique}
-use Rattle.levels.specs.Indexes.{IsIndex, level_at, xs_at, ys_at, points_at, eps_at}
+use Rattle.levels.specs.Indexes.{IsLaidIndex, level_at, xs_at, ys_at, points_at, eps_at}
 use Rattle.levels.proofs.RunsApart.{HasRun-each, HasRun-within, HasRun-unique}
 use Rattle.levels.proofs.LookupLemmas.{ascends}
 use Rattle.levels.specs.Lookups.{extent_at, IsWindowAt, AreWindows, HoldsAnswers, IsNarrow, HasWindowsTo}
@@ -60,7 +60,7 @@ module _ (keys : List ℕ) (eps eps_rec : ℕ) (levels : List (List Segment)) (q
 
 -- ---- there is one list of windows
 
-module _ (keys : List ℕ) (eps eps_rec : ℕ) (levels : List (List Segment)) (order : IsNonDecreasing keys) (index : IsIndex keys eps eps_rec levels) where
+module _ (keys : List ℕ) (eps eps_rec : ℕ) (levels : List (List Segment)) (order : IsNonDecreasing keys) (index : IsLaidIndex keys eps eps_rec levels) where
   IsWindowAt-unique : (i q low high low' high' : ℕ) → i < length levels → IsWindowAt keys eps eps_rec levels i q low high → IsWindowAt keys eps eps_rec levels i q low' high' →
       (low ≡ low') × (high ≡ high')
   IsWindowAt-unique i q low high low' high' inside first second =
@@ -68,13 +68,13 @@ module _ (keys : List ℕ) (eps eps_rec : ℕ) (levels : List (List Segment)) (o
       let p = points_at keys levels i in
       let bound = eps_at eps eps_rec i in
       let to = length (xs_at keys levels i) in
-      let level = index.each i inside in
+      let level = (index.each i inside).laid in
       let place : first.place ≡ second.place = IsPredecessor-unique (xs_at keys levels i) q first.place second.place first.last second.last in
       let from : second.segment.start ≤ first.place = omega (arith, place, second.from_start) in
       let end : first.place < second.e = omega (arith, place, second.to_end) in
-      let same = HasRun-unique (IsLongest p bound to) (level_at levels i) 0 to first.place first.segment second.segment first.e second.e level.greedy first.run first.from_start first.to_end
+      let same = HasRun-unique (SomeLineFits p bound) (level_at levels i) 0 to first.place first.segment second.segment first.e second.e level.cover first.run first.from_start first.to_end
       second.run from end in
-      let within = HasRun-within (IsLongest p bound to) (level_at levels i) 0 to first.segment first.e level.greedy first.run in
+      let within = HasRun-within (SomeLineFits p bound) (level_at levels i) 0 to first.segment first.e level.cover first.run in
       let steep = HasRun-each (IsSteepSegment p bound) (level_at levels i) to first.segment first.e level.steep first.run in
       let some : first.segment.start < first.e = omega (arith, first.from_start, first.to_end) in
       let rising = line_of_pair-positive p bound first.segment.start first.e first.segment.a first.segment.b here.ascends some within.1 steep.pair in

@@ -11,13 +11,13 @@ use Rattle.std.specs.List.Sorted.{IsNonDecreasing}
 use borrow.Author.Differences.{up, down}
 use Rattle.exact_cross.specs.declared.line.Line.{Line}
 use Rattle.exact_cross.specs.declared.segment.Segment.{Segment}
-use Rattle.exact_cross.specs.Covers.{IsLongest}
+use Rattle.exact_cross.specs.Lines.{SomeLineFits}
 use Rattle.exact_cross.specs.Floors.{IsFloorAt}
 use Rattle.exact_cross.specs.Segments.{IsSteepSegment}
 use Rattle.exact_cross.proofs.CallerLemmas.{IsFloorAt-in, line_of_pair-positive}
 use Rattle.window_search.specs.Searches.{IsPredecessor}
 use Rattle.window_search.specs.Windows.{IsPredicted, IsWindow}
-use Rattle.levels.specs.Indexes.{IsIndex, first_xs, level_at, xs_at, ys_at, points_at, eps_at}
+use Rattle.levels.specs.Indexes.{IsLaidIndex, first_xs, level_at, xs_at, ys_at, points_at, eps_at}
 use Rattle.levels.specs.Lookups.{extent_at, IsWindowAt, IsBelowAll, AreWindows}
 use Rattle.levels.proofs.LevelLemmas.{xs_at-above, xs_at-length}
 use Rattle.levels.proofs.SegmentLemmas.{run_at, end_at, HasRun-at, predecessor_in_run}
@@ -67,7 +67,7 @@ IsWindow-some line low high eps q len positive =
     let at = IsPredicted-some line low high q positive in
     (at.0 - (eps + 1), min (at.0 + (eps + 1)) len, record { p = at.0; predicted = at.1; starts = refl; ends = refl })
 
-module _ (keys : List ℕ) (eps eps_rec : ℕ) (levels : List (List Segment)) (order : IsNonDecreasing keys) (index : IsIndex keys eps eps_rec levels) (q : ℕ) where
+module _ (keys : List ℕ) (eps eps_rec : ℕ) (levels : List (List Segment)) (order : IsNonDecreasing keys) (index : IsLaidIndex keys eps eps_rec levels) (q : ℕ) where
   -- where a run has the last first x at or before the question, its level has a window
   IsWindowAt-some : (i run : ℕ) → i < length levels → IsPredecessor (xs_at keys levels (i + 1)) q run →
       (low : ℕ) × (high : ℕ) × IsWindowAt keys eps eps_rec levels i q low high
@@ -76,12 +76,12 @@ module _ (keys : List ℕ) (eps eps_rec : ℕ) (levels : List (List Segment)) (o
       let xs = xs_at keys levels i in
       let p = points_at keys levels i in
       let bound = eps_at eps eps_rec i in
-      let level = index.each i inside in
+      let level = (index.each i inside).laid in
       let segments = level_at levels i in
       let run_inside : run < length segments = omega (arith, xs_at-length keys levels i, found.inside) in
       let segment = slice_index_or segments run no_segment in
       let e = end_at segments run (length xs) in
-      let at = run_at (IsSteepSegment p bound) (IsLongest p bound (length xs)) 0 (length xs) segments run no_segment run_inside level.greedy level.steep in
+      let at = run_at (IsSteepSegment p bound) (SomeLineFits p bound) 0 (length xs) segments run no_segment run_inside level.cover level.steep in
       let predecessor = has_predecessor keys eps eps_rec levels order index no_segment i run q inside found in
       let above : IsPredecessor (first_xs xs segments) q run = subst (λ (l : List ℕ). IsPredecessor l q run) (xs_at-above keys levels i) found in
       let has = predecessor_in_run (IsSteepSegment p bound) xs segments run no_segment segment e q predecessor.0 here.rises refl at above predecessor.1 in

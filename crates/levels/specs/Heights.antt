@@ -14,3 +14,7 @@ HasLongRuns least segments =
 -- two levels or more stand on more than 2 * (2ε' + 2) ^ (levels - 2) points
 abbrev pub IsLow : ℕ → ℕ → ℕ → Type 0
 IsLow eps_rec levels points = 2 ≤ levels → 2 * (2 * eps_rec + 2) ^ (levels - 2) < points
+
+-- two levels or more have more than (2ε' + 2) ^ (levels - 2) runs at level 0
+abbrev pub IsLowOverRuns : ℕ → ℕ → ℕ → Type 0
+IsLowOverRuns eps_rec levels runs = 2 ≤ levels → (2 * eps_rec + 2) ^ (levels - 2) < runs

@@ -1,9 +1,12 @@
--- The one index of a key list: levels of segments, each over the first x of the runs below it.
+-- The one index of a key list: levels of segments, each over the first x of the runs below it. And a relaxed one, whose level 0
+-- is made in pieces that aren't joined.
 -- Source: P. Ferragina and G. Vinciguerra, The PGM-index, PVLDB 13(8), 2020, section 2.
 use Rattle.std.specs.Prelude.{◌≡◌, ◌≢◌, ◌==◌, if◌then◌else◌, ℕ, zero, suc, ◌+◌, ◌<◌, List, [], length, map, slice_index, slice_index_or}
 use Rattle.exact_cross.specs.declared.segment.Segment.{Segment}
 use Rattle.exact_cross.specs.Points.{Points, points_of, places}
 use Rattle.segmenter.specs.Segmentation.{IsSegmentation}
+use Rattle.piece_join.specs.Laid.{IsLaid}
+use Rattle.piece_join.specs.Relaxed.{IsRelaxed}
 use Rattle.key_points.specs.KeyPoints.{xs_of, ys_of}
 
 -- an index: the keys of a file, the error bound of level 0, that of the levels above, and the segments of each level, the lowest first
@@ -44,13 +47,35 @@ abbrev pub IsLevel : (keys : List ℕ) (eps eps_rec : ℕ) (levels : List (List 
 IsLevel keys eps eps_rec levels i =
     IsSegmentation (points_at keys levels i) (eps_at eps eps_rec i) 0 (length (xs_at keys levels i)) (level_at levels i)
 
--- each level is the segmentation of its points, and the last level is the first of one run; no key, no level
-pub record IsIndex (keys : List ℕ) (eps eps_rec : ℕ) (levels : List (List Segment)) : Type 0 where
+-- levels each of which is so, by its number, and the last one is the first of one run; no key, no level
+pub record AreLevelled (IsSo : ℕ → Type 0) (keys : List ℕ) (levels : List (List Segment)) : Type 0 where
   pub none : length keys ≡ 0 → length levels ≡ 0
   pub some : 0 < length keys → 0 < length levels
-  pub each : (i : ℕ) → i < length levels → IsLevel keys eps eps_rec levels i
+  pub each : (i : ℕ) → i < length levels → IsSo i
   pub last : (i : ℕ) → i + 1 ≡ length levels → length (level_at levels i) ≡ 1
   pub others : (i : ℕ) → i + 1 < length levels → length (level_at levels i) ≢ 1
+
+-- the index: each level is the segmentation of its points
+abbrev pub IsIndex : (keys : List ℕ) (eps eps_rec : ℕ) (levels : List (List Segment)) → Type 0
+IsIndex keys eps eps_rec levels = AreLevelled (λ i. IsLevel keys eps eps_rec levels i) keys levels
+
+-- level 0 is the segmentation of each piece between the cuts by itself, and a level above is that of its points
+pub record IsRelaxedLevel (keys : List ℕ) (eps eps_rec : ℕ) (cuts : List ℕ) (levels : List (List Segment)) (i : ℕ) : Type 0 where
+  pub base : i ≡ 0 → IsRelaxed (points_of (xs_of keys) (ys_of keys)) eps 0 (length (xs_of keys)) cuts (level_at levels 0)
+  pub above : 0 < i → IsLevel keys eps eps_rec levels i
+
+-- the relaxed index of cuts
+abbrev pub IsRelaxedIndex : (keys : List ℕ) (eps eps_rec : ℕ) (cuts : List ℕ) (levels : List (List Segment)) → Type 0
+IsRelaxedIndex keys eps eps_rec cuts levels = AreLevelled (λ i. IsRelaxedLevel keys eps eps_rec cuts levels i) keys levels
+
+-- the segments of level i cover its points, each with the line of its run's steep pair, and above level 0 they are the segmentation
+pub record IsLaidLevel (keys : List ℕ) (eps eps_rec : ℕ) (levels : List (List Segment)) (i : ℕ) : Type 0 where
+  pub laid : IsLaid (points_at keys levels i) (eps_at eps eps_rec i) 0 (length (xs_at keys levels i)) (level_at levels i)
+  pub above : 0 < i → IsLevel keys eps eps_rec levels i
+
+-- what a lookup needs of levels: an index has it, and a relaxed one too
+abbrev pub IsLaidIndex : (keys : List ℕ) (eps eps_rec : ℕ) (levels : List (List Segment)) → Type 0
+IsLaidIndex keys eps eps_rec levels = AreLevelled (λ i. IsLaidLevel keys eps eps_rec levels i) keys levels
 
 -- how many places the lists of the first n levels have together
 unfoldable pub places_below : List ℕ → List (List Segment) → ℕ → ℕ

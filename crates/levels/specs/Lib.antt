@@ -12,6 +12,8 @@ pub use Rattle.exact_cross.specs.Segments
 pub use Rattle.exact_cross.specs.Checked
 pub use Rattle.key_points.specs.KeyPoints
 pub use Rattle.piece_join.specs.Cuttings
+pub use Rattle.piece_join.specs.Laid
+pub use Rattle.piece_join.specs.Relaxed
 pub use Rattle.radix_table.specs.Tables
 pub use Rattle.segmenter.specs.Segmentation
 pub use Rattle.window_search.specs.Searches

@@ -3,7 +3,7 @@ use Rattle.std.specs.Prelude.{◌≡◌, ◌≢◌, ℕ, ◌+◌, ◌<◌, ◌�
 use Rattle.std.specs.List.Sorted.{IsNonDecreasing}
 use Rattle.exact_cross.specs.declared.segment.Segment.{Segment}
 use Rattle.levels.specs.declared.level.Level.{Level}
-use Rattle.levels.specs.Indexes.{IsIndex, IsLevel, level_at, xs_at, ys_at, points_at, eps_at}
+use Rattle.levels.specs.Indexes.{IsLaidIndex, IsLaidLevel, level_at, xs_at, ys_at, points_at, eps_at}
 use Rattle.levels.specs.Models.{AreModels}
 
 -- the segments of each level
@@ -15,13 +15,13 @@ abbrev pub IsKept : List ℕ → List Level → ℕ → Level → Type 0
 IsKept keys levels i level =
     (level.xs.items ≡ xs_at keys (segments_of levels) i) × (level.ys.items ≡ ys_at keys (segments_of levels) i)
 
--- the first levels of the index of sorted keys: each is the segmentation of its points, and those below the last have more runs than one; each run has its model
+-- the first levels over sorted keys: each covers its points, those above level 0 by their segmentation, and those below the last have more runs than one; each run has its model
 pub record AreLevels (keys : List ℕ) (eps eps_rec : ℕ) (levels : List Level) : Type 0 where
   pub never_falls : IsNonDecreasing keys
   pub few : length keys < 2 ^ 32
   pub bounded : eps ≤ 1048576
   pub bounded_rec : eps_rec ≤ 1048576
-  pub each : (i : ℕ) → i < length levels → IsLevel keys eps eps_rec (segments_of levels) i
+  pub each : (i : ℕ) → i < length levels → IsLaidLevel keys eps eps_rec (segments_of levels) i
   pub others : (i : ℕ) → i + 1 < length levels → length (level_at (segments_of levels) i) ≢ 1
   pub models : (i : ℕ) (d : Level) → i < length levels →
       AreModels (points_at keys (segments_of levels) i) (eps_at eps eps_rec i) (length (xs_at keys (segments_of levels) i)) (level_at (segments_of levels) i) (slice_index_or levels i d).models.items
@@ -30,4 +30,4 @@ pub record AreLevels (keys : List ℕ) (eps eps_rec : ℕ) (levels : List Level)
 -- all levels
 pub record AreStored (keys : List ℕ) (eps eps_rec : ℕ) (levels : List Level) : Type 0 where
   pub first : AreLevels keys eps eps_rec levels
-  pub index : IsIndex keys eps eps_rec (segments_of levels)
+  pub index : IsLaidIndex keys eps eps_rec (segments_of levels)

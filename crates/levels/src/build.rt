@@ -7,9 +7,13 @@ ghost use Rattle.exact_cross.specs.Points.{points_of, places};
 ghost use Rattle.key_points.specs.KeyPoints.{xs_of, ys_of};
 ghost use Rattle.exact_cross.specs.declared.segment.Segment.{Segment};
 ghost use Rattle.segmenter.specs.Segmentation.{IsSegmentation};
+ghost use Rattle.exact_cross.specs.Checked.{IsCoverWithin, uncut};
+ghost use Rattle.exact_cross.specs.Segments.{starts_of};
 ghost use Rattle.piece_join.specs.Cuttings.{AreCuts};
-ghost use Rattle.levels.specs.Indexes.{first_xs, IsIndex, xs_at, ys_at, points_at, eps_at};
-ghost use Rattle.levels.specs.Indexes.{places_below};
+ghost use Rattle.piece_join.specs.Laid.{IsLaid};
+ghost use Rattle.piece_join.specs.Relaxed.{IsRelaxed};
+ghost use Rattle.levels.specs.Indexes.{first_xs, IsIndex, IsRelaxedIndex, IsLaidIndex, level_at};
+ghost use Rattle.levels.specs.Indexes.{xs_at, ys_at, points_at, eps_at, places_below};
 ghost use Rattle.levels.specs.Models.{AreModels, IsEndOf, IsModelOf};
 ghost use Rattle.levels.specs.Stored.{AreLevels, AreStored, segments_of};
 
@@ -21,7 +25,7 @@ use budget::{NoMemory, Steps};
 use edge::Gate;
 use exact_cross::{MAX_EPSILON, Segment};
 use key_points::Keys;
-use piece_join::segment_in_pieces;
+use piece_join::{relaxed, segment_in_pieces};
 use segmenter::segment_counted;
 use std::alloc::Global;
 use std::marker::Brand;
@@ -100,7 +104,77 @@ impl Index {
         ensures index { IfOk result (λ index. IsIndex keys eps eps_rec index.levels) }
     {
         let segments = level_0_in_pieces(rt, alloc, &keys, eps, cuts, workers, gate)?;
-        let stored = levels_from::<Brand>(alloc, &keys, segments, eps, eps_rec, Blank::new(1))?;
+        Index::over::<Brand>(alloc, keys, segments, eps, eps_rec, Blank::new(1))
+    }
+
+    /// A relaxed index of keys: level 0 is built piece by piece by several workers as by
+    /// [`Index::build`], but the pieces are put side by side as they are. The levels above stand on
+    /// the first x of these runs as ever.
+    ///
+    /// No piece waits for another, and level 0 has at most one run more for each cut than a least
+    /// cover. The last run of each piece has no cut, so the slack that a checker finds is the
+    /// number of cuts. Lookups find what they find in [`Index::build`]'s index. The index is the
+    /// same for all numbers of workers and gates. Conditions, gate and workers are as there.
+    ///
+    /// # Errors
+    ///
+    /// `NoMemory` alone. Then the keys are given up.
+    pub fn build_relaxed<R: Threads + Sync, G: Gate>(
+        rt: &R,
+        alloc: Global,
+        keys: Keys,
+        eps: u32,
+        eps_rec: u32,
+        cuts: &[u32],
+        workers: u32,
+        gate: &G,
+    ) -> Result<Index, NoMemory>
+        requires bounded { eps ≤ MAX_EPSILON }
+        requires bounded_rec { eps_rec ≤ MAX_EPSILON }
+        requires cuts { AreCuts (length (xs_of keys)) cuts.now }
+        requires few_cuts { length cuts.now ≤ 65535 }
+        requires staffed { 1 ≤ workers }
+        requires few_workers { workers ≤ 64 }
+        ensures keys { IfOk result (λ index. index.keys ≡ keys) }
+        ensures eps { IfOk result (λ index. index.eps ≡ eps) }
+        ensures eps_rec { IfOk result (λ index. index.eps_rec ≡ eps_rec) }
+        ensures relaxed { IfOk result (λ index.
+            IsRelaxedIndex keys eps eps_rec cuts.now index.levels) }
+        ensures slack { IfOk result (λ index. 0 < length keys →
+            uncut (level_at index.levels 0) ≡ length cuts.now + 1) }
+        // Level 0 is a cover, and any other one has at most one run fewer for each cut.
+        ensures within { IfOk result (λ index. 0 < length keys → IsCoverWithin (length cuts.now)
+            (points_of (xs_of keys) (ys_of keys)) eps 0 (length (xs_of keys))
+            (starts_of (level_at index.levels 0))) }
+    {
+        let segments = level_0_side_by_side(rt, alloc, &keys, eps, cuts, workers, gate)?;
+        Index::over::<Brand>(alloc, keys, segments, eps, eps_rec, Blank::new(1))
+    }
+
+    /// The index over the segments of level 0, its steps counted from a new ledger.
+    fn over<L: Ledger>(
+        alloc: Global,
+        keys: Keys,
+        segments: Vec<Segment>,
+        eps: u32,
+        eps_rec: u32,
+        blank: Blank,
+    ) -> Result<Index, NoMemory>
+        requires bounded { eps ≤ MAX_EPSILON }
+        requires bounded_rec { eps_rec ≤ MAX_EPSILON }
+        requires segments { IsLaid (points_of (xs_of keys) (ys_of keys)) eps 0
+            (length (xs_of keys)) segments.items }
+        requires name { blank.name ≡ L.name }
+        requires parts { blank.parts ≡ L.parts }
+        requires one { blank.parts ≡ 1 }
+        ensures keys { IfOk result (λ index. index.keys ≡ keys) }
+        ensures eps { IfOk result (λ index. index.eps ≡ eps) }
+        ensures eps_rec { IfOk result (λ index. index.eps_rec ≡ eps_rec) }
+        ensures levels { IfOk result (λ index. IsLaidIndex keys eps eps_rec index.levels ×
+            (0 < length index.levels → level_at index.levels 0 ≡ segments.items)) }
+    {
+        let mut steps = Steps::<L>::new(blank);
+        let stored = levels_over(alloc, &keys, segments, eps, eps_rec, &mut steps)?;
         Index::from_levels(alloc, keys, eps, eps_rec, stored)
     }
 }
@@ -145,6 +219,31 @@ fn level_0_in_pieces<R: Threads + Sync, G: Gate>(
     segment_in_pieces(rt, alloc, xs, ys, eps, cuts, workers, gate)
 }
 
+/// The segments of level 0, made piece by piece and put side by side.
+fn level_0_side_by_side<R: Threads + Sync, G: Gate>(
+    rt: &R,
+    alloc: Global,
+    keys: &Keys,
+    eps: u32,
+    cuts: &[u32],
+    workers: u32,
+    gate: &G,
+) -> Result<Vec<Segment>, NoMemory>
+    requires bounded { eps ≤ MAX_EPSILON }
+    requires cuts { AreCuts (length (xs_of keys.now)) cuts.now }
+    requires few_cuts { length cuts.now ≤ 65535 }
+    requires staffed { 1 ≤ workers }
+    requires few_workers { workers ≤ 64 }
+    ensures relaxed { IfOk result (λ segments. IsRelaxed
+        (points_of (xs_of keys.now) (ys_of keys.now)) eps 0 (length (xs_of keys.now)) cuts.now
+        segments.items) }
+    ensures slack { IfOk result (λ segments. 0 < length (xs_of keys.now) →
+        uncut segments.items ≡ length cuts.now + 1) }
+{
+    let (xs, ys) = lists_of(keys);
+    relaxed(rt, alloc, xs, ys, eps, cuts, workers, gate)
+}
+
 /// The x and the y of level 0.
 fn lists_of(keys: &Keys) -> (&[u64], &[u32])
     ensures xs { result.0.now ≡ xs_of keys.now }
@@ -159,28 +258,6 @@ fn lists_of(keys: &Keys) -> (&[u64], &[u32])
     (keys.xs(), keys.ys())
 }
 
-/// All levels, over the segments of level 0, with a counter of its own from a new ledger.
-fn levels_from<L: Ledger>(
-    alloc: Global,
-    keys: &Keys,
-    segments: Vec<Segment>,
-    eps: u32,
-    eps_rec: u32,
-    blank: Blank,
-) -> Result<Vec<Level>, NoMemory>
-    requires bounded { eps ≤ MAX_EPSILON }
-    requires bounded_rec { eps_rec ≤ MAX_EPSILON }
-    requires segments { IsSegmentation (points_of (xs_of keys.now) (ys_of keys.now)) eps 0
-        (length (xs_of keys.now)) segments.items }
-    requires name { blank.name ≡ L.name }
-    requires parts { blank.parts ≡ L.parts }
-    requires one { blank.parts ≡ 1 }
-    ensures { IfOk result (λ levels. AreStored keys.now eps eps_rec levels.items) }
-{
-    let mut steps = Steps::<L>::new(blank);
-    levels_over(alloc, keys, segments, eps, eps_rec, &mut steps)
-}
-
 /// All levels, over the segments of level 0.
 fn levels_over<L: Ledger>(
     alloc: Global,
@@ -192,9 +269,11 @@ fn levels_over<L: Ledger>(
 ) -> Result<Vec<Level>, NoMemory>
     requires bounded { eps ≤ MAX_EPSILON }
     requires bounded_rec { eps_rec ≤ MAX_EPSILON }
-    requires segments { IsSegmentation (points_of (xs_of keys.now) (ys_of keys.now)) eps 0
+    requires segments { IsLaid (points_of (xs_of keys.now) (ys_of keys.now)) eps 0
         (length (xs_of keys.now)) segments.items }
     ensures stored { IfOk result (λ levels. AreStored keys.now eps eps_rec levels.items) }
+    ensures base { IfOk result (λ levels. 0 < vec_len levels →
+        level_at (segments_of levels.items) 0 ≡ segments.items) }
     // The steps that level 0 takes are left to the caller.
     ensures cost { IfOk result (λ levels. steps.new + 12 * length (xs_of keys.now) ≤ steps.old
         + 12 * places_below keys.now (segments_of levels.items) (vec_len levels)) }
@@ -216,7 +295,7 @@ fn levels_over<L: Ledger>(
 /// Level 0 of its segments.
 fn level_0(alloc: Global, keys: &Keys, segments: Vec<Segment>, eps: u32) -> Result<Level, NoMemory>
     requires bounded { eps ≤ MAX_EPSILON }
-    requires segments { IsSegmentation (points_of (xs_of keys.now) (ys_of keys.now)) eps 0
+    requires segments { IsLaid (points_of (xs_of keys.now) (ys_of keys.now)) eps 0
         (length (xs_of keys.now)) segments.items }
     ensures segments { IfOk result (λ level. level.segments ≡ segments) }
     ensures models { IfOk result (λ level. AreModels
@@ -311,8 +390,7 @@ fn models_over(
     requires rising { IsStrictlyIncreasing xs.now }
     requires never_falls { IsNonDecreasing ys.now }
     requires bounded { eps ≤ MAX_EPSILON }
-    requires segments { IsSegmentation (points_of xs.now ys.now) eps 0 (length xs.now)
-        segments.now }
+    requires segments { IsLaid (points_of xs.now ys.now) eps 0 (length xs.now) segments.now }
     ensures { IfOk result (λ models. AreModels (points_of xs.now ys.now) eps (length xs.now)
         segments.now models.items) }
 {
@@ -329,8 +407,7 @@ fn model_at(xs: &[u64], ys: &[u32], segments: &[Segment], eps: u32, run: usize) 
     requires rising { IsStrictlyIncreasing xs.now }
     requires never_falls { IsNonDecreasing ys.now }
     requires bounded { eps ≤ MAX_EPSILON }
-    requires segments { IsSegmentation (points_of xs.now ys.now) eps 0 (length xs.now)
-        segments.now }
+    requires segments { IsLaid (points_of xs.now ys.now) eps 0 (length xs.now) segments.now }
     requires inside { run < length segments.now }
     ensures { (e : ℕ) (d : Segment) → IsEndOf segments.now (length xs.now) run e →
         IsModelOf (slice_index_or segments.now run d).line

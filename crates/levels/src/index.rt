@@ -3,11 +3,13 @@ ghost use Rattle.std.specs.Prelude.{◌≡◌, ◌+◌, ◌-◌, ◌<◌, ◌≤
 ghost use Rattle.std.specs.Prelude.{slice_index, slice_index_or};
 ghost use Rattle.std.specs.List.Sorted.{IsNonDecreasing};
 ghost use Rattle.exact_cross.specs.declared.segment.Segment.{Segment};
-ghost use Rattle.exact_cross.specs.Checked.{IsLeastCover, AreChecked};
+ghost use Rattle.exact_cross.specs.Checked.{IsLeastCover, AreChecked, AreShown};
 ghost use Rattle.exact_cross.specs.Segments.{starts_of};
-ghost use Rattle.levels.specs.Indexes.{IsIndex, IsLevel, level_at, xs_at, ys_at, points_at, eps_at};
+ghost use Rattle.levels.specs.Indexes.{IsIndex, IsRelaxedIndex, IsLaidIndex, IsLevel, level_at};
+ghost use Rattle.levels.specs.Indexes.{xs_at, ys_at, points_at, eps_at};
 ghost use Rattle.key_points.specs.KeyPoints.{xs_of};
-ghost use Rattle.levels.specs.Heights.{IsLow, HasLongRuns, least_places};
+ghost use Rattle.piece_join.specs.Cuttings.{AreCuts};
+ghost use Rattle.levels.specs.Heights.{IsLow, IsLowOverRuns, HasLongRuns, least_places};
 ghost use Rattle.levels.specs.Models.{IsEndOf, IsModelOf};
 ghost use Rattle.levels.specs.Entries.{IsEntry};
 ghost use Rattle.levels.specs.Stored.{AreLevels, AreStored, segments_of};
@@ -27,12 +29,15 @@ use std::marker::Model;
 /// The recursive PGM-index of the keys of a file. Seen as a record of the keys, the two error
 /// bounds and the segments of each level, the lowest first.
 ///
-/// 1. It is the one index of its keys and bounds: level 0 stands on the points of the keys, each
-///    level above on the first x of the runs below it, and each has the fewest segments that lines
-///    within its bound can do with. The last level is the first with one run. No key, no level.
-/// 2. The keys are kept once: level 0 uses the lists of [`Keys`].
-/// 3. Each run has a model, 48 bytes, by which a lookup predicts places without a division.
-/// 4. A table leads to the few runs of level 0 that a question can be in, where that takes no more
+/// 1. Level 0 stands on the points of the keys, and each level above on the first x of the runs
+///    below it. Each run has a line within the level's bound. The last level is the first with one
+///    run. No key, no level.
+/// 2. Each level above level 0 has the fewest segments that lines within its bound can do with. So
+///    has level 0 of the one index of its keys and bounds ([`Index::build`]). That of a relaxed one
+///    ([`Index::build_relaxed`]) has at most one more for each cut. A lookup is the same in both.
+/// 3. The keys are kept once: level 0 uses the lists of [`Keys`].
+/// 4. Each run has a model, 48 bytes, by which a lookup predicts places without a division.
+/// 5. A table leads to the few runs of level 0 that a question can be in, where that takes no more
 ///    steps than the levels above may. It has at most 32 bytes a run and 8 more.
 ///
 /// Source: Ferragina and Vinciguerra, PVLDB 13(8), 2020, section 2.
@@ -122,37 +127,49 @@ impl Index {
     /// The level at which lookups start that the table doesn't lead.
     pub(crate) fn entry(&self) -> u32
         ensures entry { IsEntry self.now.keys self.now.eps_rec self.now.levels result }
-        ensures index { IsIndex self.now.keys self.now.eps self.now.eps_rec self.now.levels }
+        ensures index { IsLaidIndex self.now.keys self.now.eps self.now.eps_rec self.now.levels }
     {
         self.entry
     }
 
     /// How many levels there are, none where there is no key.
     ///
-    /// They are few: two levels or more stand on more than `2 * (2ε' + 2)^(levels - 2)` points,
-    /// where ε' is the bound above level 0.
+    /// They are few: two levels or more have more than `(2ε' + 2)^(levels - 2)` runs at level 0,
+    /// where ε' is the bound above level 0. In the one index of the keys, where each run but the
+    /// last one has two points or more, they stand on more than twice as many points.
     pub fn levels(&self) -> u32
         ensures count { result ≡ length self.now.levels }
-        ensures index { IsIndex self.now.keys self.now.eps self.now.eps_rec self.now.levels }
-        ensures few { IsLow self.now.eps_rec result (length (xs_of self.now.keys)) }
+        ensures index { IsLaidIndex self.now.keys self.now.eps self.now.eps_rec self.now.levels }
+        ensures few_over_runs { IsLowOverRuns self.now.eps_rec result
+            (length (level_at self.now.levels 0)) }
+        ensures few { IsIndex self.now.keys self.now.eps self.now.eps_rec self.now.levels →
+            IsLow self.now.eps_rec result (length (xs_of self.now.keys)) }
     {
         self.stored.len() as u32
     }
 
     /// The segments of level `i`, counted from 0, the lowest.
     ///
-    /// They are as few as lines within the level's bound can do with, and a checker of covers takes
-    /// them. Each run but the last one has 2 places or more at level 0, and `2ε' + 2` above it.
+    /// They cover the level's points, and a checker of covers whose runs may lack a cut takes them.
+    /// Where they are the segmentation of these points, as those of each level above level 0 are,
+    /// they are as few as lines within the level's bound can do with, a checker of covers takes
+    /// them, and each run but the last one has 2 places or more at level 0, and `2ε' + 2` above it.
     pub fn level(&self, i: u32) -> &[Segment]
         requires { i < length self.now.levels }
         ensures segments { result.now ≡ level_at self.now.levels i }
-        ensures level { IsLevel self.now.keys self.now.eps self.now.eps_rec self.now.levels i }
-        ensures least { IsLeastCover (points_at self.now.keys self.now.levels i)
+        ensures shown { AreShown (points_at self.now.keys self.now.levels i)
+            (eps_at self.now.eps self.now.eps_rec i) result.now }
+        ensures above { 0 < i →
+            IsLevel self.now.keys self.now.eps self.now.eps_rec self.now.levels i }
+        ensures least { IsLevel self.now.keys self.now.eps self.now.eps_rec self.now.levels i →
+            IsLeastCover (points_at self.now.keys self.now.levels i)
             (eps_at self.now.eps self.now.eps_rec i) 0
             (length (xs_at self.now.keys self.now.levels i)) (starts_of result.now) }
-        ensures checked { AreChecked (points_at self.now.keys self.now.levels i)
+        ensures checked { IsLevel self.now.keys self.now.eps self.now.eps_rec self.now.levels i →
+            AreChecked (points_at self.now.keys self.now.levels i)
             (eps_at self.now.eps self.now.eps_rec i) result.now }
-        ensures long { HasLongRuns (least_places self.now.eps_rec i) result.now }
+        ensures long { IsLevel self.now.keys self.now.eps self.now.eps_rec self.now.levels i →
+            HasLongRuns (least_places self.now.eps_rec i) result.now }
     {
         let level = &self.stored[i as usize];
         &level.segments
@@ -258,4 +275,21 @@ pub fn one_index()
 pub fn some_index()
     ensures { (keys : List ℕ) (eps eps_rec : ℕ) → IsNonDecreasing keys →
         (levels : List (List Segment)) × IsIndex keys eps eps_rec levels }
+{}
+
+/// Keys, error bounds and cuts have one relaxed index: two lists of levels that are one are equal.
+pub fn one_relaxed_index()
+    ensures { (keys : List ℕ) (eps eps_rec : ℕ) (cuts : List ℕ) (one two : List (List Segment)) →
+        IsRelaxedIndex keys eps eps_rec cuts one → IsRelaxedIndex keys eps eps_rec cuts two →
+        one ≡ two }
+{}
+
+/// The one index of keys has what lookups need of levels, and so has a relaxed one.
+pub fn each_index_is_laid()
+    ensures index { (keys : List ℕ) (eps eps_rec : ℕ) (levels : List (List Segment)) →
+        IsIndex keys eps eps_rec levels → IsLaidIndex keys eps eps_rec levels }
+    ensures relaxed { (keys : List ℕ) (eps eps_rec : ℕ) (cuts : List ℕ)
+        (levels : List (List Segment)) →
+        AreCuts (length (xs_of keys)) cuts → IsRelaxedIndex keys eps eps_rec cuts levels →
+        IsLaidIndex keys eps eps_rec levels }
 {}

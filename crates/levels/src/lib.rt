@@ -5,8 +5,9 @@
 //! which leads to the first run, and at level 0, where 3 keys are below it.
 //!
 //! Main clauses: `index` of [`Index::build_here`] and of [`Index::build`], `cost` of the former,
-//! `found` and `cost` of [`Index::lower_bound`], `windows` of [`Index::windows`], and the laws
-//! [`one_index`] and [`some_index`]. The words of the clauses are in `specs/`.
+//! `relaxed` of [`Index::build_relaxed`], `found` and `cost` of [`Index::lower_bound`], `windows` of
+//! [`Index::windows`], and the laws [`one_index`] and [`some_index`]. The words of the clauses are in
+//! `specs/`.
 #![tactic(auto)]
 
 mod among;
@@ -25,6 +26,6 @@ mod windows;
 
 pub use among::positions_among;
 pub use grouped::positions_grouped;
-pub use index::{Index, one_index, some_index};
+pub use index::{Index, each_index_is_laid, one_index, one_relaxed_index, some_index};
 pub use key_points::Keys;
 pub use windows::{one_list_of_windows, some_windows};

@@ -6,7 +6,7 @@ ghost use Rattle.exact_cross.specs.declared.segment.Segment.{Segment};
 ghost use Rattle.window_search.specs.Searches.{lb, IsPredecessor};
 ghost use Rattle.levels.specs.Costs.{TakesAtMost, lookup_bound};
 ghost use Rattle.levels.specs.Entries.{IsEntry, share_of};
-ghost use Rattle.levels.specs.Indexes.{IsIndex, level_at, xs_at, ys_at, points_at, eps_at};
+ghost use Rattle.levels.specs.Indexes.{IsLaidIndex, level_at, xs_at, ys_at, points_at, eps_at};
 ghost use Rattle.levels.specs.Models.{IsEndOf};
 ghost use Rattle.levels.specs.Lookups.{IsWindowAt, IsNarrow, HoldsAnswers, extent_at};
 
@@ -68,7 +68,7 @@ impl Index {
     pub(crate) fn run_of<L: Ledger>(&self, q: u64, steps: &mut Steps<L>) -> u32
         requires never_falls { IsNonDecreasing self.now.keys }
         requires few { length self.now.keys < 2 ^ 32 }
-        requires index { IsIndex self.now.keys self.now.eps self.now.eps_rec self.now.levels }
+        requires index { IsLaidIndex self.now.keys self.now.eps self.now.eps_rec self.now.levels }
         requires some { 0 < length self.now.levels }
         requires from_first { slice_index self.now.keys 0 ≤ q }
         ensures found { IsPredecessor (xs_at self.now.keys self.now.levels 1) q result }
@@ -88,7 +88,7 @@ impl Index {
     fn run_by_levels<L: Ledger>(&self, q: u64, steps: &mut Steps<L>) -> u32
         requires never_falls { IsNonDecreasing self.now.keys }
         requires few { length self.now.keys < 2 ^ 32 }
-        requires index { IsIndex self.now.keys self.now.eps self.now.eps_rec self.now.levels }
+        requires index { IsLaidIndex self.now.keys self.now.eps self.now.eps_rec self.now.levels }
         requires some { 0 < length self.now.levels }
         requires from_first { slice_index self.now.keys 0 ≤ q }
         ensures found { IsPredecessor (xs_at self.now.keys self.now.levels 1) q result }
@@ -108,7 +108,7 @@ impl Index {
     fn entry_run<L: Ledger>(&self, entry: u32, q: u64, steps: &mut Steps<L>) -> u32
         requires never_falls { IsNonDecreasing self.now.keys }
         requires few { length self.now.keys < 2 ^ 32 }
-        requires index { IsIndex self.now.keys self.now.eps self.now.eps_rec self.now.levels }
+        requires index { IsLaidIndex self.now.keys self.now.eps self.now.eps_rec self.now.levels }
         requires some { 0 < length self.now.levels }
         requires entry { IsEntry self.now.keys self.now.eps_rec self.now.levels entry }
         requires from_first { slice_index self.now.keys 0 ≤ q }
@@ -134,7 +134,7 @@ impl Index {
     ) -> u32
         requires never_falls { IsNonDecreasing self.now.keys }
         requires few { length self.now.keys < 2 ^ 32 }
-        requires index { IsIndex self.now.keys self.now.eps self.now.eps_rec self.now.levels }
+        requires index { IsLaidIndex self.now.keys self.now.eps self.now.eps_rec self.now.levels }
         requires above { 0 < level }
         requires inside { level < length self.now.levels }
         requires run { IsPredecessor (xs_at self.now.keys self.now.levels (level + 1)) q run }
@@ -152,7 +152,7 @@ impl Index {
     pub(crate) fn window_by_model(&self, level: u32, run: u32, q: u64) -> (u32, u32)
         requires never_falls { IsNonDecreasing self.now.keys }
         requires few { length self.now.keys < 2 ^ 32 }
-        requires index { IsIndex self.now.keys self.now.eps self.now.eps_rec self.now.levels }
+        requires index { IsLaidIndex self.now.keys self.now.eps self.now.eps_rec self.now.levels }
         requires inside { level < length self.now.levels }
         requires run { IsPredecessor (xs_at self.now.keys self.now.levels (level + 1)) q run }
         ensures order { result.0 ≤ result.1 }
@@ -169,7 +169,7 @@ impl Index {
     pub(crate) fn window_of(&self, level: u32, run: u32, q: u64) -> (u32, u32)
         requires never_falls { IsNonDecreasing self.now.keys }
         requires few { length self.now.keys < 2 ^ 32 }
-        requires index { IsIndex self.now.keys self.now.eps self.now.eps_rec self.now.levels }
+        requires index { IsLaidIndex self.now.keys self.now.eps self.now.eps_rec self.now.levels }
         requires inside { level < length self.now.levels }
         requires run { IsPredecessor (xs_at self.now.keys self.now.levels (level + 1)) q run }
         ensures exact { IsWindowAt self.now.keys self.now.eps self.now.eps_rec self.now.levels level

@@ -3,7 +3,7 @@ ghost use Rattle.std.specs.Prelude.{◌≡◌, ◌+◌, ◌*◌, ◌++◌, ◌<�
 ghost use Rattle.std.specs.Prelude.{map, min, slice_index, vec_len, vec_capacity, IfSome};
 ghost use Rattle.std.specs.List.Sorted.{IsNonDecreasing};
 ghost use Rattle.window_search.specs.Searches.{lb, IsPredecessor};
-ghost use Rattle.levels.specs.Indexes.{IsIndex, xs_at, eps_at};
+ghost use Rattle.levels.specs.Indexes.{IsLaidIndex, xs_at, eps_at};
 ghost use Rattle.levels.specs.InStep.{IsAmong, HasBound, AreNear, AreRuns};
 
 use crate::in_step::{LANES, bounds_in_step, predecessors_in_step};
@@ -92,7 +92,7 @@ impl Index {
     fn spans_near(&self, qs: &[u64; 16], lows: &mut [u32; 16]) -> Option<u32>
         requires never_falls { IsNonDecreasing self.now.keys }
         requires few { length self.now.keys < 2 ^ 32 }
-        requires index { IsIndex self.now.keys self.now.eps self.now.eps_rec self.now.levels }
+        requires index { IsLaidIndex self.now.keys self.now.eps self.now.eps_rec self.now.levels }
         requires some { 0 < length self.now.keys }
         requires from_first { (k : ℕ) → k < 16 →
             slice_index self.now.keys 0 ≤ slice_index qs.now k }
@@ -125,7 +125,7 @@ impl Index {
     )
         requires never_falls { IsNonDecreasing self.now.keys }
         requires few { length self.now.keys < 2 ^ 32 }
-        requires index { IsIndex self.now.keys self.now.eps self.now.eps_rec self.now.levels }
+        requires index { IsLaidIndex self.now.keys self.now.eps self.now.eps_rec self.now.levels }
         requires some { 0 < length self.now.keys }
         requires above { 1 < length self.now.levels }
         requires from_first { (k : ℕ) → k < 16 →
@@ -146,7 +146,7 @@ impl Index {
     fn runs_by_levels_in_step(&self, qs: &[u64; 16], places: &mut [u32; 16])
         requires never_falls { IsNonDecreasing self.now.keys }
         requires few { length self.now.keys < 2 ^ 32 }
-        requires index { IsIndex self.now.keys self.now.eps self.now.eps_rec self.now.levels }
+        requires index { IsLaidIndex self.now.keys self.now.eps self.now.eps_rec self.now.levels }
         requires some { 0 < length self.now.keys }
         requires zeros { (k : ℕ) → k < 16 → slice_index places.old k ≡ 0 }
         requires from_first { (k : ℕ) → k < 16 →
@@ -166,7 +166,7 @@ impl Index {
     fn runs_below(&self, level: u32, qs: &[u64; 16], runs: &mut [u32; 16])
         requires never_falls { IsNonDecreasing self.now.keys }
         requires few { length self.now.keys < 2 ^ 32 }
-        requires index { IsIndex self.now.keys self.now.eps self.now.eps_rec self.now.levels }
+        requires index { IsLaidIndex self.now.keys self.now.eps self.now.eps_rec self.now.levels }
         requires above { 0 < level }
         requires inside { level < length self.now.levels }
         requires runs { AreRuns (xs_at self.now.keys self.now.levels (level + 1)) qs.now runs.old }
@@ -185,7 +185,7 @@ impl Index {
     fn start_among(&self, level: u32, run: u32, q: u64, count: u32) -> u32
         requires never_falls { IsNonDecreasing self.now.keys }
         requires few { length self.now.keys < 2 ^ 32 }
-        requires index { IsIndex self.now.keys self.now.eps self.now.eps_rec self.now.levels }
+        requires index { IsLaidIndex self.now.keys self.now.eps self.now.eps_rec self.now.levels }
         requires above { 0 < level }
         requires inside { level < length self.now.levels }
         requires run { IsPredecessor (xs_at self.now.keys self.now.levels (level + 1)) q run }
@@ -202,7 +202,7 @@ impl Index {
     pub(crate) fn bounds_below(&self, qs: &[u64; 16], runs: &mut [u32; 16])
         requires never_falls { IsNonDecreasing self.now.keys }
         requires few { length self.now.keys < 2 ^ 32 }
-        requires index { IsIndex self.now.keys self.now.eps self.now.eps_rec self.now.levels }
+        requires index { IsLaidIndex self.now.keys self.now.eps self.now.eps_rec self.now.levels }
         requires inside { 0 < length self.now.levels }
         requires runs { AreRuns (xs_at self.now.keys self.now.levels 1) qs.now runs.old }
         ensures lanes { length runs.new ≡ 16 }
@@ -222,7 +222,7 @@ impl Index {
     pub(crate) fn start_bound(&self, run: u32, q: u64, count: u64) -> u32
         requires never_falls { IsNonDecreasing self.now.keys }
         requires few { length self.now.keys < 2 ^ 32 }
-        requires index { IsIndex self.now.keys self.now.eps self.now.eps_rec self.now.levels }
+        requires index { IsLaidIndex self.now.keys self.now.eps self.now.eps_rec self.now.levels }
         requires inside { 0 < length self.now.levels }
         requires run { IsPredecessor (xs_at self.now.keys self.now.levels 1) q run }
         requires count { count ≡ min (2 * self.now.eps + 3) (length self.now.keys + 1) }

@@ -3,7 +3,7 @@ ghost use Rattle.std.specs.Prelude.{◌≡◌, ◌+◌, ◌*◌, ◌<◌, ◌≤
 ghost use Rattle.std.specs.List.Sorted.{IsNonDecreasing};
 ghost use Rattle.window_search.specs.Searches.{lb, IsPredecessor};
 ghost use Rattle.levels.specs.Costs.{TakesAtMost};
-ghost use Rattle.levels.specs.Indexes.{IsIndex, xs_at};
+ghost use Rattle.levels.specs.Indexes.{IsLaidIndex, xs_at};
 ghost use Rattle.levels.specs.InStep.{AreNear, AreRuns};
 
 use crate::index::Index;
@@ -18,7 +18,7 @@ impl Index {
         ensures count { result ≡ length (xs_at self.now.keys self.now.levels 1) }
         ensures never_falls { IsNonDecreasing self.now.keys }
         ensures few { length self.now.keys < 2 ^ 32 }
-        ensures index { IsIndex self.now.keys self.now.eps self.now.eps_rec self.now.levels }
+        ensures index { IsLaidIndex self.now.keys self.now.eps self.now.eps_rec self.now.levels }
     {
         let keys = self.keys();
         let _file = keys.file();

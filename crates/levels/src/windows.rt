@@ -5,7 +5,7 @@ ghost use Rattle.std.specs.Prelude.{slice_index, vec_len, vec_capacity};
 ghost use Rattle.std.specs.List.Sorted.{IsNonDecreasing};
 ghost use Rattle.exact_cross.specs.declared.segment.Segment.{Segment};
 ghost use Rattle.window_search.specs.Searches.{IsPredecessor};
-ghost use Rattle.levels.specs.Indexes.{IsIndex, xs_at};
+ghost use Rattle.levels.specs.Indexes.{IsIndex, IsLaidIndex, xs_at};
 ghost use Rattle.levels.specs.Lookups.{AreWindows, HoldsAnswers, HasWindowsTo, IsNarrow};
 
 use crate::index::Index;
@@ -95,7 +95,7 @@ impl Index {
     ) -> (u32, u32)
         requires never_falls { IsNonDecreasing self.now.keys }
         requires few { length self.now.keys < 2 ^ 32 }
-        requires index { IsIndex self.now.keys self.now.eps self.now.eps_rec self.now.levels }
+        requires index { IsLaidIndex self.now.keys self.now.eps self.now.eps_rec self.now.levels }
         requires inside { level < length self.now.levels }
         requires run { IsPredecessor (xs_at self.now.keys self.now.levels (level + 1)) q run }
         requires room { length self.now.levels ≤ vec_capacity into.old }
@@ -138,17 +138,25 @@ fn windows_from<L: Ledger>(index: &Index, q: u64, into: &mut Vec<(u32, u32, u32)
     index.windows_down(q, into, &mut steps);
 }
 
-/// An index has one list of windows for a question: two lists that are it are equal.
+/// An index has one list of windows for a question: two lists that are it are equal. So has a
+/// relaxed one.
 pub fn one_list_of_windows()
-    ensures { (keys : List ℕ) (eps eps_rec : ℕ) (levels : List (List Segment)) (q : ℕ)
+    ensures index { (keys : List ℕ) (eps eps_rec : ℕ) (levels : List (List Segment)) (q : ℕ)
         (one two : List (ℕ × ℕ × ℕ)) → IsNonDecreasing keys →
         IsIndex keys eps eps_rec levels → AreWindows keys eps eps_rec levels q one →
         AreWindows keys eps eps_rec levels q two → one ≡ two }
+    ensures laid { (keys : List ℕ) (eps eps_rec : ℕ) (levels : List (List Segment)) (q : ℕ)
+        (one two : List (ℕ × ℕ × ℕ)) → IsNonDecreasing keys →
+        IsLaidIndex keys eps eps_rec levels → AreWindows keys eps eps_rec levels q one →
+        AreWindows keys eps eps_rec levels q two → one ≡ two }
 {}
 
-/// A question has windows in each index: there is a list that is it.
+/// A question has windows in each index, a relaxed one too: there is a list that is it.
 pub fn some_windows()
-    ensures { (keys : List ℕ) (eps eps_rec : ℕ) (levels : List (List Segment)) (q : ℕ) →
+    ensures index { (keys : List ℕ) (eps eps_rec : ℕ) (levels : List (List Segment)) (q : ℕ) →
         IsNonDecreasing keys → IsIndex keys eps eps_rec levels →
+        (windows : List (ℕ × ℕ × ℕ)) × AreWindows keys eps eps_rec levels q windows }
+    ensures laid { (keys : List ℕ) (eps eps_rec : ℕ) (levels : List (List Segment)) (q : ℕ) →
+        IsNonDecreasing keys → IsLaidIndex keys eps eps_rec levels →
         (windows : List (ℕ × ℕ × ℕ)) × AreWindows keys eps eps_rec levels q windows }
 {}

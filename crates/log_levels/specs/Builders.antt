@@ -6,7 +6,7 @@ use denote.Param.Members.{Shared}
 use denote.Ref.{Bor}
 use Rattle.tombstones.specs.declared.entry.Entry.{Entry}
 use Rattle.tombstones.specs.Entries.{IsAscending, entry_at, winner_at, kept}
-use Rattle.levels.specs.Indexes.{PgmIndex}
+use Rattle.levels.specs.Indexes.{PgmIndex, IsIndex}
 
 -- the merge of two lists of entries, unless memory ran out
 pub record IsMergeOf (newer older : List Entry) (deepest : Bool) (merged : Result (Vec Entry Global) AllocError) : Type 0 where
@@ -18,6 +18,7 @@ pub record IsIndexFor (keys : List ℕ) (built : Result PgmIndex AllocError) : T
   pub keys_are : IfOk built (λ index. index.keys ≡ keys)
   pub eps : IfOk built (λ index. index.eps ≡ 64)
   pub eps_rec : IfOk built (λ index. index.eps_rec ≡ 4)
+  pub index : IfOk built (λ index. IsIndex keys 64 4 index.levels)
 
 -- the closure may be called with any two ascending lists, and gives their merge
 abbrev pub Merges : {F : Type 0} → Shared F (Bor (List Entry) × (Bor (List Entry) × (Bool × Unit {0}))) (Result (Vec Entry Global) AllocError) → F → Type 0

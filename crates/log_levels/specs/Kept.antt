@@ -7,7 +7,7 @@ use Rattle.std.specs.declared.sync.Arc.{Arc}
 use Rattle.std.specs.Arc.{arc_value}
 use Rattle.tombstones.specs.declared.entry.Entry.{Entry}
 use Rattle.tombstones.specs.Entries.{IsAscending, entry_at, kept}
-use Rattle.levels.specs.Indexes.{PgmIndex}
+use Rattle.levels.specs.Indexes.{PgmIndex, IsIndex}
 use Rattle.log_levels.specs.declared.fault.MapFault.{MapFault}
 use Rattle.log_levels.specs.declared.fault.MapFault.TheVariants.{Full, NoMemory}
 use Rattle.log_levels.specs.declared.update.Update.{Update}
@@ -15,13 +15,14 @@ use Rattle.log_levels.specs.declared.update.Update.TheVariants.{Put, Del, Sweep}
 use Rattle.log_levels.specs.Accepted.{put_entry, del_entry}
 use Rattle.log_levels.specs.Shapes.{Held, IsCutOf, level_keys, level_of, from_bit, last_at}
 
--- the index is that of the entries' keys
+-- the index is the one of the entries' keys
 pub record IsIndexed (entries : List Entry) (index : PgmIndex) : Type 0 where
   pub ascending : IsAscending entries
   pub few : length entries < 2 ^ 32
   pub keys : index.keys ≡ level_keys entries
   pub eps : index.eps ≡ 64
   pub eps_rec : index.eps_rec ≡ 4
+  pub levels : IsIndex index.keys 64 4 index.levels
 
 -- the entries of shared levels
 abbrev pub levels_of : {Z : Type 0} → List (Option (Arc (List Entry) Z)) → List (Option (List Entry))

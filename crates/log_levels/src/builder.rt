@@ -1,6 +1,7 @@
 // How levels are made: on the calling thread, or by workers.
 ghost use Rattle.std.specs.Prelude.{◌≡◌, ℕ, ◌≤◌, IfOk};
 ghost use Rattle.tombstones.specs.Entries.{IsAscending, entry_at, winner_at, kept};
+ghost use Rattle.levels.specs.Indexes.{IsIndex};
 ghost use Rattle.log_levels.specs.Builders.{Merges, Builds};
 
 use crate::level::{EPS, EPS_REC};
@@ -40,7 +41,8 @@ pub trait Builder {
         requires { ready self.now }
         ensures keys { IfOk result (λ index. index.keys ≡ keys) }
         ensures eps { IfOk result (λ index. index.eps ≡ EPS) }
-        ensures eps_rec { IfOk result (λ index. index.eps_rec ≡ EPS_REC) };
+        ensures eps_rec { IfOk result (λ index. index.eps_rec ≡ EPS_REC) }
+        ensures index { IfOk result (λ index. IsIndex keys EPS EPS_REC index.levels) };
 }
 
 /// The calling thread.
@@ -89,6 +91,7 @@ fn index_here<L: Ledger>(alloc: Global, keys: Keys, blank: Blank) -> Built
     ensures keys { IfOk result (λ index. index.keys ≡ keys) }
     ensures eps { IfOk result (λ index. index.eps ≡ EPS) }
     ensures eps_rec { IfOk result (λ index. index.eps_rec ≡ EPS_REC) }
+    ensures index { IfOk result (λ index. IsIndex keys EPS EPS_REC index.levels) }
 {
     let mut steps = Steps::<L>::new(blank);
     Index::build_here(alloc, keys, EPS, EPS_REC, &mut steps)
@@ -113,6 +116,7 @@ pub fn index_in_pieces<R: Threads + Sync, G: Gate>(
     ensures keys { IfOk result (λ index. index.keys ≡ keys) }
     ensures eps { IfOk result (λ index. index.eps ≡ EPS) }
     ensures eps_rec { IfOk result (λ index. index.eps_rec ≡ EPS_REC) }
+    ensures index { IfOk result (λ index. IsIndex keys EPS EPS_REC index.levels) }
 {
     let _ = keys.file();
     let points = keys.xs().len() as u32;

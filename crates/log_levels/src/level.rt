@@ -209,7 +209,6 @@ impl Level {
         ensures eps_rec { result.now.eps_rec ≡ EPS_REC }
         ensures index { IsIndex result.now.keys EPS EPS_REC result.now.levels }
     {
-        let _ = self.index.levels();
         &self.index
     }
 }

@@ -1,6 +1,6 @@
 -- Pieces side by side show that they are a cover, and the last run of each piece alone has no cut.
 --
--- Main results: `AreShown-from_relaxed`, `uncut-from_relaxed`, `IsRelaxed-unique`, `IsRelaxed-next`.
+-- Main results: `IsLaid-from_cuts`, `AreShown-from_laid`, `AreShown-from_relaxed`, `uncut-from_relaxed`, `IsRelaxed-unique`, `IsRelaxed-next`.
 use Rattle.std.proofs.Common.{◌≡◌, ℕ, zero, suc, ◌+◌, ◌^◌, ◌<◌, ◌≤◌, List, [], ◌∷◌, ◌++◌, length, take, slice_index, All, Some, is_none, cond, inl, inr, refl, sym, ap, ◌∙◌, subst, arith, add-one}
 use Rattle.std.proofs.lemmas.Bool.{cases_lt}
 use Rattle.std.proofs.lemmas.List.{append_assoc, take_more, get_or_append_left}
@@ -21,6 +21,7 @@ use Rattle.segmenter.proofs.Unique.{IsSegmentation-unique}
 use Rattle.piece_join.specs.declared.work.Work.{Work}
 use Rattle.piece_join.specs.Cuttings.{AreCuts}
 use Rattle.piece_join.specs.Pieces.{edge_of, IsPart}
+use Rattle.piece_join.specs.Laid.{IsLaid}
 use Rattle.piece_join.specs.Relaxed.{IsRelaxed}
 use Rattle.piece_join.proofs.Begun.{CutsInto-append, EachRun-append, starts_of-append}
 
@@ -38,12 +39,6 @@ rise-from_increasing to low (cut ∷ later) rise above inside = (
 
 rise-from_cuts : (m : ℕ) (cuts : List ℕ) → AreCuts m cuts → StartsRise 1 m cuts
 rise-from_cuts m cuts are = rise-from_increasing m 1 cuts are.rise (λ k before. omega (arith, (are.inside k 0 before).0)) are.inside
-
--- runs that cover a range, each with its steep pair and, if any, its cut
-record IsLaid (p : Points) (eps from at : ℕ) (segments : List Segment) : Type 0 where
-  cover : IsCover p eps from at (starts_of segments)
-  steep : EachRun (IsSteepSegment p eps) at segments
-  cut : EachRun (IsCutIfAny p eps p.count) at segments
 
 IsCutIfAny-from_own : (p : Points) (eps end : ℕ) (segment : Segment) (e : ℕ) → e ≤ end → end ≤ p.count → HasItsCut p eps end segment e → IsCutIfAny p eps p.count segment e
 IsCutIfAny-from_own p eps end segment e below within own = record { last = λ at_end. own.last (omega (arith, at_end)); shown = shown }
@@ -69,7 +64,7 @@ cuts_if_any p eps end from (segment ∷ later) within greedy cuts =
       cuts_if_any p eps end e later within greedy.3 cuts.1,
     )
 
-IsLaid-from_piece : (p : Points) (eps from end : ℕ) (segments : List Segment) → end ≤ p.count → IsSegmentation p eps from end segments → IsLaid p eps from end segments
+pub IsLaid-from_piece : (p : Points) (eps from end : ℕ) (segments : List Segment) → end ≤ p.count → IsSegmentation p eps from end segments → IsLaid p eps from end segments
 IsLaid-from_piece p eps from end segments within piece = record {
   cover = IsCover-from_greedy p eps end (starts_of segments) from piece.greedy;
   steep = piece.steep;
@@ -90,6 +85,9 @@ IsLaid-from_relaxed p eps from to (cut ∷ later) segments within rise (piece, r
     rw is (IsLaid-append p eps from cut to piece rest (IsLaid-from_piece p eps from cut piece (omega (arith, rise.1, within)) own)
     (IsLaid-from_relaxed p eps cut to later rest within rise.2 others))
 
+pub IsLaid-from_cuts : (p : Points) (eps : ℕ) (cuts : List ℕ) (segments : List Segment) → AreCuts p.count cuts → IsRelaxed p eps 0 p.count cuts segments → IsLaid p eps 0 p.count segments
+IsLaid-from_cuts p eps cuts segments are relaxed = IsLaid-from_relaxed p eps 0 p.count cuts segments (omega arith) (rise-from_cuts p.count cuts are) relaxed
+
 -- the first start is where the runs begin
 first_of : (p : Points) (eps to : ℕ) (segments : List Segment) → IsCover p eps 0 to (starts_of segments) → 0 < to →
     (segment : Segment) × (later : List Segment) × (segments ≡ segment ∷ later) × (segment.start ≡ 0)
@@ -101,7 +99,7 @@ record IsRun (p : Points) (eps : ℕ) (segment : Segment) (e : ℕ) : Type 0 whe
   in_range : IsInRange segment.line
   fitted : IsFitted p eps segment e
 
-runs-from_laid : (p : Points) (eps from to : ℕ) (segments : List Segment) → IsAscending p → ((j : ℕ) → j < p.count → p.y j < 2 ^ 32) → eps ≤ 1048576 → to ≤ p.count →
+pub runs-from_laid : (p : Points) (eps from to : ℕ) (segments : List Segment) → IsAscending p → ((j : ℕ) → j < p.count → p.y j < 2 ^ 32) → eps ≤ 1048576 → to ≤ p.count →
     IsCover p eps from to (starts_of segments) → EachRun (IsSteepSegment p eps) to segments → EachRun (λ segment e. IsInRange segment.line) to segments × EachRun (IsFitted p eps) to segments
 runs-from_laid p eps from to [] ascends small bounded within cover steep = (tt, tt)
 runs-from_laid p eps from to (segment ∷ later) ascends small bounded within cover steep =
@@ -114,10 +112,9 @@ runs-from_laid p eps from to (segment ∷ later) ascends small bounded within co
       (IsFitted-from_steep p eps e segment ascends some end steep.0 fits, more.1),
     )
 
-pub AreShown-from_relaxed : (p : Points) (eps : ℕ) (cuts : List ℕ) (segments : List Segment) → IsAscending p → ((j : ℕ) → j < p.count → p.y j < 2 ^ 32) → eps ≤ 1048576 →
-    AreCuts p.count cuts → IsRelaxed p eps 0 p.count cuts segments → AreShown p eps segments
-AreShown-from_relaxed p eps cuts segments ascends small bounded are relaxed =
-    let laid = IsLaid-from_relaxed p eps 0 p.count cuts segments (omega arith) (rise-from_cuts p.count cuts are) relaxed in
+pub AreShown-from_laid : (p : Points) (eps : ℕ) (segments : List Segment) → IsAscending p → ((j : ℕ) → j < p.count → p.y j < 2 ^ 32) → eps ≤ 1048576 →
+    IsLaid p eps 0 p.count segments → AreShown p eps segments
+AreShown-from_laid p eps segments ascends small bounded laid =
     let runs = runs-from_laid p eps 0 p.count segments ascends small bounded (omega arith) laid.cover laid.steep in
     record {
       first = first_of p eps p.count segments laid.cover;
@@ -126,6 +123,11 @@ AreShown-from_relaxed p eps cuts segments ascends small bounded are relaxed =
       fitted = runs.1;
       cut = laid.cut;
     }
+
+pub AreShown-from_relaxed : (p : Points) (eps : ℕ) (cuts : List ℕ) (segments : List Segment) → IsAscending p → ((j : ℕ) → j < p.count → p.y j < 2 ^ 32) → eps ≤ 1048576 →
+    AreCuts p.count cuts → IsRelaxed p eps 0 p.count cuts segments → AreShown p eps segments
+AreShown-from_relaxed p eps cuts segments ascends small bounded are relaxed =
+    AreShown-from_laid p eps segments ascends small bounded (IsLaid-from_cuts p eps cuts segments are relaxed)
 
 -- each piece has one run without a cut, its last
 uncut-append : (segments others : List Segment) → uncut (segments ++ others) ≡ uncut segments + uncut others

@@ -1,12 +1,13 @@
 -- Level 0 by itself, one level more, and all levels once the last one has one run.
-use Rattle.std.proofs.Common.{◌≡◌, ◌+◌, ◌<◌, [], ◌∷◌, ◌++◌, length, Vec, sym, ap, ◌∙◌, arith}
+use Rattle.std.proofs.Common.{◌≡◌, ◌+◌, ◌<◌, [], ◌∷◌, ◌++◌, length, Vec, refl, sym, ap, ◌∙◌, arith}
 use Rattle.std.specs.declared.alloc.Global.{Global}
 use Rattle.exact_cross.specs.declared.segment.Segment.{Segment}
 use Rattle.std.proofs.lemmas.List.{length-append}
 use Rattle.std.proofs.lemmas.Bool.Decides.{nat_tests}
-use Rattle.levels.specs.Indexes.{xs_at, places_below}
+use Rattle.piece_join.proofs.RelaxedLemmas.{IsLaid-from_piece}
+use Rattle.levels.specs.Indexes.{xs_at, points_at, eps_at, places_below}
 use Rattle.levels.specs.Stored.{segments_of}
-use Rattle.levels.proofs.StoredLemmas.{AreLevels-base, AreLevels-push, AreStored-in, fewer_above, places_below-base, places_below-push, level_at-pushed}
+use Rattle.levels.proofs.StoredLemmas.{AreLevels-base, AreLevels-push, AreStored-in, fewer_above, places_below-base, places_below-push, level_at-pushed, level_at-before}
 use Rattle.levels.proofs.build.levels_over.Goals as goal
 
 pub loop-runs-init : goal.loop-runs-init
@@ -24,6 +25,7 @@ loop-runs-init g c =
       some = some;
       above = omega arith;
       last = λ i at. ap length (level_at-pushed [] level i (omega (arith, at))) ∙ omega (arith, ap length own, c.args.segments.ok.0);
+      base = level_at-pushed [] level 0 refl ∙ own;
       cost = omega (arith, places_below-base keys level);
     })
 
@@ -42,7 +44,9 @@ loop-runs-preserved g c =
     let level = c.in_ok-level.level in
     let inv = c.loop-runs.invariant in
     let own = rw c.deref.ensures.value at c.in_ok-level.ensures in
-    let all = AreLevels-push keys c.args.eps c.args.eps_rec levels level inv.levels (λ i last one. c.loop-runs-test.true (sym (inv.last i last) ∙ one)) own.segments own.models
+    let to = length (xs_at keys (segments_of levels) (length levels)) in
+    let laid = IsLaid-from_piece (points_at keys (segments_of levels) (length levels)) (eps_at c.args.eps c.args.eps_rec (length levels)) 0 to level.segments.items (omega arith) own.segments in
+    let all = AreLevels-push keys c.args.eps c.args.eps_rec levels level inv.levels (λ i last one. c.loop-runs-test.true (sym (inv.last i last) ∙ one)) laid (λ some. own.segments) own.models
     (λ some. own.xs) (λ some. own.ys) in
     let count : length (levels ++ level ∷ []) ≡ length levels + 1 = length-append levels (level ∷ []) in
     let places : places_below keys (segments_of (levels ++ level ∷ [])) (length (levels ++ level ∷ []))
@@ -53,6 +57,7 @@ loop-runs-preserved g c =
       some = inv.some;
       above = omega (arith, count);
       last = λ i last. ap length (level_at-pushed levels level i (omega (arith, count, last))) ∙ omega (arith, level.segments.ok.0);
+      base = level_at-before levels level 0 inv.above ∙ inv.base;
       cost = omega (arith, own.cost, inv.cost, places);
     })
 

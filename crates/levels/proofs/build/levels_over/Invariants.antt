@@ -11,6 +11,7 @@ invariant-loop-runs g l = record {
   some : 0 < length l.keys;
   above : 0 < length l.levels.items;
   last : (i : ℕ) → i + 1 ≡ length l.levels.items → length (level_at (segments_of l.levels.items) i) ≡ l.runs;
+  base : level_at (segments_of l.levels.items) 0 ≡ l.fn.segments.items;
   cost : l.steps + 12 * length (xs_of l.keys) ≤ l.fn.steps + 12 * places_below l.keys (segments_of l.levels.items) (length l.levels.items);
 }
 

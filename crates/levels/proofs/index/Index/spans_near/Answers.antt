@@ -3,7 +3,7 @@ use Rattle.std.proofs.Common.{◌^◌, ◌<◌, ◌≤◌, ℕ, List, length, sl
 use Rattle.std.specs.List.Sorted.{IsNonDecreasing}
 use Rattle.exact_cross.specs.declared.segment.Segment.{Segment}
 use Rattle.radix_table.specs.Tables.{IsLedTo}
-use Rattle.levels.specs.Indexes.{IsIndex, xs_at}
+use Rattle.levels.specs.Indexes.{IsLaidIndex, xs_at}
 use Rattle.levels.proofs.LookupLemmas.{ascends}
 use Rattle.levels.proofs.RunLemmas.{first_run}
 use Rattle.levels.proofs.EntryLemmas.{predecessor_at}
@@ -20,7 +20,7 @@ loop-lane-init c =
     }
 
 -- places that hold a predecessor which there is
-fits : (keys : List ℕ) (eps eps_rec : ℕ) (levels : List (List Segment)) (q most low high : ℕ) → IsNonDecreasing keys → length keys < 2 ^ 32 → IsIndex keys eps eps_rec levels → 0 < length keys → 1 < length levels →
+fits : (keys : List ℕ) (eps eps_rec : ℕ) (levels : List (List Segment)) (q most low high : ℕ) → IsNonDecreasing keys → length keys < 2 ^ 32 → IsLaidIndex keys eps eps_rec levels → 0 < length keys → 1 < length levels →
     slice_index keys 0 ≤ q → IsLedTo (xs_at keys levels 1) q most low high → (low ≤ high) × (high < length (xs_at keys levels 1)) × (length (xs_at keys levels 1) < 2 ^ 32)
 fits keys eps eps_rec levels q most low high order few index some above first led =
     let found = predecessor_at keys eps eps_rec levels order index 1 q (omega arith) some first in

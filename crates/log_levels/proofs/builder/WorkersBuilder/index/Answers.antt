@@ -8,3 +8,6 @@ returns-clause-eps g c = ((c.requires.1 c.args.keys).1 c.index.result c.index.en
 
 pub returns-clause-eps_rec : goal.returns-clause-eps_rec
 returns-clause-eps_rec g c = ((c.requires.1 c.args.keys).1 c.index.result c.index.ensures).eps_rec
+
+pub returns-clause-index : goal.returns-clause-index
+returns-clause-index g c = ((c.requires.1 c.args.keys).1 c.index.result c.index.ensures).index
