@@ -45,8 +45,9 @@ def script(rng, verbs):
     return ("\n".join(lines) + rng.choice(("", "\n", "\r\n"))).encode()
 
 
-def box_script(rng, dims):
-    lines = ["box " + " ".join(str(rng.randrange(16)) for _ in range(2 * dims)) for _ in range(rng.randrange(6))]
+def points_script(rng, command, dims):
+    count = 2 * dims if command == "box" else dims + 1
+    lines = [" ".join([command] + [str(rng.randrange(16)) for _ in range(count)]) for _ in range(rng.randrange(6))]
     return ("\n".join(lines) + "\n").encode()
 
 
@@ -74,22 +75,22 @@ def damaged(rng, good):
 
 def case(rng):
     """The words, and the files by their names."""
-    command = rng.choice(("build", "explain", "query", "box", "replay"))
+    command = rng.choice(("build", "explain", "query", "relax", "box", "near", "replay"))
     eps = ["--eps", str(rng.choice((0, 1, 4, 64, 1048576)))] if rng.random() < 0.8 else []
     if command == "replay":
         verbs = [("put", 2), ("del", 1), ("sweep", 2), ("get", 1), ("next", 1), ("count", 2)]
         return [command, "script", "--levels", str(rng.choice((1, 2, 26)))], {"script": damaged(rng, script(rng, verbs))}
-    if command == "box":
+    if command in ("box", "near"):
         dims = rng.choice((2, 3, 4))
-        files = {"file": damaged(rng, point_file(rng, dims)), "script": damaged(rng, box_script(rng, dims))}
+        files = {"file": damaged(rng, point_file(rng, dims)), "script": damaged(rng, points_script(rng, command, dims))}
         return [command, "file", "script", "--dims", str(dims)], files
     wide = rng.random() < 0.7
     files = {"file": damaged(rng, key_file(rng, wide))}
     words = [command, "file"] + eps + ([] if wide else ["--narrow"])
-    if command == "query":
+    if command in ("query", "relax"):
         files["script"] = damaged(rng, script(rng, [("find", 1)]))
         words[2:2] = ["script"]
-        words += rng.choice(([], ["--windows"], ["--buckets", "8"]))
+        words += rng.choice(([], ["--windows"], ["--buckets", "8"]) if command == "query" else ([], ["--pieces", "3"], ["--pieces", "65536"]))
     return words, files
 
 

@@ -51,6 +51,8 @@ def rows():
         (["query", "data/primes.keys", "SCRIPT", "--eps", "4", "--buckets", "8"], "find 7\nfind 99991\n"),
         (["query", "data/primes.keys", "SCRIPT"], "find 7\nfind 99991\n"),
         (["box", "data/gaussian.points", "data/gaussian.boxes"], None),
+        (["relax", "data/primes.keys", "data/primes.finds", "--eps", "4", "--workers", "2", "--pieces", "5"], None),
+        (["near", "data/gaussian.points", "data/gaussian.centres"], None),
         (["replay", "SCRIPT", "--levels", "4", "--workers", "2"], puts + "sweep 100 200\nget 7\nnext 100\ncount 0 999\n"),
         (["replay", "SCRIPT", "--levels", "4", "--workers", "2", "--batch", "99", "--readers", "2"], puts + "get 7\nnext 100\n"),
         (["drill", "300", "7", "--workers", "2"], None),

@@ -24,11 +24,11 @@ use Rattle.clap.specs.declared.parser.matches.ArgMatches.{ArgMatches}
 use Rattle.clap.specs.declared.parser.matches.ArgMatches.TheViews.{out-ArgMatches, out-SubCommand}
 use Rattle.clap.specs.declared.parser.matches.SubCommand.{SubCommand}
 use Rattle.exact_cross.specs.declared.TheConstants.{MAX_EPSILON}
-use Rattle.command_line.specs.Application.{application, box_rules, build_rules, drill_rules, query_rules, replay_rules}
+use Rattle.command_line.specs.Application.{application, build_rules, drill_rules, points_rules, query_rules, relax_rules, replay_rules}
 use Rattle.command_line.specs.declared.request.Request as declared
 use Rattle.command_line.specs.Requests.{Request, asked_of, request_for}
 use Rattle.command_line.specs.Words.{AreTaken, AskFor, request_of}
-use Rattle.command_line.specs.Passed.{ArePassed, AreDrillOptions, AreIndexOptions, AreQueryOptions, AreReplayOptions, IsDimensionOption}
+use Rattle.command_line.specs.Passed.{ArePassed, AreDrillOptions, AreIndexOptions, AreQueryOptions, AreReplayOptions, IsDimensionOption, IsPiecesOption}
 use Rattle.command_line.proofs.PassedRows.{all_set, level_good, quiet}
 use Rattle.command_line.proofs.OptionReads.{number_reads, flag_reads, takes_numbers, takes_flag}
 
@@ -119,7 +119,9 @@ abbrev pub IsCommand : Text × List Row → Type 0
 IsCommand p = ((p.0 ≡ codes "build") × AreIndexOptions p.1)
     ⊎ ((p.0 ≡ codes "explain") × AreIndexOptions p.1)
     ⊎ ((p.0 ≡ codes "query") × AreIndexOptions p.1 × AreQueryOptions p.1)
+    ⊎ ((p.0 ≡ codes "relax") × AreIndexOptions p.1 × IsPiecesOption p.1)
     ⊎ ((p.0 ≡ codes "box") × IsDimensionOption p.1)
+    ⊎ ((p.0 ≡ codes "near") × IsDimensionOption p.1)
     ⊎ ((p.0 ≡ codes "replay") × AreReplayOptions p.1)
     ⊎ ((p.0 ≡ codes "drill") × AreDrillOptions p.1)
 
@@ -140,6 +142,9 @@ build_filled = filled_from 1 build_rules
 abbrev query_filled : List Rule
 query_filled = filled_from 1 query_rules
 
+abbrev relax_filled : List Rule
+relax_filled = filled_from 1 relax_rules
+
 query_options : (rows : List Row) → ArePassed query_filled rows → AreQueryOptions rows
 unfolding clap_on_literals
 query_options rows passed = record {
@@ -147,8 +152,8 @@ query_options rows passed = record {
   buckets = number_reads query_filled 0 20 (codes "buckets") rows refl passed;
 }
 
-abbrev box_filled : List Rule
-box_filled = filled_from 1 box_rules
+abbrev points_filled : List Rule
+points_filled = filled_from 1 points_rules
 
 abbrev replay_filled : List Rule
 replay_filled = filled_from 1 replay_rules
@@ -179,12 +184,13 @@ is_command : (p : Text × List Row) → SomeShape (built application).subs (IsOf
 unfolding clap_on_literals
 is_command p (inl s) = inl (s.name, index_options build_filled p.1 refl refl refl refl s.passed)
 is_command p (inr (inl s)) = inr (inl (s.name, index_options build_filled p.1 refl refl refl refl s.passed))
-is_command p (inr (inr (inl s))) =
-    inr (inr (inl (s.name, index_options query_filled p.1 refl refl refl refl s.passed, query_options p.1 s.passed)))
-is_command p (inr (inr (inr (inl s)))) = inr (inr (inr (inl (s.name, number_reads box_filled 2 4 (codes "dims") p.1 refl s.passed))))
-is_command p (inr (inr (inr (inr (inl s))))) = inr (inr (inr (inr (inl (s.name, replay_options p.1 s.passed)))))
-is_command p (inr (inr (inr (inr (inr (inl s)))))) = inr (inr (inr (inr (inr (s.name, drill_options p.1 s.passed)))))
-is_command p (inr (inr (inr (inr (inr (inr none)))))) = absurd none
+is_command p (inr (inr (inl s))) = inr (inr (inl (s.name, index_options query_filled p.1 refl refl refl refl s.passed, query_options p.1 s.passed)))
+is_command p (inr (inr (inr (inl s)))) = inr (inr (inr (inl (s.name, index_options relax_filled p.1 refl refl refl refl s.passed, number_reads relax_filled 1 65536 (codes "pieces") p.1 refl s.passed))))
+is_command p (inr (inr (inr (inr (inl s))))) = inr (inr (inr (inr (inl (s.name, number_reads points_filled 2 4 (codes "dims") p.1 refl s.passed)))))
+is_command p (inr (inr (inr (inr (inr (inl s)))))) = inr (inr (inr (inr (inr (inl (s.name, number_reads points_filled 2 4 (codes "dims") p.1 refl s.passed))))))
+is_command p (inr (inr (inr (inr (inr (inr (inl s))))))) = inr (inr (inr (inr (inr (inr (inl (s.name, replay_options p.1 s.passed)))))))
+is_command p (inr (inr (inr (inr (inr (inr (inr (inl s)))))))) = inr (inr (inr (inr (inr (inr (inr (s.name, drill_options p.1 s.passed)))))))
+is_command p (inr (inr (inr (inr (inr (inr (inr (inr none)))))))) = absurd none
 
 once_all : list_all sets_once (built application).subs ≡ true
 unfolding clap_on_literals
@@ -201,7 +207,9 @@ asks p (inr (inl c)) = (_, ap (λ (name : Text). request_for name p.1) c.0)
 asks p (inr (inr (inl c))) = (_, ap (λ (name : Text). request_for name p.1) c.0)
 asks p (inr (inr (inr (inl c)))) = (_, ap (λ (name : Text). request_for name p.1) c.0)
 asks p (inr (inr (inr (inr (inl c))))) = (_, ap (λ (name : Text). request_for name p.1) c.0)
-asks p (inr (inr (inr (inr (inr c))))) = (_, ap (λ (name : Text). request_for name p.1) c.0)
+asks p (inr (inr (inr (inr (inr (inl c)))))) = (_, ap (λ (name : Text). request_for name p.1) c.0)
+asks p (inr (inr (inr (inr (inr (inr (inl c))))))) = (_, ap (λ (name : Text). request_for name p.1) c.0)
+asks p (inr (inr (inr (inr (inr (inr (inr c))))))) = (_, ap (λ (name : Text). request_for name p.1) c.0)
 
 pub words_ask : (words : List Text) → AreTaken words → (request : Request) × AskFor words request
 words_ask words taken = go (subcommand_of application words) refl
@@ -249,7 +257,9 @@ has_build p (inr (inl c)) same = other_name p _ _ c.0 refl same
 has_build p (inr (inr (inl c))) same = other_name p _ _ c.0 refl same
 has_build p (inr (inr (inr (inl c)))) same = other_name p _ _ c.0 refl same
 has_build p (inr (inr (inr (inr (inl c))))) same = other_name p _ _ c.0 refl same
-has_build p (inr (inr (inr (inr (inr c))))) same = other_name p _ _ c.0 refl same
+has_build p (inr (inr (inr (inr (inr (inl c)))))) same = other_name p _ _ c.0 refl same
+has_build p (inr (inr (inr (inr (inr (inr (inl c))))))) same = other_name p _ _ c.0 refl same
+has_build p (inr (inr (inr (inr (inr (inr (inr c))))))) same = other_name p _ _ c.0 refl same
 
 pub has_explain : (p : Text × List Row) → IsCommand p → bytes_eq p.0 (codes "explain") ≡ true → AreIndexOptions p.1
 has_explain p (inl c) same = other_name p _ _ c.0 refl same
@@ -257,7 +267,9 @@ has_explain p (inr (inl c)) same = c.1
 has_explain p (inr (inr (inl c))) same = other_name p _ _ c.0 refl same
 has_explain p (inr (inr (inr (inl c)))) same = other_name p _ _ c.0 refl same
 has_explain p (inr (inr (inr (inr (inl c))))) same = other_name p _ _ c.0 refl same
-has_explain p (inr (inr (inr (inr (inr c))))) same = other_name p _ _ c.0 refl same
+has_explain p (inr (inr (inr (inr (inr (inl c)))))) same = other_name p _ _ c.0 refl same
+has_explain p (inr (inr (inr (inr (inr (inr (inl c))))))) same = other_name p _ _ c.0 refl same
+has_explain p (inr (inr (inr (inr (inr (inr (inr c))))))) same = other_name p _ _ c.0 refl same
 
 pub has_query : (p : Text × List Row) → IsCommand p → bytes_eq p.0 (codes "query") ≡ true → AreIndexOptions p.1 × AreQueryOptions p.1
 has_query p (inl c) same = other_name p _ _ c.0 refl same
@@ -265,23 +277,49 @@ has_query p (inr (inl c)) same = other_name p _ _ c.0 refl same
 has_query p (inr (inr (inl c))) same = (c.1, c.2)
 has_query p (inr (inr (inr (inl c)))) same = other_name p _ _ c.0 refl same
 has_query p (inr (inr (inr (inr (inl c))))) same = other_name p _ _ c.0 refl same
-has_query p (inr (inr (inr (inr (inr c))))) same = other_name p _ _ c.0 refl same
+has_query p (inr (inr (inr (inr (inr (inl c)))))) same = other_name p _ _ c.0 refl same
+has_query p (inr (inr (inr (inr (inr (inr (inl c))))))) same = other_name p _ _ c.0 refl same
+has_query p (inr (inr (inr (inr (inr (inr (inr c))))))) same = other_name p _ _ c.0 refl same
+
+pub has_relax : (p : Text × List Row) → IsCommand p → bytes_eq p.0 (codes "relax") ≡ true → AreIndexOptions p.1 × IsPiecesOption p.1
+has_relax p (inl c) same = other_name p _ _ c.0 refl same
+has_relax p (inr (inl c)) same = other_name p _ _ c.0 refl same
+has_relax p (inr (inr (inl c))) same = other_name p _ _ c.0 refl same
+has_relax p (inr (inr (inr (inl c)))) same = (c.1, c.2)
+has_relax p (inr (inr (inr (inr (inl c))))) same = other_name p _ _ c.0 refl same
+has_relax p (inr (inr (inr (inr (inr (inl c)))))) same = other_name p _ _ c.0 refl same
+has_relax p (inr (inr (inr (inr (inr (inr (inl c))))))) same = other_name p _ _ c.0 refl same
+has_relax p (inr (inr (inr (inr (inr (inr (inr c))))))) same = other_name p _ _ c.0 refl same
 
 pub has_box : (p : Text × List Row) → IsCommand p → bytes_eq p.0 (codes "box") ≡ true → IsDimensionOption p.1
 has_box p (inl c) same = other_name p _ _ c.0 refl same
 has_box p (inr (inl c)) same = other_name p _ _ c.0 refl same
 has_box p (inr (inr (inl c))) same = other_name p _ _ c.0 refl same
-has_box p (inr (inr (inr (inl c)))) same = c.1
-has_box p (inr (inr (inr (inr (inl c))))) same = other_name p _ _ c.0 refl same
-has_box p (inr (inr (inr (inr (inr c))))) same = other_name p _ _ c.0 refl same
+has_box p (inr (inr (inr (inl c)))) same = other_name p _ _ c.0 refl same
+has_box p (inr (inr (inr (inr (inl c))))) same = c.1
+has_box p (inr (inr (inr (inr (inr (inl c)))))) same = other_name p _ _ c.0 refl same
+has_box p (inr (inr (inr (inr (inr (inr (inl c))))))) same = other_name p _ _ c.0 refl same
+has_box p (inr (inr (inr (inr (inr (inr (inr c))))))) same = other_name p _ _ c.0 refl same
+
+pub has_near : (p : Text × List Row) → IsCommand p → bytes_eq p.0 (codes "near") ≡ true → IsDimensionOption p.1
+has_near p (inl c) same = other_name p _ _ c.0 refl same
+has_near p (inr (inl c)) same = other_name p _ _ c.0 refl same
+has_near p (inr (inr (inl c))) same = other_name p _ _ c.0 refl same
+has_near p (inr (inr (inr (inl c)))) same = other_name p _ _ c.0 refl same
+has_near p (inr (inr (inr (inr (inl c))))) same = other_name p _ _ c.0 refl same
+has_near p (inr (inr (inr (inr (inr (inl c)))))) same = c.1
+has_near p (inr (inr (inr (inr (inr (inr (inl c))))))) same = other_name p _ _ c.0 refl same
+has_near p (inr (inr (inr (inr (inr (inr (inr c))))))) same = other_name p _ _ c.0 refl same
 
 pub has_replay : (p : Text × List Row) → IsCommand p → bytes_eq p.0 (codes "replay") ≡ true → AreReplayOptions p.1
 has_replay p (inl c) same = other_name p _ _ c.0 refl same
 has_replay p (inr (inl c)) same = other_name p _ _ c.0 refl same
 has_replay p (inr (inr (inl c))) same = other_name p _ _ c.0 refl same
 has_replay p (inr (inr (inr (inl c)))) same = other_name p _ _ c.0 refl same
-has_replay p (inr (inr (inr (inr (inl c))))) same = c.1
-has_replay p (inr (inr (inr (inr (inr c))))) same = other_name p _ _ c.0 refl same
+has_replay p (inr (inr (inr (inr (inl c))))) same = other_name p _ _ c.0 refl same
+has_replay p (inr (inr (inr (inr (inr (inl c)))))) same = other_name p _ _ c.0 refl same
+has_replay p (inr (inr (inr (inr (inr (inr (inl c))))))) same = c.1
+has_replay p (inr (inr (inr (inr (inr (inr (inr c))))))) same = other_name p _ _ c.0 refl same
 
 pub has_drill : (p : Text × List Row) → IsCommand p → bytes_eq p.0 (codes "drill") ≡ true → AreDrillOptions p.1
 has_drill p (inl c) same = other_name p _ _ c.0 refl same
@@ -289,7 +327,9 @@ has_drill p (inr (inl c)) same = other_name p _ _ c.0 refl same
 has_drill p (inr (inr (inl c))) same = other_name p _ _ c.0 refl same
 has_drill p (inr (inr (inr (inl c)))) same = other_name p _ _ c.0 refl same
 has_drill p (inr (inr (inr (inr (inl c))))) same = other_name p _ _ c.0 refl same
-has_drill p (inr (inr (inr (inr (inr c))))) same = c.1
+has_drill p (inr (inr (inr (inr (inr (inl c)))))) same = other_name p _ _ c.0 refl same
+has_drill p (inr (inr (inr (inr (inr (inr (inl c))))))) same = other_name p _ _ c.0 refl same
+has_drill p (inr (inr (inr (inr (inr (inr (inr c))))))) same = c.1
 
 -- words that are taken are never refused for their command
 pub never_refused : {E : Type 0} (words : List Text) (found : Option declared.Request) (e : E) → AreTaken words → option_map asked_of found ≡ request_of words →

@@ -48,9 +48,13 @@ abbrev pub query_rules : List Rule
 query_rules = build_rules ++ positional (codes "SCRIPT") ∷ flag (codes "windows")
     ∷ number (codes "buckets") 0 20 (codes "0") ∷ []
 
--- a file of points with so many coordinates each, and a script of boxes
-abbrev pub box_rules : List Rule
-box_rules = positional (codes "FILE") ∷ positional (codes "SCRIPT") ∷ number (codes "dims") 2 4 (codes "2") ∷ []
+-- and a script of questions, and into how many pieces the points are cut
+abbrev pub relax_rules : List Rule
+relax_rules = build_rules ++ positional (codes "SCRIPT") ∷ number (codes "pieces") 1 65536 (codes "4") ∷ []
+
+-- a file of points with so many coordinates each, and a script of what is asked of them
+abbrev pub points_rules : List Rule
+points_rules = positional (codes "FILE") ∷ positional (codes "SCRIPT") ∷ number (codes "dims") 2 4 (codes "2") ∷ []
 
 -- a script of updates and questions, how many levels the map has that they are made to and asked of, and how many updates a batch has
 abbrev pub batch_rules : List Rule
@@ -70,7 +74,8 @@ drill_rules = drawn_rules ++ bounds_rules
 
 abbrev pub commands : List Shape
 commands = command (codes "build") build_rules ∷ command (codes "explain") build_rules
-    ∷ command (codes "query") query_rules ∷ command (codes "box") box_rules
+    ∷ command (codes "query") query_rules ∷ command (codes "relax") relax_rules
+    ∷ command (codes "box") points_rules ∷ command (codes "near") points_rules
     ∷ command (codes "replay") replay_rules ∷ command (codes "drill") drill_rules ∷ []
 
 -- the program before its commands. No public clause cites it

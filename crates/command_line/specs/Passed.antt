@@ -39,6 +39,10 @@ pub record AreQueryOptions (rows : List Row) : Type 0 where
 abbrev pub IsDimensionOption : List Row → Type 0
 IsDimensionOption rows = IsNumberIn 2 4 (codes "dims") rows
 
+-- what the option of a relaxed index holds, beside those of an index
+abbrev pub IsPiecesOption : List Row → Type 0
+IsPiecesOption rows = IsNumberIn 1 65536 (codes "pieces") rows
+
 -- what the options of a replay hold
 pub record AreReplayOptions (rows : List Row) : Type 0 where
   pub levels : IsNumberIn 1 26 (codes "levels") rows

@@ -17,7 +17,7 @@ pub record Building : Type 0 where
   pub eps : ℕ
   pub eps_rec : ℕ
 
--- a file of points with `dims` coordinates each, and a script of boxes
+-- a file of points with `dims` coordinates each, and a script of what is asked of them
 pub record Searching : Type 0 where
   pub file : Text
   pub script : Text
@@ -42,7 +42,9 @@ pub data Request : Type 0 where
   build : (building : Building) → Request
   explain : (building : Building) → Request
   query : (building : Building) (script : Text) (windows : Bool) → Request
+  relax : (building : Building) (script : Text) (pieces : ℕ) → Request
   box : (searching : Searching) → Request
+  near : (searching : Searching) → Request
   replay : (replaying : Replaying) → Request
   drill : (drilling : Drilling) → Request
 
@@ -66,6 +68,9 @@ building_of rows = record {
 
 abbrev pub query_of : List Row → Request
 query_of rows = query (building_of rows) (name_in (codes "SCRIPT") rows) (is_given (codes "windows") rows)
+
+abbrev pub relax_of : List Row → Request
+relax_of rows = relax (building_of rows) (name_in (codes "SCRIPT") rows) (number_in (codes "pieces") 4 rows)
 
 abbrev pub searching_of : List Row → Searching
 searching_of rows = record {
@@ -96,9 +101,11 @@ request_for name rows =
     if bytes_eq name (codes "build") then Some (build (building_of rows))
     else (if bytes_eq name (codes "explain") then Some (explain (building_of rows))
     else (if bytes_eq name (codes "query") then Some (query_of rows)
+    else (if bytes_eq name (codes "relax") then Some (relax_of rows)
     else (if bytes_eq name (codes "box") then Some (box (searching_of rows))
+    else (if bytes_eq name (codes "near") then Some (near (searching_of rows))
     else (if bytes_eq name (codes "replay") then Some (replay (replaying_of rows))
-    else (if bytes_eq name (codes "drill") then Some (drill (drilling_of rows)) else None)))))
+    else (if bytes_eq name (codes "drill") then Some (drill (drilling_of rows)) else None)))))))
 
 -- the request that the program's own type stands for
 abbrev pub built_of : declared_building.Building → Building
@@ -117,7 +124,9 @@ abbrev pub asked_of : declared.Request → Request
 asked_of (variant.Build building) = build (built_of building)
 asked_of (variant.Explain building) = explain (built_of building)
 asked_of (variant.Query building script windows table) = query (built_of building) script.now windows
+asked_of (variant.Relax building script pieces) = relax (built_of building) script.now pieces.count
 asked_of (variant.Box searching) = box (searched_of searching)
+asked_of (variant.Near searching) = near (searched_of searching)
 asked_of (variant.Replay replaying) = replay (replayed_of replaying)
 asked_of (variant.Drill drilling) = drill (drilled_of drilling)
 
@@ -126,6 +135,8 @@ abbrev pub first_file : Request → Option Text
 first_file (build building) = Some building.file
 first_file (explain building) = Some building.file
 first_file (query building script windows) = Some building.file
+first_file (relax building script pieces) = Some building.file
 first_file (box searching) = Some searching.file
+first_file (near searching) = Some searching.file
 first_file (replay replaying) = Some replaying.script
 first_file (drill drilling) = None

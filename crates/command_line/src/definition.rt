@@ -3,7 +3,8 @@ ghost use Rattle.std.specs.Prelude.{◌≡◌, ◌<◌, ◌∷◌, ◌++◌, ◌
 ghost use Rattle.clap.specs.Words.{app_of, rule_of};
 ghost use Rattle.clap.specs.declared.builder.command.Command.TheViews.{out-Command};
 ghost use Rattle.command_line.specs.Application.{application, build_rules, index_rules};
-ghost use Rattle.command_line.specs.Application.{query_rules, box_rules, replay_rules, command};
+ghost use Rattle.command_line.specs.Application.{query_rules, relax_rules, points_rules};
+ghost use Rattle.command_line.specs.Application.{replay_rules, command};
 ghost use Rattle.command_line.specs.Application.{flag, number, positional};
 ghost use Rattle.command_line.specs.Application.{bare_program, batch_rules};
 ghost use Rattle.command_line.specs.Application.{drawn_rules, drill_rules};
@@ -23,6 +24,9 @@ const MOST_READERS: u32 = 16;
 /// How many bits of a key a table goes by at most.
 const MOST_BITS: u32 = 20;
 
+/// Into how many pieces points are cut at most.
+const MOST_PIECES: u32 = 65_536;
+
 /// How many inputs of each kind a drill draws at most.
 const MOST_DRAWN: u32 = 1_000_000;
 
@@ -37,7 +41,9 @@ pub fn application<'a>(alloc: Global) -> Result<Command<'a>, AllocError>
         .subcommand(index_command(alloc, "build")?)?
         .subcommand(index_command(alloc, "explain")?)?
         .subcommand(query_command(alloc)?)?
-        .subcommand(box_command(alloc)?)?
+        .subcommand(relax_command(alloc)?)?
+        .subcommand(points_command(alloc, "box")?)?
+        .subcommand(points_command(alloc, "near")?)?
         .subcommand(replay_command(alloc)?)?
         .subcommand(drill_command(alloc)?)
 }
@@ -86,12 +92,23 @@ fn query_command<'a>(alloc: Global) -> Result<Command<'a>, AllocError>
         .arg(number(alloc, "buckets", 0, MOST_BITS, "0"))
 }
 
-fn box_command<'a>(alloc: Global) -> Result<Command<'a>, AllocError>
+fn relax_command<'a>(alloc: Global) -> Result<Command<'a>, AllocError>
     ensures shape { IfOk result
-        (λ made. app_of made ≡ record { top = command (codes "box") box_rules; subs = [] }) }
+        (λ made. app_of made ≡ record { top = command (codes "relax") relax_rules; subs = [] }) }
     ensures local { IfOk result (λ made. (out-Command made).has_globals ≡ false) }
 {
-    Command::new(alloc, "box")
+    index_command(alloc, "relax")?
+        .arg(positional(alloc, "SCRIPT"))?
+        .arg(number(alloc, "pieces", 1, MOST_PIECES, "4"))
+}
+
+// A command over a file of points.
+fn points_command<'a>(alloc: Global, name: &'a str) -> Result<Command<'a>, AllocError>
+    ensures shape { IfOk result
+        (λ made. app_of made ≡ record { top = command name.entry.now points_rules; subs = [] }) }
+    ensures local { IfOk result (λ made. (out-Command made).has_globals ≡ false) }
+{
+    Command::new(alloc, name)
         .arg(positional(alloc, "FILE"))?
         .arg(positional(alloc, "SCRIPT"))?
         .arg(number(alloc, "dims", 2, 4, "2"))

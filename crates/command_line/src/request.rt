@@ -29,7 +29,16 @@ pub struct Table {
     pub ghost few: { bits ≤ 20 },
 }
 
-/// A file of points, and a script of boxes to search them.
+/// Into how many even pieces the points of a relaxed index are cut.
+#[derive(Clone, Copy, Debug)]
+pub struct Pieces {
+    /// From 1 to 65,536.
+    pub count: u32,
+    pub ghost some: { 1 ≤ count },
+    pub ghost few: { count ≤ 65536 },
+}
+
+/// A file of points, and a script of what is asked of them.
 #[derive(Clone, Copy, Debug)]
 pub struct Searching<'a> {
     /// The name of the file of points.
@@ -108,8 +117,20 @@ pub enum Request<'a> {
         /// How the segments are found.
         table: Table,
     },
+    /// Write what [`Request::Build`] writes of a relaxed index, how many runs its level 0 may have
+    /// too many, and the position of each question's key in the file.
+    Relax {
+        building: Building<'a>,
+        /// The name of the script of questions.
+        script: &'a str,
+        pieces: Pieces,
+    },
     /// Write the points in each box of a script.
     Box {
+        searching: Searching<'a>,
+    },
+    /// Write the points that are nearest to each centre of a script.
+    Near {
         searching: Searching<'a>,
     },
     /// Write what the questions of a script get beside its updates and after all of them.

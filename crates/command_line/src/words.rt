@@ -6,16 +6,18 @@ ghost use Rattle.clap.specs.Words.{Text, found_of, rows_of, subcommand_of, subco
 ghost use Rattle.exact_cross.specs.declared.TheConstants.{MAX_EPSILON};
 ghost use Rattle.command_line.specs.Application.{application};
 ghost use Rattle.command_line.specs.Requests.{asked_of, building_of, built_of, is_given, name_in};
-ghost use Rattle.command_line.specs.Requests.{number_in, query_of, request_for, searched_of};
-ghost use Rattle.command_line.specs.Requests.{searching_of, replayed_of, replaying_of};
+ghost use Rattle.command_line.specs.Requests.{number_in, query_of, relax_of, request_for};
+ghost use Rattle.command_line.specs.Requests.{searched_of, searching_of, replayed_of};
+ghost use Rattle.command_line.specs.Requests.{replaying_of};
 ghost use Rattle.command_line.specs.Words.{AreRefused, AreTaken, AskFor, request_of};
 ghost use Rattle.command_line.specs.Passed.{AreIndexOptions, AreQueryOptions, AreReplayOptions};
 ghost use Rattle.command_line.specs.Passed.{IsDimensionOption, IsFlag, IsNumberIn};
+ghost use Rattle.command_line.specs.Passed.{IsPiecesOption};
 ghost use Rattle.command_line.specs.Passed.{AreDrillOptions};
 ghost use Rattle.command_line.specs.Requests.{drilled_of, drilling_of};
 
 use crate::definition::application;
-use crate::request::{Building, Drilling, Replaying, Request, Searching, Table};
+use crate::request::{Building, Drilling, Pieces, Replaying, Request, Searching, Table};
 use clap::ArgMatches;
 use clap::error::ErrorKind;
 use std::alloc::{AllocError, Global};
@@ -76,9 +78,14 @@ fn request_in<'a>(matches: &ArgMatches<'a>) -> Option<Request<'a>>
         Some(Request::Explain { building })
     } else if name == "query" {
         Some(query_in(found))
+    } else if name == "relax" {
+        Some(relax_in(found))
     } else if name == "box" {
         let searching = searching_in(found);
         Some(Request::Box { searching })
+    } else if name == "near" {
+        let searching = searching_in(found);
+        Some(Request::Near { searching })
     } else if name == "replay" {
         let replaying = replaying_in(found);
         Some(Request::Replay { replaying })
@@ -100,6 +107,27 @@ fn query_in<'a>(found: &ArgMatches<'a>) -> Request<'a>
         script: name_in(found, "SCRIPT"),
         windows: is_given(found, "windows"),
         table: table_in(found),
+    }
+}
+
+fn relax_in<'a>(found: &ArgMatches<'a>) -> Request<'a>
+    requires index { AreIndexOptions (rows_of (found_of found.now)) }
+    requires pieces { IsPiecesOption (rows_of (found_of found.now)) }
+    ensures { asked_of result ≡ relax_of (rows_of (found_of found.now)) }
+{
+    Request::Relax {
+        building: building_in(found),
+        script: name_in(found, "SCRIPT"),
+        pieces: pieces_in(found),
+    }
+}
+
+fn pieces_in(found: &ArgMatches<'_>) -> Pieces
+    requires { IsPiecesOption (rows_of (found_of found.now)) }
+    ensures { result.count ≡ number_in (codes "pieces") 4 (rows_of (found_of found.now)) }
+{
+    Pieces {
+        count: number_in(found, "pieces", 4),
     }
 }
 

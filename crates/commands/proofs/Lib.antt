@@ -7,4 +7,5 @@ pub mod ReplayLemmas
 pub mod SearchLemmas
 pub mod WritingLemmas
 pub mod OneDrill
+pub mod SameCuts
 pub mod OneText

@@ -41,3 +41,14 @@ module _ {S : Type 0} (sink : Ghosts S) where
       BreaksOff sink s t (head ∷ later)
   head_broken s t piece head later is broken =
       BreaksOff-more sink s t (head ∷ []) later (subst (λ (p : List ℕ). BreaksOff sink s t (p ∷ [])) is broken)
+
+  -- told pieces behind others
+  pub ok_told_behind : (s t u : S) (first : List (List ℕ)) (T : List (List ℕ) → Type 0) (r : Result (Unit {0}) Failed) → Writes sink s t first →
+      OnOk r ((p : List (List ℕ)) × T p × Writes sink t u p) → OnOk r ((p : List (List ℕ)) × T p × Writes sink s u (first ++ p))
+  ok_told_behind s t u first T (Ok x) one (p, told, two) = (p, told, Writes-append sink s t u first p one two)
+  ok_told_behind s t u first T (Err e) one two = tt
+
+  pub err_told_behind : (s t u : S) (first : List (List ℕ)) (T : List (List ℕ) → Type 0) (r : Result (Unit {0}) Failed) → Writes sink s t first →
+      OnErr r ((p : List (List ℕ)) × T p × BreaksOff sink t u p) → OnErr r ((p : List (List ℕ)) × T p × BreaksOff sink s u (first ++ p))
+  err_told_behind s t u first T (Ok x) one two = tt
+  err_told_behind s t u first T (Err e) one (p, told, two) = (p, told, BreaksOff-append sink s t u first p one two)

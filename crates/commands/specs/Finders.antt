@@ -1,7 +1,12 @@
 -- What finds positions, and whose windows are told.
-use Rattle.std.specs.Prelude.{◌≡◌, ℕ, List}
+use Rattle.std.specs.Prelude.{◌≡◌, ℕ, ◌<◌, List, length}
 use Rattle.std.specs.List.Sorted.{IsNonDecreasing}
-use Rattle.levels.specs.Indexes.{PgmIndex, IsIndex}
+use Rattle.exact_cross.specs.Points.{points_of}
+use Rattle.exact_cross.specs.Segments.{starts_of}
+use Rattle.exact_cross.specs.Checked.{IsCoverWithin}
+use Rattle.key_points.specs.KeyPoints.{xs_of, ys_of}
+use Rattle.piece_join.specs.Cuttings.{AreCutsAt, even_place}
+use Rattle.levels.specs.Indexes.{PgmIndex, IsIndex, IsRelaxedIndex, level_at}
 use Rattle.commands.specs.Tasks.{Bounds}
 use Rattle.commands.specs.declared.finder.Finder.{Finder}
 use Rattle.commands.specs.declared.finder.Finder.TheVariants.{Levels, Sorted, Table}
@@ -19,3 +24,15 @@ pub record IsIndexOf (keys : List ℕ) (bounds : Bounds) (index : PgmIndex) : Ty
   pub of_eps_rec : index.eps_rec ≡ bounds.eps_rec
   pub never_falls : IsNonDecreasing keys
   pub levels : IsIndex keys bounds.eps bounds.eps_rec index.levels
+
+-- the relaxed index of these keys, with these bounds, whose points are cut into so many even pieces at `slack` places
+pub record IsRelaxedOf (keys : List ℕ) (bounds : Bounds) (pieces slack : ℕ) (index : PgmIndex) : Type 0 where
+  pub of_keys : index.keys ≡ keys
+  pub of_eps : index.eps ≡ bounds.eps
+  pub of_eps_rec : index.eps_rec ≡ bounds.eps_rec
+  pub cuts : List ℕ
+  pub count : slack ≡ length cuts
+  pub even : AreCutsAt (length (xs_of keys)) pieces (even_place (length (xs_of keys)) pieces) cuts
+  pub levels : IsRelaxedIndex keys bounds.eps bounds.eps_rec cuts index.levels
+  pub within : 0 < length keys →
+      IsCoverWithin (length cuts) (points_of (xs_of keys) (ys_of keys)) bounds.eps 0 (length (xs_of keys)) (starts_of (level_at index.levels 0))

@@ -4,6 +4,7 @@ use Rattle.zorder.specs.declared.regions.Region.{Region}
 use Rattle.log_levels.specs.declared.update.Update.{Update}
 use Rattle.map_replay.specs.declared.question.Question.{Question}
 use Rattle.commands.specs.declared.task.Bounds as declared_bounds
+use Rattle.commands.specs.declared.task.Centre.{Centre}
 use Rattle.commands.specs.declared.task.Task as declared
 use Rattle.commands.specs.declared.task.Task.TheVariants as variant
 
@@ -17,7 +18,9 @@ pub data Task : Type 0 where
   build : (keys : List ℕ) (bounds : Bounds) → Task
   explain : (keys : List ℕ) (bounds : Bounds) → Task
   query : (keys : List ℕ) (bounds : Bounds) (questions : List ℕ) (windows : Bool) → Task
+  relax : (keys : List ℕ) (bounds : Bounds) (pieces : ℕ) (questions : List ℕ) → Task
   box : (d : ℕ) (coords : List ℕ) (regions : List Region) → Task
+  near : (d : ℕ) (coords : List ℕ) (centres : List Centre) → Task
   replay : (updates : List Update) (questions : List Question) (batch readers : ℕ) → Task
   drill : (n seed : ℕ) (bounds : Bounds) → Task
 
@@ -30,6 +33,8 @@ task_of (variant.Build keys bounds workers) = build keys.keys.items (bounds_of b
 task_of (variant.Explain keys bounds workers) = explain keys.keys.items (bounds_of bounds)
 task_of (variant.Query keys bounds workers questions windows table) =
     query keys.keys.items (bounds_of bounds) questions.items windows
+task_of (variant.Relax keys bounds workers pieces questions) = relax keys.keys.items (bounds_of bounds) pieces.count questions.items
 task_of (variant.Box search) = box search.dims search.coords.items search.regions.items
+task_of (variant.Near neighbours) = near neighbours.dims neighbours.coords.items neighbours.centres.items
 task_of (variant.Replay history) = replay history.updates.items history.questions.items history.batch history.readers
 task_of (variant.Drill d bounds workers) = drill d.number d.seed (bounds_of bounds)

@@ -1,19 +1,24 @@
 -- The text of each task.
 use Rattle.std.specs.Prelude.{ℕ, List}
 use Rattle.commands.specs.Tasks.{Task}
-use Rattle.commands.specs.Tasks.Task.{build, explain, query, box, replay, drill}
+use Rattle.commands.specs.Tasks.Task.{build, explain, query, relax, box, near, replay, drill}
 use Rattle.commands.specs.Texts.Build.{IsBuilt}
 use Rattle.commands.specs.Texts.Explain.{IsExplained}
 use Rattle.commands.specs.Texts.Query.{IsAnswered}
+use Rattle.commands.specs.Texts.Relax.{IsBuiltRelaxed}
 use Rattle.commands.specs.Texts.Regions.{IsSearched}
+use Rattle.commands.specs.Texts.Neighbours.{IsNearest}
 use Rattle.commands.specs.Texts.Replay.{IsReplayed}
 use Rattle.commands.specs.Texts.Drill.{IsDrilled}
 pub mod InTurn
 pub mod Indexing
 pub mod Build
+pub mod Coordinates
 pub mod Explain
 pub mod Query
+pub mod Relax
 pub mod Regions
+pub mod Neighbours
 pub mod Replay
 pub mod Drill
 
@@ -22,6 +27,8 @@ abbrev pub IsText : Task → List (List ℕ) → Type 0
 IsText (build keys bounds) pieces = IsBuilt keys bounds pieces
 IsText (explain keys bounds) pieces = IsExplained keys bounds pieces
 IsText (query keys bounds questions windows) pieces = IsAnswered keys bounds questions windows pieces
+IsText (relax keys bounds parts questions) pieces = IsBuiltRelaxed keys bounds parts questions pieces
 IsText (box d coords regions) pieces = IsSearched d coords regions pieces
+IsText (near d coords centres) pieces = IsNearest d coords centres pieces
 IsText (replay updates questions batch readers) pieces = IsReplayed updates questions batch readers pieces
 IsText (drill n seed bounds) pieces = IsDrilled n seed bounds pieces

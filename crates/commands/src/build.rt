@@ -1,5 +1,5 @@
 // The command `build`.
-ghost use Rattle.std.specs.Prelude.{◌≡◌, ◌∷◌, [], ℕ, List, length, OnOk, OnErr};
+ghost use Rattle.std.specs.Prelude.{◌≡◌, ◌∷◌, [], ℕ, List, length, None, OnOk, OnErr};
 ghost use Rattle.std.specs.List.{flat_map};
 ghost use Rattle.exact_cross.specs.Points.{places};
 ghost use Rattle.written.specs.Writing.{Writes, BreaksOff, WritesText};
@@ -29,24 +29,29 @@ pub fn write<R: Threads + Sync, S: Sink, G: Gate>(
         (IsBuilt sorted.keys.items (bounds_of bounds)) }
 {
     let index = index_of(rt, alloc, sorted, bounds, workers, gate)?;
-    match write_index(out, &index, bounds) {
+    match write_index(out, &index, bounds, None) {
         Ok(()) => Ok(()),
         Err(_) => Err(Unfinished::WriteFault),
     }
 }
 
-// Writes the text line of the keys, and what is told of the levels.
-fn write_index<S: Sink>(out: &mut S, index: &Index, bounds: Bounds) -> Result<(), Failed>
+/// Writes the text line of the keys, and that of each level, where level 0 has a slack or not.
+pub fn write_index<S: Sink>(
+    out: &mut S,
+    index: &Index,
+    bounds: Bounds,
+    slack: Option<u32>,
+) -> Result<(), Failed>
     requires eps { index.now.eps ≡ bounds.eps }
     requires eps_rec { index.now.eps_rec ≡ bounds.eps_rec }
     ensures ok { OnOk result (Writes S.Sink out.old out.new (tells_levels index.now.keys
-        index.now.levels (built_level index.now.keys (bounds_of bounds) index.now.levels))) }
+        index.now.levels (built_level index.now.keys (bounds_of bounds) slack index.now.levels))) }
     ensures err { OnErr result (BreaksOff S.Sink out.old out.new (tells_levels index.now.keys
-        index.now.levels (built_level index.now.keys (bounds_of bounds) index.now.levels))) }
+        index.now.levels (built_level index.now.keys (bounds_of bounds) slack index.now.levels))) }
 {
     let mut line = TextLine::new();
     write_keys(out, &mut line, index)?;
-    write_levels(out, &mut line, index, bounds)
+    write_levels(out, &mut line, index, bounds, slack)
 }
 
 // Writes a text line for each level.
@@ -55,18 +60,19 @@ fn write_levels<S: Sink>(
     line: &mut TextLine,
     index: &Index,
     bounds: Bounds,
+    slack: Option<u32>,
 ) -> Result<(), Failed>
     requires eps { index.now.eps ≡ bounds.eps }
     requires eps_rec { index.now.eps_rec ≡ bounds.eps_rec }
     ensures ok { OnOk result (Writes S.Sink out.old out.new
-        (flat_map (built_level index.now.keys (bounds_of bounds) index.now.levels)
+        (flat_map (built_level index.now.keys (bounds_of bounds) slack index.now.levels)
         (places (length index.now.levels)))) }
     ensures err { OnErr result (BreaksOff S.Sink out.old out.new
-        (flat_map (built_level index.now.keys (bounds_of bounds) index.now.levels)
+        (flat_map (built_level index.now.keys (bounds_of bounds) slack index.now.levels)
         (places (length index.now.levels)))) }
 {
     for i in 0..index.levels() {
-        fill_level_line(line, index, bounds, i);
+        fill_level_line(line, index, bounds, slack, i);
         hand_over(out, line.as_bytes())?;
     }
     Ok(())

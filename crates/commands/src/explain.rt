@@ -107,7 +107,7 @@ fn write_level<S: Sink>(
     ensures err { OnErr result (BreaksOff S.Sink out.old out.new
         (level_lines index.now.keys (bounds_of bounds) index.now.levels i)) }
 {
-    fill_level_line(line, index, bounds, i);
+    fill_level_line(line, index, bounds, None, i);
     hand_over(out, line.as_bytes())?;
     let len = index.list(i).len() as u32;
     write_runs(out, line, index.level(i), len)

@@ -1,9 +1,10 @@
 // What the commands over an index share: building it, and its first text lines.
-ghost use Rattle.std.specs.Prelude.{◌≡◌, ◌∷◌, ◌<◌, [], length, IfOk, OnOk, OnErr};
+ghost use Rattle.std.specs.Prelude.{◌≡◌, ◌∷◌, ◌++◌, ◌<◌, ◌≤◌, [], length, IfOk, OnOk, OnErr};
 ghost use Rattle.levels.specs.Indexes.{IsIndex, level_at, xs_at, eps_at};
 ghost use Rattle.written.specs.Writing.{Writes, BreaksOff};
 ghost use Rattle.commands.specs.Tasks.{bounds_of};
 ghost use Rattle.commands.specs.Texts.Indexing.{keys_line, level_line, level_line_of};
+ghost use Rattle.commands.specs.Texts.Indexing.{slack_at, slack_ending};
 
 use crate::task::{Bounds, SortedKeys, Workers};
 use budget::NoMemory;
@@ -68,12 +69,19 @@ fn fill_keys_line(line: &mut TextLine, index: &Index)
     line.push(b"\n");
 }
 
-/// Fills the text line of level `i`.
-pub fn fill_level_line(line: &mut TextLine, index: &Index, bounds: Bounds, i: u32)
+/// Fills the text line of level `i`, where level 0 has a slack or not.
+pub fn fill_level_line(
+    line: &mut TextLine,
+    index: &Index,
+    bounds: Bounds,
+    slack: Option<u32>,
+    i: u32,
+)
     requires there { i < length index.now.levels }
     requires eps { index.now.eps ≡ bounds.eps }
     requires eps_rec { index.now.eps_rec ≡ bounds.eps_rec }
-    ensures { line.new ≡ level_line_of index.now.keys (bounds_of bounds) index.now.levels i }
+    ensures { line.new
+        ≡ level_line_of index.now.keys (bounds_of bounds) slack index.now.levels i }
 {
     line.clear();
     line.push(b"level");
@@ -84,5 +92,23 @@ pub fn fill_level_line(line: &mut TextLine, index: &Index, bounds: Bounds, i: u3
     line.push_number(if i == 0 { bounds.eps } else { bounds.eps_rec });
     line.push(b" runs");
     line.push_number(index.level(i).len());
+    push_ending(line, slack_at(slack, i));
+}
+
+fn slack_at(slack: Option<u32>, i: u32) -> Option<u32>
+    ensures { result ≡ slack_at slack i }
+{
+    if i == 0 { slack } else { None }
+}
+
+// Ends the text line of a level that has a slack or not.
+fn push_ending(line: &mut TextLine, slack: Option<u32>)
+    requires { length line.old ≤ 128 }
+    ensures { line.new ≡ line.old ++ slack_ending slack }
+{
+    if let Some(slack) = slack {
+        line.push(b" slack");
+        line.push_number(slack);
+    }
     line.push(b"\n");
 }

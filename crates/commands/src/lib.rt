@@ -17,13 +17,16 @@ ghost use Rattle.commands.specs.Tasks.{task_of};
 ghost use Rattle.commands.specs.Texts.{IsText};
 
 mod build;
+mod coordinates;
 mod drill;
 mod explain;
 mod finder;
 mod indexing;
+mod neighbours;
 mod positions;
 mod query;
 mod regions;
+mod relax;
 mod replay;
 mod task;
 
@@ -32,12 +35,16 @@ pub use drill::one_drill;
 use edge::{Gate, Sink};
 pub use explain::one_explain;
 pub use map_replay::Question;
+pub use neighbours::one_near;
 pub use query::one_query;
 pub use regions::one_box;
+pub use relax::one_relaxed;
 use std::alloc::Global;
 use std::sync::Wait;
 use std::thread::Threads;
-pub use task::{Bounds, Drill, History, Search, SortedKeys, Table, Task, Workers};
+pub use task::{
+    Bounds, Centre, Drill, History, Neighbours, Pieces, Search, SortedKeys, Table, Task, Workers,
+};
 use written::Unfinished;
 
 /// Writes the text of the task. An index is built by workers, which pass the gate before and after
@@ -72,7 +79,17 @@ pub fn write<R: Threads + Wait + Sync, S: Sink, G: Gate>(
         } => query::write(
             rt, alloc, keys, bounds, workers, &questions, windows, table, out, gate,
         ),
+        Task::Relax {
+            keys,
+            bounds,
+            workers,
+            pieces,
+            questions,
+        } => relax::write(
+            rt, alloc, keys, bounds, workers, pieces, &questions, out, gate,
+        ),
         Task::Box { search } => regions::write(rt, alloc, search, out),
+        Task::Near { neighbours } => neighbours::write(rt, alloc, neighbours, out),
         Task::Replay { history } => replay::write(rt, alloc, history, out, gate),
         Task::Drill {
             drill,

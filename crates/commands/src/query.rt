@@ -96,8 +96,8 @@ fn write_by_keys<R: Threads + Sync, S: Sink>(
     }
 }
 
-// Writes the text lines of each question. `told` is the index whose windows are told, if they are.
-fn write_answers<S: Sink>(
+/// Writes the text lines of each question. `told` is the index whose windows are told, if they are.
+pub fn write_answers<S: Sink>(
     out: &mut S,
     keys: &[u64],
     bounds: Bounds,

@@ -1,24 +1,22 @@
 // The command `box`.
 ghost use Rattle.std.specs.Prelude.{◌≡◌, ◌∷◌, ◌≤◌, [], ℕ, List, All};
-ghost use Rattle.std.specs.Prelude.{length, map, OnOk, OnErr};
-ghost use Rattle.std.specs.Prelude.{◌+◌, ◌*◌, ◌++◌, codes, decimal, vec_capacity};
-ghost use Rattle.std.specs.List.{join_with_byte};
+ghost use Rattle.std.specs.Prelude.{length, map, vec_capacity, OnOk, OnErr};
 ghost use Rattle.zorder.specs.Codes.{IsCode, IsDimension};
 ghost use Rattle.zorder.specs.declared.regions.Region.{Region as SearchedRegion};
 ghost use Rattle.boxes.specs.BoxAnswers.{codes_inside};
 ghost use Rattle.written.specs.Writing.{Writes, BreaksOff, WritesText};
 ghost use Rattle.commands.specs.PointRegions.{IsRegionOf};
 ghost use Rattle.commands.specs.Texts.InTurn.{TellsEach};
-ghost use Rattle.commands.specs.Texts.Regions.{IsSearched, TellsRegion, box_line};
-ghost use Rattle.commands.specs.Texts.Regions.{point_line, point_words};
+ghost use Rattle.commands.specs.Texts.Regions.{IsSearched, TellsRegion, box_line, point_line};
 
+use crate::coordinates::push_coordinates;
 use crate::task::Search;
 use boxes::Boxes;
 use edge::{Failed, Sink};
 use std::alloc::Global;
 use std::thread::Threads;
 use written::{TextLine, Unfinished, hand_over};
-use zorder::{Region, decode};
+use zorder::Region;
 
 /// Writes the points in each region, and at how many places was looked.
 ///
@@ -152,21 +150,6 @@ fn fill_point_line(line: &mut TextLine, d: u32, code: u64)
     line.push_number(code);
     push_coordinates(line, d, code);
     line.push(b"\n");
-}
-
-// Adds the coordinates of a code, each after a space and of at most ten digits.
-fn push_coordinates(line: &mut TextLine, d: u32, code: u64)
-    requires dimension { IsDimension d }
-    requires code { IsCode d code }
-    requires text { line.old ≡ codes "point" ++ 32 ∷ decimal code }
-    requires room { length line.old ≤ 26 }
-    ensures text { line.new ≡ join_with_byte 32 (point_words d code d) }
-    ensures room { length line.new ≤ 26 + d * 11 }
-{
-    let coordinates = decode(d, code);
-    for c in 0..d {
-        line.push_number(coordinates[c as usize]);
-    }
 }
 
 /// Points and regions have one text of `box`: it depends on nothing else, so not on the order in

@@ -3,7 +3,7 @@ ghost use Rattle.std.specs.Prelude.{◌-◌, ◌<◌, ◌≤◌, ◌^◌, vec_le
 ghost use Rattle.std.specs.List.Sorted.{IsNonDecreasing};
 ghost use Rattle.std.specs.Prelude.{◌≡◌, ◌*◌, ◌/◌, All, length};
 ghost use Rattle.exact_cross.specs.declared.TheConstants.{MAX_EPSILON};
-ghost use Rattle.zorder.specs.Codes.{IsDimension, coordinate_bits};
+ghost use Rattle.zorder.specs.Codes.{IsDimension, IsInRange, coordinate_bits};
 ghost use Rattle.log_levels.specs.Accepted.{entries_of};
 ghost use Rattle.commands.specs.PointRegions.{IsRegionOf};
 
@@ -39,6 +39,14 @@ pub struct Workers {
     pub ghost few: { count ≤ 64 },
 }
 
+/// Into how many even pieces the points of a relaxed index are cut, from 1 to 65,536.
+#[derive(Clone, Copy, Debug)]
+pub struct Pieces {
+    pub count: u32,
+    pub ghost some: { 1 ≤ count },
+    pub ghost few: { count ≤ 65536 },
+}
+
 /// Points, and the regions that are asked for.
 #[derive(Drop)]
 pub struct Search {
@@ -55,8 +63,32 @@ pub struct Search {
     pub ghost each: { All (IsRegionOf dims) regions.items },
 }
 
-/// Whether a table takes the place of the levels above level 0. It is looked into where the table of
-/// the index leaves more than three runs open, and no text depends on it.
+/// A centre, and how many of the points nearest to it are asked for.
+#[derive(Clone, Copy, Debug)]
+pub struct Centre {
+    /// Its coordinates, with 0 for those that points don't have.
+    pub place: [u32; 4],
+    /// How many points are asked for.
+    pub count: u32,
+}
+
+/// Points, and the centres whose nearest points are asked for.
+#[derive(Drop)]
+pub struct Neighbours {
+    /// How many coordinates a point has, from 2 to 4.
+    pub dims: u32,
+    /// All coordinates of the first point, then those of the second, and so on.
+    pub coords: Vec<u32>,
+    /// The centres, in turn.
+    pub centres: Vec<Centre>,
+    pub ghost dimension: { IsDimension dims },
+    pub ghost whole: { length coords.items ≡ dims * (length coords.items / dims) },
+    pub ghost few_points: { length coords.items / dims < 2 ^ 32 },
+    pub ghost range: { All (λ value. value < 2 ^ coordinate_bits dims) coords.items },
+    pub ghost each: { All (λ centre. IsInRange dims centre.place) centres.items },
+}
+
+/// Whether a table takes the place of the levels above level 0. No text depends on it.
 #[derive(Clone, Copy, Debug)]
 pub struct Table {
     /// How many bits of a key the table goes by, at most 20; 0 where there is no table.
@@ -122,9 +154,22 @@ pub enum Task {
         windows: bool,
         table: Table,
     },
+    /// Write how many keys and levels a relaxed index has, of each level how many runs, how many of
+    /// them level 0 may have too many, and the position of each question's key.
+    Relax {
+        keys: SortedKeys,
+        bounds: Bounds,
+        workers: Workers,
+        pieces: Pieces,
+        questions: Vec<u64>,
+    },
     /// Write the points in each region, and at how many places was looked.
     Box {
         search: Search,
+    },
+    /// Write the points that are nearest to each centre, and in how many boxes they are looked for.
+    Near {
+        neighbours: Neighbours,
     },
     /// Write what a map answers beside updates and after them, and how many keys it has.
     Replay {

@@ -6,7 +6,7 @@ use std::test::Fail;
 // Command lines, with a space between two words, and what they ask for: a command, its one or two
 // names, and its numbers, with 1 for a flag that is given. The numbers of an index are its two error
 // bounds, its workers, and whether its keys are narrow.
-const TAKEN: [(&str, &str); 28] = [
+const TAKEN: [(&str, &str); 34] = [
     // All defaults, and another command.
     ("pgmtool explain keys", "explain keys, [64, 4, 4, 0, 0, 0]"),
     ("pgmtool build keys", "build keys, [64, 4, 4, 0, 0, 0]"),
@@ -61,6 +61,19 @@ const TAKEN: [(&str, &str); 28] = [
         "pgmtool query --buckets=20 -  --windows",
         "query -, [64, 4, 4, 0, 1, 20]",
     ),
+    // The pieces of a relaxed index.
+    (
+        "pgmtool relax keys script",
+        "relax keys,script [64, 4, 4, 0, 4, 0]",
+    ),
+    (
+        "pgmtool relax keys --pieces=65536 script --eps 0 --narrow",
+        "relax keys,script [0, 4, 4, 1, 65536, 0]",
+    ),
+    (
+        "pgmtool relax --pieces +01 --workers 64 --rec 0 -- keys script",
+        "relax keys,script [64, 0, 64, 0, 1, 0]",
+    ),
     // How many coordinates a point has.
     (
         "pgmtool box points script",
@@ -77,6 +90,18 @@ const TAKEN: [(&str, &str); 28] = [
     (
         "pgmtool box points --dims +04 -- script",
         "box points,script [4, 0, 0, 0, 0, 0]",
+    ),
+    (
+        "pgmtool near points script",
+        "near points,script [2, 0, 0, 0, 0, 0]",
+    ),
+    (
+        "pgmtool near points --dims=03 script",
+        "near points,script [3, 0, 0, 0, 0, 0]",
+    ),
+    (
+        "pgmtool near --dims 4 -- points script",
+        "near points,script [4, 0, 0, 0, 0, 0]",
     ),
     // Levels, batch, readers and workers.
     (
@@ -120,7 +145,7 @@ const TAKEN: [(&str, &str); 28] = [
 ];
 
 // Command lines that are no command, though each is near one.
-const REFUSED: [(&str, &str); 56] = [
+const REFUSED: [(&str, &str); 66] = [
     ("no command", "pgmtool"),
     ("a command that isn't there", "pgmtool nothing keys"),
     ("a command's name abbreviated", "pgmtool expl keys"),
@@ -154,6 +179,17 @@ const REFUSED: [(&str, &str); 56] = [
         "an option of another command",
         "pgmtool explain keys --windows",
     ),
+    ("a relaxed index without its script", "pgmtool relax keys"),
+    ("no piece", "pgmtool relax keys script --pieces 0"),
+    (
+        "a piece too many",
+        "pgmtool relax keys script --pieces 65537",
+    ),
+    (
+        "windows of a relaxed index",
+        "pgmtool relax keys script --windows",
+    ),
+    ("pieces of a query", "pgmtool query keys script --pieces 4"),
     ("points without boxes", "pgmtool box points"),
     ("one coordinate", "pgmtool box points script --dims 1"),
     ("five coordinates", "pgmtool box points script --dims 5"),
@@ -166,6 +202,20 @@ const REFUSED: [(&str, &str); 56] = [
         "coordinates told twice",
         "pgmtool box points script --dims 2 --dims 2",
     ),
+    ("points without centres", "pgmtool near points"),
+    (
+        "one coordinate of centres",
+        "pgmtool near points script --dims 1",
+    ),
+    (
+        "five coordinates of centres",
+        "pgmtool near points script --dims 5",
+    ),
+    (
+        "how many points as an option",
+        "pgmtool near points script --k 3",
+    ),
+    ("a script of centres too many", "pgmtool near points a b"),
     ("a replay without its script", "pgmtool replay"),
     ("a replay of two scripts", "pgmtool replay script script"),
     ("no level", "pgmtool replay script --levels 0"),
@@ -231,37 +281,43 @@ fn names_of<'a>(request: Request<'a>) -> (&'a str, &'a str, &'a str) {
             script,
             ..
         } => ("query", building.file, script),
+        Request::Relax {
+            building,
+            script,
+            ..
+        } => ("relax", building.file, script),
         Request::Box { searching } => ("box", searching.file, searching.script),
+        Request::Near { searching } => ("near", searching.file, searching.script),
         Request::Replay { replaying } => ("replay", "", replaying.script),
         Request::Drill { .. } => ("drill", "", ""),
     }
 }
 
-fn index_numbers(asked: Building<'_>, windows: bool, bits: u32) -> [u32; 6] {
+// Those of an index, and two more.
+fn index_numbers(asked: Building<'_>, more: u32, last: u32) -> [u32; 6] {
     let narrow = u32::from(asked.narrow);
-    let windows = u32::from(windows);
-    [
-        asked.eps,
-        asked.eps_rec,
-        asked.workers,
-        narrow,
-        windows,
-        bits,
-    ]
+    [asked.eps, asked.eps_rec, asked.workers, narrow, more, last]
 }
 
 fn numbers_of(request: Request<'_>) -> [u32; 6] {
     match request {
         Request::Build { building } | Request::Explain { building } => {
-            index_numbers(building, false, 0)
+            index_numbers(building, 0, 0)
         }
         Request::Query {
             building,
             windows,
             table,
             ..
-        } => index_numbers(building, windows, table.bits),
-        Request::Box { searching } => [searching.dims, 0, 0, 0, 0, 0],
+        } => index_numbers(building, u32::from(windows), table.bits),
+        Request::Relax {
+            building,
+            pieces,
+            ..
+        } => index_numbers(building, pieces.count, 0),
+        Request::Box { searching } | Request::Near { searching } => {
+            [searching.dims, 0, 0, 0, 0, 0]
+        }
         Request::Replay { replaying: asked } => {
             [
                 asked.levels,

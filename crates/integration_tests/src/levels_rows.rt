@@ -4,10 +4,13 @@ ghost use Rattle.std.specs.Prelude.{◌^◌, length, vec_len, IsTrue};
 ghost use Rattle.std.specs.List.Sorted.{IsNonDecreasing};
 
 use crate::common::{index_of, is_ordered, keys_of};
+use crate::piece_join_rows::expect_points;
 use budget::{NoMemory, Steps};
+use cut_witness::slack;
 use edge::OpenGate;
 use exact_cross::MAX_EPSILON;
 use levels::{Index, Keys, positions_among, positions_grouped};
+use piece_join::even_cuts;
 use std::alloc::Global;
 use std::marker::Brand;
 use std::process::Abort;
@@ -107,6 +110,141 @@ fn any_number_of_workers(rt: HostRuntime) -> Result<(), Fail> {
                 "level {level} by {workers}"
             );
         }
+    }
+    Ok(())
+}
+
+/// Keys cut into equal pieces that aren't joined: the slack and how many runs each level has, with
+/// both bounds 0, and the position of a question.
+struct RelaxedRow {
+    keys: &'static [u64],
+    pieces: u32,
+    slack: u32,
+    runs: &'static [usize],
+    found: (u64, u32),
+}
+
+// Two pieces; a piece for each point, where more are asked for; the one piece of all; equal keys,
+// whose closing point is cut off; and no keys.
+const RELAXED_ROWS: [RelaxedRow; 6] = [
+    RelaxedRow {
+        keys: &[0, 1, 4, 9, 16, 25],
+        pieces: 2,
+        slack: 1,
+        runs: &[4, 2, 1],
+        found: (17, 5),
+    },
+    RelaxedRow {
+        keys: &[0, 1, 2, 10],
+        pieces: 2,
+        slack: 1,
+        runs: &[2, 1],
+        found: (3, 3),
+    },
+    RelaxedRow {
+        keys: &[0, 1, 2, 10],
+        pieces: 64,
+        slack: 3,
+        runs: &[4, 2, 1],
+        found: (9, 3),
+    },
+    RelaxedRow {
+        keys: &[0, 1, 4, 9, 16, 25],
+        pieces: 1,
+        slack: 0,
+        runs: &[3, 2, 1],
+        found: (26, 6),
+    },
+    RelaxedRow {
+        keys: &[5, 5, 5],
+        pieces: 2,
+        slack: 1,
+        runs: &[2, 1],
+        found: (6, 3),
+    },
+    RelaxedRow {
+        keys: &[],
+        pieces: 2,
+        slack: 0,
+        runs: &[],
+        found: (5, 0),
+    },
+];
+
+/// The relaxed index of these keys, built by workers, with both bounds 0.
+fn relaxed_of<R: Threads + Abort + AllocGlobal + Sync>(
+    rt: &R,
+    keys: &[u64],
+    pieces: u32,
+    workers: u32,
+) -> Result<Index, NoMemory> {
+    let keys = keys_of(rt, keys)?;
+    let points = keys.xs().len();
+    assert!(rt; points < 2000);
+    assert!(rt; 1 <= pieces && pieces <= 64);
+    assert!(rt; 1 <= workers && workers <= 64);
+    let cuts = even_cuts(rt.alloc(), points as u32, pieces)?;
+    Index::build_relaxed(rt, rt.alloc(), keys, 0, 0, &cuts, workers, &OpenGate)
+}
+
+fn expect_relaxed<R: Threads + Abort + AllocGlobal + Sync>(
+    rt: &R,
+    row: &RelaxedRow,
+    workers: u32,
+) -> Result<(), NoMemory> {
+    let index = relaxed_of(rt, row.keys, row.pieces, workers)?;
+    expect_runs(rt, &index, row.runs);
+    let (q, position) = row.found;
+    assert_eq!(rt; index.position(q), position);
+    if index.levels() > 0 {
+        let (xs, ys) = (index.list(0), index.ranks(0));
+        expect_points(rt, xs, ys);
+        assert_eq!(rt; slack(xs, ys, 0, index.level(0)), Some(row.slack));
+    }
+    Ok(())
+}
+
+#[test]
+fn pieces_that_are_not_joined(rt: HostRuntime) -> Result<(), Fail> {
+    for row in &RELAXED_ROWS {
+        for workers in [1, 2, 3, 64] {
+            expect_relaxed(&rt, row, workers)?;
+        }
+    }
+    Ok(())
+}
+
+/// The starts of the runs of level 0.
+fn starts_of(alloc: Global, index: &Index) -> Result<Vec<u32>, NoMemory> {
+    let mut starts = Vec::new(alloc);
+    if index.levels() > 0 {
+        for segment in index.level(0) {
+            starts.push(segment.start)?;
+        }
+    }
+    Ok(starts)
+}
+
+// Each number of workers gives the same pieces, and their questions the same windows.
+#[test]
+fn relaxed_windows(rt: HostRuntime) -> Result<(), Fail> {
+    let squares = [0, 1, 4, 9, 16, 25];
+    for workers in [1, 2, 3, 64] {
+        let index = relaxed_of(&rt, &squares, 2, workers)?;
+        assert_eq!(rt;
+            starts_of(rt.alloc(), &index)?.as_slice(),
+            [0, 2, 3, 5].as_slice()
+        );
+        let windows = index.windows(rt.alloc(), 17)?;
+        assert_eq!(rt;
+            windows.as_slice(),
+            [(2, 0, 2), (1, 1, 3), (0, 3, 5)].as_slice()
+        );
+        let mut found = Vec::with_capacity(rt.alloc(), 17)?;
+        let qs = [0, 1, 2, 4, 5, 9, 10, 16, 17, 25, 26, 3, 8, 15, 24, 99, 17];
+        index.positions(&qs, &mut found);
+        let positions = [0, 1, 2, 2, 3, 3, 4, 4, 5, 5, 6, 2, 3, 4, 5, 6, 5];
+        assert_eq!(rt; found.as_slice(), positions.as_slice());
     }
     Ok(())
 }

@@ -174,6 +174,73 @@ fn wide_coordinates(rt: HostRuntime) -> Result<(), Fail> {
     Ok(())
 }
 
+// Lines of centres of so many coordinates, at the ends of their ranges, and what they are.
+const CENTRES: [(u32, &[u8], [u32; 4], u32); 6] = [
+    (2, b"near 0 0 0", [0, 0, 0, 0], 0),
+    (2, b"near 2 3 5\r\n", [2, 3, 0, 0], 5),
+    (
+        2,
+        b"near 4294967295 4294967295 4294967295",
+        [u32::MAX, u32::MAX, 0, 0],
+        u32::MAX,
+    ),
+    (
+        3,
+        b"\tnear 2097151  2097151 2097151 0004294967295",
+        [2_097_151, 2_097_151, 2_097_151, 0],
+        u32::MAX,
+    ),
+    (3, b"# near 1\nnear 1 2 3 2097152", [1, 2, 3, 0], 2_097_152),
+    (
+        4,
+        b"near 65535 65535 65535 65535 65536",
+        [65_535, 65_535, 65_535, 65_535],
+        65_536,
+    ),
+];
+
+// Lines that are none, each with what is wrong with it first.
+const NO_CENTRES: [(u32, &[u8], Why); 18] = [
+    (2, b"near", Why::Missing),
+    (2, b"near 1 2", Why::Missing),
+    (3, b"near 1 2 3", Why::Missing),
+    (4, b"near 1 2 3 4", Why::Missing),
+    (2, b"near 1 2 3 4", Why::Extra),
+    (3, b"near 1 2 3 4 5", Why::Extra),
+    (4, b"near 1 2 3 4 5 6", Why::Extra),
+    (2, b"near 1 2 4294967296", Why::Number),
+    (3, b"near 1 2 3 4294967296", Why::Number),
+    (4, b"near 1 2 3 4 4294967296", Why::Number),
+    (2, b"near 1 4294967296 3", Why::Number),
+    (3, b"near 1 2 2097152 4", Why::Number),
+    (4, b"near 65536 2 3 4 5", Why::Number),
+    (2, b"near 4294967296", Why::Number),
+    (2, b"near 1 2 -3", Why::Number),
+    (2, b"near 1 2 3x 4", Why::Number),
+    (2, b"box 1 2 3 4", Why::Word),
+    (2, b"nearest 1 2 3", Why::Word),
+];
+
+#[test]
+fn centres(rt: HostRuntime) -> Result<(), Fail> {
+    for (d, text, centre, k) in CENTRES {
+        assert!(rt; d == 2 || d == 3 || d == 4);
+        let lines = parse(rt.alloc(), ScriptKind::Near(d), text)?;
+        assert_eq!(rt; lines.as_slice(), [ScriptLine::Near(centre, k)].as_slice());
+    }
+    Ok(())
+}
+
+#[test]
+fn no_centres(rt: HostRuntime) -> Result<(), Fail> {
+    for (d, text, why) in NO_CENTRES {
+        assert!(rt; d == 2 || d == 3 || d == 4);
+        let parsed = parse(rt.alloc(), ScriptKind::Near(d), text);
+        assert_eq!(rt; parsed.err(), Some(ScriptFault::At { line: 1, why }));
+    }
+    Ok(())
+}
+
 #[test]
 fn replays(rt: HostRuntime) -> Result<(), Fail> {
     let text = b"put 1 10\ndel 2\nget 3\nnext 4\ncount 5 6\nsweep 7 8";

@@ -60,7 +60,7 @@ fn are_cuts(m: usize, cuts: &[u32]) -> bool
 }
 
 /// Asserts that lists are points.
-fn expect_points(rt: &impl Abort, xs: &[u64], ys: &[u32])
+pub fn expect_points(rt: &impl Abort, xs: &[u64], ys: &[u32])
     ensures same_length { length ys.now ≡ length xs.now }
     ensures rising { IsStrictlyIncreasing xs.now }
     ensures never_falls { IsNonDecreasing ys.now }

@@ -5,9 +5,9 @@
 //! which leads to the first run, and at level 0, where 3 keys are below it.
 //!
 //! Main clauses: `index` of [`Index::build_here`] and of [`Index::build`], `cost` of the former,
-//! `relaxed` of [`Index::build_relaxed`], `found` and `cost` of [`Index::lower_bound`], `windows` of
-//! [`Index::windows`], and the laws [`one_index`] and [`some_index`]. The words of the clauses are in
-//! `specs/`.
+//! `relaxed` of [`Index::build_relaxed`], `found` and `cost` of [`Index::lower_bound`], `windows`
+//! of [`Index::windows`], and the laws [`one_index`] and [`some_index`]. The words of the clauses
+//! are in `specs/`.
 #![tactic(auto)]
 
 mod among;

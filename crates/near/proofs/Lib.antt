@@ -4,3 +4,4 @@ pub mod Distances
 pub mod NearestLemmas
 pub mod WholeRange
 pub mod OneAnswer
+pub mod CallerLemmas

@@ -3,15 +3,15 @@ use Rattle.std.proofs.Common.{◌≡◌, ⊎_elim, ℕ, ◌+◌, ◌^◌, ◌<�
 use Rattle.std.specs.List.{filter}
 use Rattle.std.specs.List.Sorted.{IsNonDecreasingBy, IsPermutation, IsSortedBy}
 use Rattle.std.proofs.lemmas.Bool.{cases_lt}
-use Rattle.std.proofs.lemmas.List.{length-map, map-append, take-append-le, take_min}
-use Rattle.std.proofs.lemmas.List.Elements.{All-filter, All-map, filter_passes}
+use Rattle.std.proofs.lemmas.List.{length-map, length-take, map-append, nil_from_length, take-append-le, take_min}
+use Rattle.std.proofs.lemmas.List.Elements.{All-filter, All-map, All-take, filter_passes}
 use Rattle.std.proofs.lemmas.List.Sorted.{All-permutation, IsPermutation-append, IsPermutation-filter_both, IsPermutation-map, IsPermutation-trans, length_permutation}
 use Rattle.zorder.specs.Codes.{IsCode, IsDimension}
 use Rattle.zorder.proofs.CallerLemmas.{code_fits}
 use Rattle.boxes.specs.BoxAnswers.{codes_inside, is_inside}
 use Rattle.boxes.proofs.InsideTest.{inside_passes, passes_inside}
 use Rattle.near.specs.Around.{box_around, distance}
-use Rattle.near.specs.Nearest.{AreNearest, pairs_of}
+use Rattle.near.specs.Nearest.{AreNearest, IsLeastBox, IsNear, NearAnswer, pairs_of}
 use Rattle.near.proofs.Distances.{distance_from_inside, inside_from_distance}
 use Rattle.near.proofs.InOrder.{append_in_order, in_order_exists}
 use Rattle.near.proofs.Ranks.{HaveCodes, first_from_rank, rank, rank_from_sort, rank_not_below, rank_rises, stands_before}
@@ -19,24 +19,68 @@ use Rattle.near.proofs.Ranks.{HaveCodes, first_from_rank, rank, rank_from_sort, 
 abbrev with_distance : ℕ → List ℕ → ℕ → ℕ × ℕ
 with_distance d centre z = (distance d centre z, z)
 
+-- what holds of each code holds of those in the pairs, in any order
+pub each_in_pairs : (d : ℕ) (centre codes : List ℕ) (pairs : List (ℕ × ℕ)) (P : ℕ → Type 0) → All P codes → IsPermutation (pairs_of d centre codes) pairs → All (λ pair. P pair.1) pairs
+each_in_pairs d centre codes pairs P each same =
+    All-permutation (λ (pair : ℕ × ℕ). P pair.1) (pairs_of d centre codes) pairs same (All-map (λ (pair : ℕ × ℕ). P pair.1) (with_distance d centre) codes each)
+
+pub small_have_codes : (d : ℕ) (centre codes : List ℕ) (pairs : List (ℕ × ℕ)) → All (λ z. z < 2 ^ 64) codes → IsPermutation (pairs_of d centre codes) pairs → HaveCodes pairs
+small_have_codes d centre codes pairs small same = each_in_pairs d centre codes pairs (λ z. z < 2 ^ 64) small same
+
+-- the nearest points have codes of the points
+pub nearest_codes : (d : ℕ) (centre codes : List ℕ) (k : ℕ) (points : List (ℕ × ℕ)) (P : ℕ → Type 0) → All P codes → AreNearest d centre codes k points → All (λ pair. P pair.1) points
+nearest_codes d centre codes k points P each near =
+    subst (All (λ (pair : ℕ × ℕ). P pair.1)) (sym near.2)
+    (All-take (λ (pair : ℕ × ℕ). P pair.1) k near.0 (each_in_pairs d centre codes near.0 P each near.1.same))
+
+-- there are nearest points, as many as are asked for or as there are
+pub some_nearest : (d : ℕ) (centre codes : List ℕ) (k : ℕ) → All (λ z. z < 2 ^ 64) codes
+    → (points : List (ℕ × ℕ)) × AreNearest d centre codes k points × (length points ≡ min (length codes) k)
+some_nearest d centre codes k small =
+    let pairs = pairs_of d centre codes in
+    let all = in_order_exists rank pairs in
+    let long : length all.0 ≡ length codes = length_permutation pairs all.0 all.1 ∙ length-map codes (with_distance d centre) in
+    let have = small_have_codes d centre codes all.0 small all.1 in (
+      take k all.0,
+      (all.0, record { same = all.1; order = first_from_rank all.0 have all.2 }, refl),
+      omega (arith, length-take k all.0),
+    )
+
+-- of no code, or with k 0, nothing is nearest
+pub none_nearest : (d : ℕ) (centre codes : List ℕ) (k : ℕ) → All (λ z. z < 2 ^ 64) codes → min (length codes) k ≡ 0 → AreNearest d centre codes k []
+none_nearest d centre codes k small none =
+    let some = some_nearest d centre codes k small in
+    subst (AreNearest d centre codes k) (nil_from_length some.0 (some.2 ∙ none)) some.1
+
+-- the answer without points
+pub none_answers : (d : ℕ) (centre codes : List ℕ) (k : ℕ) → All (λ z. z < 2 ^ 64) codes → min (length codes) k ≡ 0 → (answer : NearAnswer) × IsNear d centre codes k answer
+none_answers d centre codes k small none = (
+  record { points = []; boxes = 0 },
+  record { points = none_nearest d centre codes k small none; boxes = record { none = λ is. refl; some = λ some. absurd (omega arith) } },
+)
+
+-- the answer of the least box that has as many points
+pub some_answers : (d : ℕ) (centre codes : List ℕ) (k found i : ℕ) → All (λ z. z < 2 ^ 64) codes → found ≡ min (length codes) k → 0 < found → IsLeastBox d centre codes found i
+    → (answer : NearAnswer) × IsNear d centre codes k answer
+some_answers d centre codes k found i small is some least =
+    let near = some_nearest d centre codes k small in
+    let long : found ≡ length near.0 = is ∙ sym near.2 in (
+      record { points = near.0; boxes = 1 + i },
+      record {
+        points = near.1;
+        boxes = record {
+          none = λ none. absurd (omega arith);
+          some = λ _. (i, subst (λ (n : ℕ). IsLeastBox d centre codes n i) long least, refl);
+        };
+      },
+    )
+
 module _ (d : ℕ) (centre : List ℕ) (is : IsDimension d) where
-  pub pairs_have_codes : (codes : List ℕ) → All (λ z. IsCode d z) codes → HaveCodes (pairs_of d centre codes)
-  pairs_have_codes codes each = All-map (λ (pair : ℕ × ℕ). pair.1 < 2 ^ 64) (with_distance d centre) codes (λ k e within. code_fits d (get_or codes k e) is (each k e within))
+  pub codes_small : (codes : List ℕ) → All (λ z. IsCode d z) codes → All (λ z. z < 2 ^ 64) codes
+  codes_small codes each k e within = code_fits d (get_or codes k e) is (each k e within)
 
   pub sorted_have_codes : (codes : List ℕ) (pairs : List (ℕ × ℕ)) → All (λ z. IsCode d z) codes → IsPermutation (pairs_of d centre codes) pairs → HaveCodes pairs
-  sorted_have_codes codes pairs each same = All-permutation (λ (pair : ℕ × ℕ). pair.1 < 2 ^ 64) (pairs_of d centre codes) pairs same (pairs_have_codes codes each)
-
-  -- of no code, or with k 0, nothing is nearest
-  pub none_nearest : (codes : List ℕ) (k : ℕ) → All (λ z. IsCode d z) codes → min (length codes) k ≡ 0 → AreNearest d centre codes k []
-  none_nearest codes k each none =
-      let pairs = pairs_of d centre codes in
-      let all = in_order_exists rank pairs in
-      let long : length all.0 ≡ length codes = length_permutation pairs all.0 all.1 ∙ length-map codes (with_distance d centre) in
-      let few : min k (length all.0) ≡ 0 = omega arith in (
-        all.0,
-        record { same = all.1; order = first_from_rank all.0 (sorted_have_codes codes all.0 each all.1) all.2 },
-        sym (ap (λ (n : ℕ). take n all.0) few) ∙ take_min k all.0,
-      )
+  sorted_have_codes codes pairs each same = small_have_codes d centre codes pairs (codes_small codes each) same
 
   module _ (reach : ℕ) (long : d ≤ length centre) (codes : List ℕ) (each : All (λ z. IsCode d z) codes) where
     inner : List ℕ

@@ -1,19 +1,18 @@
 -- There is one list of nearest points, and one number of boxes.
-use Rattle.std.proofs.Common.{◌≡◌, ⊎_elim, ℕ, zero, suc, ◌<◌, ltb, if◌then◌else◌, List, map, take, refl, sym, ap, ◌∙◌, arith}
+use Rattle.std.proofs.Common.{◌≡◌, ⊎_elim, ℕ, zero, suc, ◌<◌, ◌^◌, ltb, if◌then◌else◌, List, All, map, take, refl, sym, ap, ◌∙◌, arith}
 use Rattle.std.specs.List.Sorted.{IsPermutation}
 use Rattle.std.proofs.lemmas.Bool.{cases_order}
 use Rattle.std.proofs.lemmas.List.Sorted.{IsPermutation-map, length_permutation, sum_by-IsPermutation}
-use Rattle.boxes.specs.PointCodes.{AreCodes}
 use Rattle.boxes.proofs.OneCount.{same_sorted}
 use Rattle.near.specs.Nearest.{AreBoxes, AreNearest, AreSortedPairs, IsLeastBox, pairs_of}
-use Rattle.near.proofs.NearestLemmas.{sorted_have_codes}
+use Rattle.near.proofs.NearestLemmas.{small_have_codes}
 use Rattle.near.proofs.Ranks.{rank, rank_from_first, ranks_in_order, same_by_ranks}
 
-one_order : (d : ℕ) (centre codes : List ℕ) (one two : List (ℕ × ℕ)) → AreCodes d codes → AreSortedPairs d centre codes one → AreSortedPairs d centre codes two → one ≡ two
-one_order d centre codes one two are first second =
+one_order : (d : ℕ) (centre codes : List ℕ) (one two : List (ℕ × ℕ)) → All (λ z. z < 2 ^ 64) codes → AreSortedPairs d centre codes one → AreSortedPairs d centre codes two → one ≡ two
+one_order d centre codes one two fit first second =
     let pairs = pairs_of d centre codes in
-    let small = sorted_have_codes d centre are.dimension codes one are.each first.same in
-    let small' = sorted_have_codes d centre are.dimension codes two are.each second.same in
+    let small = small_have_codes d centre codes one fit first.same in
+    let small' = small_have_codes d centre codes two fit second.same in
     let from = map rank pairs in
     let moved : IsPermutation from (map rank one) = IsPermutation-map rank pairs one first.same in
     let moved' : IsPermutation from (map rank two) = IsPermutation-map rank pairs two second.same in
@@ -23,9 +22,9 @@ one_order d centre codes one two are first second =
     (length_permutation from (map rank one) moved ∙ sym (length_permutation from (map rank two) moved'))
     (λ q. let f : ℕ → ℕ = λ key. if ltb key q then 1 else 0 in sum_by-IsPermutation f from (map rank one) moved ∙ sym (sum_by-IsPermutation f from (map rank two) moved')))
 
-pub one_nearest : (d k : ℕ) (centre codes : List ℕ) (one two : List (ℕ × ℕ)) → AreCodes d codes → AreNearest d centre codes k one → AreNearest d centre codes k two → one ≡ two
-one_nearest d k centre codes one two are first second =
-    first.2 ∙ ap (λ (all : List (ℕ × ℕ)). take k all) (one_order d centre codes first.0 second.0 are first.1 second.1) ∙ sym second.2
+pub one_nearest : (d k : ℕ) (centre codes : List ℕ) (one two : List (ℕ × ℕ)) → All (λ z. z < 2 ^ 64) codes → AreNearest d centre codes k one → AreNearest d centre codes k two → one ≡ two
+one_nearest d k centre codes one two fit first second =
+    first.2 ∙ ap (λ (all : List (ℕ × ℕ)). take k all) (one_order d centre codes first.0 second.0 fit first.1 second.1) ∙ sym second.2
 
 one_least : (d : ℕ) (centre codes : List ℕ) (found one two : ℕ) → IsLeastBox d centre codes found one → IsLeastBox d centre codes found two → one < two → ⊥
 one_least d centre codes found one two first second less = omega (arith, first.enough, second.least one less)

@@ -18,7 +18,7 @@ mod around;
 mod search;
 
 pub use answer::Near;
-pub use search::{nearest, one_answer};
+pub use search::{nearest, nearest_into, one_answer, room_for};
 
 #[cfg(test)]
 mod tests;

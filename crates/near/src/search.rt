@@ -1,18 +1,17 @@
 // The search by boxes that grow.
-ghost use Rattle.std.specs.Prelude.{◌≡◌, ◌<◌, ◌≤◌, ◌-◌, ◌^◌, ℕ, List, All, length, IfOk};
+ghost use Rattle.std.specs.Prelude.{◌≡◌, ◌<◌, ◌≤◌, ◌^◌, ℕ, List, All, length, min, vec_len};
+ghost use Rattle.std.specs.Prelude.{vec_capacity, IfOk};
 ghost use Rattle.zorder.specs.Codes.{IsCode, IsDimension, IsInRange};
-ghost use Rattle.zorder.specs.Regions.{IsRegion};
-ghost use Rattle.boxes.specs.BoxAnswers.{codes_inside};
 ghost use Rattle.boxes.specs.PointCodes.{AreCodes};
 ghost use Rattle.near.specs.Around.{points_within};
-ghost use Rattle.near.specs.Nearest.{AreBoxes, AreNearest, IsLeastBox, pairs_of};
+ghost use Rattle.near.specs.Nearest.{AreBoxes, AreNearest, HasRoom, IsLeastBox, IsNear};
+ghost use Rattle.near.specs.Nearest.{NearAnswer, pairs_of};
 
 use crate::Near;
 use crate::around::{distance_from, region_around};
 use boxes::Boxes;
 use budget::NoMemory;
 use std::alloc::Global;
-use zorder::Region;
 
 /// The `k` points that are nearest to a centre, or all where there are fewer, and in how many boxes
 /// they were looked for.
@@ -38,18 +37,77 @@ pub fn nearest(alloc: Global, boxes: &Boxes, centre: &[u32; 4], k: u32) -> Resul
         (length near.points) near.boxes) }
     ensures few { IfOk result (λ near. near.boxes ≤ 33) }
 {
-    let d = boxes.dims();
-    let found = boxes.codes().len().min(k as usize);
+    let found = answer_len(boxes, k);
     if found == 0 {
         return Ok(Near::new(Vec::new(alloc), 0));
     }
     let (exponent, count) = first_box(boxes, centre, found as u64);
-    let region = region_around(d, centre, exponent);
-    let mut points = points_inside(alloc, boxes, centre, &region, count)?;
-    points.sort_unstable();
-    points.truncate(found);
+    let mut codes = Vec::with_capacity(alloc, count as usize)?;
+    let mut points = Vec::with_capacity(alloc, count as usize)?;
+    fill_nearest(boxes, centre, k, exponent, &mut codes, &mut points);
     points.shrink_to_fit();
     Ok(Near::new(points, exponent + 1))
+}
+
+/// How much room [`nearest_into`] asks for: how many points the last box has, and 0 where the
+/// answer has none.
+///
+/// The condition is that of [`nearest`]. Cannot fail and takes no memory.
+pub fn room_for(boxes: &Boxes, centre: &[u32; 4], k: u32) -> u64
+    requires centre { IsInRange boxes.now.dims centre.now }
+    ensures room { HasRoom boxes.now.dims centre.now boxes.now.codes k result }
+    ensures answered { (answer : NearAnswer)
+        × IsNear boxes.now.dims centre.now boxes.now.codes k answer }
+{
+    let found = answer_len(boxes, k);
+    if found == 0 {
+        return 0;
+    }
+    let (_, count) = first_box(boxes, centre, found as u64);
+    count
+}
+
+/// The same as [`nearest`], in room made before: what was in the vectors is dropped, `points` gets
+/// the points and `codes` those of the last box, in the codes' order. Gives the number of boxes.
+///
+/// Both vectors have room for as many as [`room_for`] says. The other condition is that of
+/// [`nearest`]. Cannot fail and takes no memory.
+pub fn nearest_into(
+    boxes: &Boxes,
+    centre: &[u32; 4],
+    k: u32,
+    codes: &mut Vec<u64>,
+    points: &mut Vec<(u32, u64)>,
+) -> u32
+    requires centre { IsInRange boxes.now.dims centre.now }
+    requires room { HasRoom boxes.now.dims centre.now boxes.now.codes k (vec_capacity codes.old) }
+    requires room_for_points { HasRoom boxes.now.dims centre.now boxes.now.codes k
+        (vec_capacity points.old) }
+    ensures points { AreNearest boxes.now.dims centre.now boxes.now.codes k points.new.items }
+    ensures boxes { AreBoxes boxes.now.dims centre.now boxes.now.codes
+        (length points.new.items) result }
+    ensures few { result ≤ 33 }
+    ensures capacity { vec_capacity codes.old ≤ vec_capacity codes.new }
+    ensures capacity_for_points { vec_capacity points.old ≤ vec_capacity points.new }
+{
+    codes.clear();
+    points.clear();
+    let found = answer_len(boxes, k);
+    if found == 0 {
+        return 0;
+    }
+    let (exponent, _) = first_box(boxes, centre, found as u64);
+    fill_nearest(boxes, centre, k, exponent, codes, points);
+    exponent + 1
+}
+
+/// How many points an answer has.
+fn answer_len(boxes: &Boxes, k: u32) -> usize
+    ensures len { result ≡ min (length boxes.now.codes) k }
+    ensures each { All (λ z. IsCode boxes.now.dims z) boxes.now.codes }
+    ensures small { All (λ z. z < 2 ^ 64) boxes.now.codes }
+{
+    boxes.codes().len().min(k as usize)
 }
 
 /// The exponent of the first box that has so many points, and how many it has.
@@ -70,42 +128,52 @@ fn first_box(boxes: &Boxes, centre: &[u32; 4], found: u64) -> (u32, u64)
     (32, boxes.codes().len() as u64)
 }
 
-/// The distances and codes of the points in a region, in the codes' order.
-fn points_inside(
-    alloc: Global,
+/// The nearest points, of those in the box of this exponent, which has as many as the answer.
+fn fill_nearest(
     boxes: &Boxes,
     centre: &[u32; 4],
-    region: &Region,
-    count: u64,
-) -> Result<Vec<(u32, u64)>, NoMemory>
-    requires region { IsRegion region.now }
-    requires dims { region.now.d ≡ boxes.now.dims }
-    requires count { count ≡ length (codes_inside region.now boxes.now.codes) }
-    requires each { All (λ z. IsCode boxes.now.dims z) boxes.now.codes }
-    ensures { IfOk result (λ points. points.items
-        ≡ pairs_of boxes.now.dims centre.now (codes_inside region.now boxes.now.codes)) }
+    k: u32,
+    exponent: u32,
+    codes: &mut Vec<u64>,
+    points: &mut Vec<(u32, u64)>,
+)
+    requires centre { IsInRange boxes.now.dims centre.now }
+    requires exponent { exponent ≤ 32 }
+    requires enough { min (length boxes.now.codes) k
+        ≤ points_within boxes.now.dims centre.now boxes.now.codes exponent }
+    requires empty { vec_len codes.old ≡ 0 }
+    requires empty_points { vec_len points.old ≡ 0 }
+    requires room { points_within boxes.now.dims centre.now boxes.now.codes exponent
+        ≤ vec_capacity codes.old }
+    requires room_for_points { points_within boxes.now.dims centre.now boxes.now.codes exponent
+        ≤ vec_capacity points.old }
+    ensures points { AreNearest boxes.now.dims centre.now boxes.now.codes k points.new.items }
+    ensures len { length points.new.items ≡ min (length boxes.now.codes) k }
+    ensures capacity { vec_capacity codes.old ≤ vec_capacity codes.new }
+    ensures capacity_for_points { vec_capacity points.old ≤ vec_capacity points.new }
 {
-    let mut codes = Vec::with_capacity(alloc, count as usize)?;
-    boxes.fill(region, &mut codes);
-    with_distances(alloc, region.d, centre, &codes)
+    let found = answer_len(boxes, k);
+    let region = region_around(boxes.dims(), centre, exponent);
+    boxes.fill(&region, codes);
+    fill_distances(region.d, centre, codes, points);
+    points.sort_unstable();
+    points.truncate(found);
 }
 
-/// Codes, each with the distance of its point from a centre.
-fn with_distances(
-    alloc: Global,
-    d: u32,
-    centre: &[u32; 4],
-    codes: &[u64],
-) -> Result<Vec<(u32, u64)>, NoMemory>
+/// Fills a vector with codes, each with the distance of its point from a centre.
+fn fill_distances(d: u32, centre: &[u32; 4], codes: &[u64], pairs: &mut Vec<(u32, u64)>)
     requires dimension { IsDimension d }
     requires each { All (λ z. IsCode d z) codes.now }
-    ensures { IfOk result (λ pairs. pairs.items ≡ pairs_of d centre.now codes.now) }
+    requires empty { vec_len pairs.old ≡ 0 }
+    requires room { length codes.now ≤ vec_capacity pairs.old }
+    ensures pairs { pairs.new.items ≡ pairs_of d centre.now codes.now }
+    ensures capacity { vec_capacity pairs.old ≤ vec_capacity pairs.new }
 {
-    let mut pairs = Vec::with_capacity(alloc, codes.len())?;
     for code in codes {
-        pairs.push((distance_from(d, centre, *code), *code))?;
+        pairs
+            .push((distance_from(d, centre, *code), *code))
+            .unwrap();
     }
-    Ok(pairs)
 }
 
 /// A centre has one list of nearest points among codes, and one number of boxes. It does nothing.

@@ -4,7 +4,7 @@ ghost use Rattle.std.specs.Prelude.{◌≡◌};
 ghost use Rattle.zorder.specs.Codes.{IsDimension, IsInRange};
 ghost use Rattle.zorder.specs.Points.{ArePoints};
 
-use crate::nearest;
+use crate::{nearest, nearest_into, room_for};
 use boxes::Boxes;
 use budget::NoMemory;
 use std::process::Abort;
@@ -148,6 +148,12 @@ fn check_rows<R: Abort + AllocGlobal>(rt: &R, boxes: &Boxes, rows: &[Row]) -> Re
         let near = nearest(rt.alloc(), boxes, centre, *k)?;
         assert_eq!(rt; near.points(), *points, "{centre:?}, {k}");
         assert_eq!(rt; near.boxes(), *count, "{centre:?}, {k}");
+        let room = room_for(boxes, centre, *k) as usize;
+        let mut codes = Vec::with_capacity(rt.alloc(), room)?;
+        let mut found = Vec::with_capacity(rt.alloc(), room)?;
+        let looked = nearest_into(boxes, centre, *k, &mut codes, &mut found);
+        assert_eq!(rt; found.as_slice(), *points, "in room: {centre:?}, {k}");
+        assert_eq!(rt; looked, *count, "in room: {centre:?}, {k}");
     }
     Ok(())
 }

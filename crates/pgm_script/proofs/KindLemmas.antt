@@ -1,9 +1,9 @@
 -- Each line of a script is one that its kind can have.
-use Rattle.std.proofs.Common.{◌≡◌, ℕ, ◌+◌, ◌-◌, ◌^◌, ◌<◌, ◌≤◌, Bool, true, false, cond, if◌then◌else◌, List, [], ◌∷◌, length, take, drop, get_or, replicate, refl, subst, arith, All, Option, Some, None, Result, Ok, Err, lit<, eqb, length-drop, codes}
+use Rattle.std.proofs.Common.{◌≡◌, ℕ, ◌+◌, ◌-◌, ◌^◌, ◌<◌, ◌≤◌, Bool, true, false, cond, if◌then◌else◌, List, [], ◌∷◌, length, take, drop, get_or, replicate, refl, subst, arith, All, Option, Some, None, Result, Ok, Err, lit<, eqb, length-drop, ◌∙◌, codes}
 use Rattle.std.specs.List.{find, cons_option}
 use Rattle.std.specs.Str.{is_utf8, bytes_eq}
 use Rattle.std.specs.Str.Lines.{strip_carriage_return}
-use Rattle.std.proofs.lemmas.List.{get_or_append_left, get_or-take, get_or-drop, length-take-le}
+use Rattle.std.proofs.lemmas.List.{get_or_append_left, get_or-take, get_or-drop, get_or-replicate, length-take-le, length-replicate}
 use Rattle.std.proofs.lemmas.List.Elements.{All-cons}
 use Rattle.zorder.specs.Codes.{IsDimension, IsInRange, coordinate_bits}
 use Rattle.zorder.specs.Regions.{IsRegion}
@@ -12,14 +12,14 @@ use Rattle.pgm_script.specs.declared.script.ScriptLine.{ScriptLine}
 use Rattle.pgm_script.specs.declared.fault.Why.{Why}
 use Rattle.pgm_script.specs.declared.fault.Why.TheVariants.{NotUtf8}
 use Rattle.pgm_script.specs.Words.{words_of}
-use Rattle.pgm_script.specs.Commands.{Command, commands_of, corner, region_of, find_command, box_command, put_command, del_command, get_command, next_command, count_command, sweep_command}
+use Rattle.pgm_script.specs.Commands.{Command, commands_of, corner, region_of, find_command, box_command, near_command, greatest, put_command, del_command, get_command, next_command, count_command, sweep_command}
 use Rattle.pgm_script.specs.Scripts.{IsKind, IsLineOf, numbers_of, made, command_reading, words_reading, line_reading, script_line, script_of}
 use Rattle.pgm_script.proofs.LineLemmas.{numbers-most, numbers-count}
-use Rattle.pgm_script.proofs.VerbLemmas.{of-dimension}
+use Rattle.pgm_script.proofs.VerbLemmas.{near-coordinate, near-count, of-dimension}
 
 -- whatever numbers a command reads make a line of the kind
 abbrev MakesLines : ScriptKind → Command → Type 0
-MakesLines asked command = (words : List (List ℕ)) (numbers : List ℕ) → numbers_of command.most command.count words ≡ Ok numbers → IsLineOf asked (command.line numbers)
+MakesLines asked command = (words : List (List ℕ)) (numbers : List ℕ) → numbers_of command.most words ≡ Ok numbers → IsLineOf asked (command.line numbers)
 
 some-bits : (d : ℕ) → IsDimension d → 0 < 2 ^ coordinate_bits d
 some-bits = of-dimension (λ d. 0 < 2 ^ coordinate_bits d) (lit< tt) (lit< tt) (lit< tt)
@@ -30,15 +30,24 @@ corner-range d numbers dimension long few = λ c below.
     let same = get_or-take d numbers c 0 below in
     omega (arith, few c below, some-bits d dimension)
 
-box-makes : (d : ℕ) (words : List (List ℕ)) (numbers : List ℕ) → IsDimension d → numbers_of (2 ^ coordinate_bits d - 1) (d + d) words ≡ Ok numbers → IsRegion (region_of d numbers)
+box-makes : (d : ℕ) (words : List (List ℕ)) (numbers : List ℕ) → IsDimension d → numbers_of (box_command d).most words ≡ Ok numbers → IsRegion (region_of d numbers)
 box-makes d words numbers dimension is =
-    let all = numbers-most (2 ^ coordinate_bits d - 1) (d + d) words numbers is in
-    let long = numbers-count (2 ^ coordinate_bits d - 1) (d + d) words numbers is in
+    let most : List ℕ = (box_command d).most in
+    let all = numbers-most most words numbers is in
+    let long : length numbers ≡ d + d = numbers-count most words numbers is ∙ length-replicate (d + d) (greatest d) in
+    let each : (c : ℕ) → c < d + d → get_or numbers c 0 ≤ greatest d =
+    λ c below. omega (arith, all c (omega (arith, length-replicate (d + d) (greatest d))), get_or-replicate (d + d) c (greatest d) 0 below) in
     record {
       dimension = dimension;
-      low = corner-range d numbers dimension (omega arith) (λ c below. all c 0 (omega arith));
-      high = corner-range d (drop d numbers) dimension (omega (arith, length-drop d numbers)) (λ c below. let same = get_or-drop d numbers c 0 in omega (arith, all (d + c) 0 (omega arith)));
+      low = corner-range d numbers dimension (omega arith) (λ c below. each c (omega arith));
+      high = corner-range d (drop d numbers) dimension (omega (arith, length-drop d numbers)) (λ c below. let same = get_or-drop d numbers c 0 in omega (arith, each (d + c) (omega arith)));
     }
+
+near-makes : (d : ℕ) (words : List (List ℕ)) (numbers : List ℕ) → IsDimension d → numbers_of (near_command d).most words ≡ Ok numbers → IsInRange d (corner d numbers)
+near-makes d words numbers dimension is =
+    let all = numbers-most (near_command d).most words numbers is in
+    let long = numbers-count (near_command d).most words numbers is in
+    corner-range d numbers dimension (omega (arith, near-count d)) (λ c below. near-coordinate d numbers c all below)
 
 -- the first command of a list, or one of the others
 found : (asked : ScriptKind) (command : Command) (b : Bool) (other : Option Command) → MakesLines asked command → ((c : Command) → other ≡ Some c → MakesLines asked c) →
@@ -54,6 +63,8 @@ commands-make ScriptKind.Find word is =
     found ScriptKind.Find find_command (bytes_eq word (codes "find")) None (λ words numbers read. tt) (nothing-found ScriptKind.Find)
 commands-make (ScriptKind.Region d) word is =
     found (ScriptKind.Region d) (box_command d) (bytes_eq word (codes "box")) None (λ words numbers read. (refl, box-makes d words numbers is read)) (nothing-found (ScriptKind.Region d))
+commands-make (ScriptKind.Near d) word is =
+    found (ScriptKind.Near d) (near_command d) (bytes_eq word (codes "near")) None (λ words numbers read. near-makes d words numbers is read) (nothing-found (ScriptKind.Near d))
 commands-make ScriptKind.Replay word is =
     found ScriptKind.Replay put_command (bytes_eq word (codes "put")) _ (λ words numbers read. tt)
     (found ScriptKind.Replay del_command (bytes_eq word (codes "del")) _ (λ words numbers read. tt)
@@ -70,7 +81,7 @@ made-line asked command (Err why) line makes is = cc
 command-line : (asked : ScriptKind) (o : Option Command) (words : List (List ℕ)) (line : ScriptLine) → ((c : Command) → o ≡ Some c → MakesLines asked c) →
     command_reading o words ≡ Ok (Some line) → IsLineOf asked line
 command-line asked None words line makes is = cc
-command-line asked (Some c) words line makes is = made-line asked c (numbers_of c.most c.count words) line (makes c refl words) is
+command-line asked (Some c) words line makes is = made-line asked c (numbers_of c.most words) line (makes c refl words) is
 
 unless-comment : (b : Bool) (r : Result (Option ScriptLine) Why) (line : ScriptLine) → (if b then Ok None else r) ≡ Ok (Some line) → r ≡ Ok (Some line)
 unless-comment true r line is = cc

@@ -1,5 +1,5 @@
 -- A line of a command's letters, and behind one space each its numbers: its words, and what it is.
-use Rattle.std.proofs.Common.{◌≡◌, ℕ, zero, suc, ◌+◌, ◌-◌, ◌<◌, ◌≤◌, Bool, true, false, not, if◌then◌else◌, ◌&&◌, leb, eqb, List, [], ◌∷◌, ◌++◌, length, take, drop, drop-cons, get_or, slice_index, refl, sym, ap, ◌∙◌, append_assoc, length-append, All, arith, Option, Some, None, Ok, Err, ⊎_elim, bytes_eq, find}
+use Rattle.std.proofs.Common.{◌≡◌, ℕ, zero, suc, ◌+◌, ◌-◌, ◌<◌, ◌≤◌, Bool, true, false, not, if◌then◌else◌, ◌&&◌, leb, eqb, List, [], ◌∷◌, ◌++◌, length, take, drop, drop-cons, replicate, get_or, slice_index, refl, sym, ap, ◌∙◌, append_assoc, length-append, All, arith, Option, Some, None, Ok, Err, ⊎_elim, bytes_eq, find}
 use Rattle.std.specs.Char.{is_ascii_digit}
 use Rattle.std.specs.List.{list_all}
 use Rattle.std.specs.Str.{IsAscii, is_utf8}
@@ -104,7 +104,7 @@ number-any digits number most are value few =
 
 -- a line of such words is read by the table
 plain-reading : (kind : ScriptKind) (line word : List ℕ) (words : List (List ℕ)) (command : Command) (numbers : List ℕ) → ArePlain line → 0 < length line → words_of line ≡ word ∷ words →
-    AreLetters word → 0 < length word → find (λ command. bytes_eq word command.word) (commands_of kind) ≡ Some command → numbers_of command.most command.count words ≡ Ok numbers →
+    AreLetters word → 0 < length word → find (λ command. bytes_eq word command.word) (commands_of kind) ≡ Some command → numbers_of command.most words ≡ Ok numbers →
     line_reading kind line ≡ Ok (Some (command.line numbers))
 plain-reading kind line word words command numbers plain some divided letters long found read =
     let other : eqb (slice_index word 0) 35 ≡ false = differ (slice_index word 0) 35 (λ is. omega (arith, is, (letters 0 0 long).0)) in
@@ -128,9 +128,12 @@ module _ (kind : ScriptKind) (text : List ℕ) (command : Command) (behind : Lis
   word-plain : ArePlain begins.word
   word-plain = whole-plain begins.word (letters-whole begins.word begins.letters)
 
+  any-of : (n : ℕ) → length command.most ≡ n → command.most ≡ replicate n any
+  any-of n count = begins.any_value ∙ ap (λ (n : ℕ). replicate n any) count
+
   -- the line goes on behind the word, and ends
   whole-line : (tail after : List ℕ) (words : List (List ℕ)) (numbers : List ℕ) → behind ≡ 32 ∷ (tail ++ 10 ∷ after) → ArePlain tail → words_of tail ≡ words →
-      numbers_of command.most command.count words ≡ Ok numbers → BeginsWithLine kind text (command.line numbers) after
+      numbers_of command.most words ≡ Ok numbers → BeginsWithLine kind text (command.line numbers) after
   whole-line tail after words numbers is plain divided read =
       let line : List ℕ = begins.word ++ 32 ∷ tail in
       let line-plain : ArePlain line = append-plain begins.word (32 ∷ tail) word-plain (space-plain tail plain) in
@@ -145,17 +148,17 @@ module _ (kind : ScriptKind) (text : List ℕ) (command : Command) (behind : Lis
         shorter = omega (arith, ap length parts, length-append line (10 ∷ after));
       }
 
-  pub one-number : (first : ℕ) (end after : List ℕ) → BeginsWithDigits behind first end → end ≡ 10 ∷ after → command.count ≡ 1 →
+  pub one-number : (first : ℕ) (end after : List ℕ) → BeginsWithDigits behind first end → end ≡ 10 ∷ after → length command.most ≡ 1 →
       BeginsWithLine kind text (command.line (first ∷ [])) after
   one-number first end after one ends count =
       whole-line one.digits after (one.digits ∷ []) (first ∷ [])
       (one.parts ∙ ap (λ (l : List ℕ). 32 ∷ (one.digits ++ l)) ends)
       (whole-plain one.digits (digits-whole one.digits one.are))
       (digits-word one.digits one.are one.some)
-      (ap (λ (n : ℕ). numbers_of command.most n (one.digits ∷ [])) count
-      ∙ ap (λ (n : Option ℕ). and_then n (Ok [])) (number-any one.digits first command.most one.are one.value (omega (arith, one.fits, begins.any_value))))
+      (ap (λ (m : List ℕ). numbers_of m (one.digits ∷ [])) (any-of 1 count)
+      ∙ ap (λ (n : Option ℕ). and_then n (Ok [])) (number-any one.digits first any one.are one.value one.fits))
 
-  pub two-numbers : (first second : ℕ) (rest end after : List ℕ) → BeginsWithDigits behind first rest → BeginsWithDigits rest second end → end ≡ 10 ∷ after → command.count ≡ 2 →
+  pub two-numbers : (first second : ℕ) (rest end after : List ℕ) → BeginsWithDigits behind first rest → BeginsWithDigits rest second end → end ≡ 10 ∷ after → length command.most ≡ 2 →
       BeginsWithLine kind text (command.line (first ∷ second ∷ [])) after
   two-numbers first second rest end after one two ends count =
       let tail : List ℕ = one.digits ++ 32 ∷ two.digits in
@@ -168,9 +171,9 @@ module _ (kind : ScriptKind) (text : List ℕ) (command : Command) (behind : Lis
       words-whole one.digits (32 ∷ two.digits) (digits-whole one.digits one.are) one.some refl
       ∙ ap (λ (l : List (List ℕ)). one.digits ∷ l) (digits-word two.digits two.are two.some) in
       whole-line tail after (one.digits ∷ two.digits ∷ []) (first ∷ second ∷ []) is plain divided
-      (ap (λ (n : ℕ). numbers_of command.most n (one.digits ∷ two.digits ∷ [])) count
-      ∙ ap (λ (n : Option ℕ). and_then n (and_then (number_of command.most two.digits) (Ok []))) (number-any one.digits first command.most one.are one.value (omega (arith, one.fits, begins.any_value)))
-      ∙ ap (λ (n : Option ℕ). and_then (Some first) (and_then n (Ok []))) (number-any two.digits second command.most two.are two.value (omega (arith, two.fits, begins.any_value))))
+      (ap (λ (m : List ℕ). numbers_of m (one.digits ∷ two.digits ∷ [])) (any-of 2 count)
+      ∙ ap (λ (n : Option ℕ). and_then n (and_then (number_of any two.digits) (Ok []))) (number-any one.digits first any one.are one.value one.fits)
+      ∙ ap (λ (n : Option ℕ). and_then (Some first) (and_then n (Ok []))) (number-any two.digits second any two.are two.value two.fits))
 
 -- these bytes stand from this place on
 abbrev pub StandsAt : List ℕ → ℕ → List ℕ → Type 0
@@ -186,7 +189,7 @@ stands-in-front (x ∷ word) k bytes within stands =
     ∙ ap (λ (n : ℕ). x ∷ (word ++ drop n bytes)) (let e : suc k + length word ≡ k + suc (length word) = omega arith in e)
 
 pub begins : (asked known : ScriptKind) (text word : List ℕ) (command : Command) → asked ≡ known → length word ≤ length text → StandsAt word 0 text → 0 < length word → list_all is_letter word ≡ true →
-    find (λ command. bytes_eq word command.word) (commands_of known) ≡ Some command → command.most ≡ any → (1 ≤ command.count) × (command.count ≤ 2) →
+    find (λ command. bytes_eq word command.word) (commands_of known) ≡ Some command → command.most ≡ replicate (length command.most) any → (1 ≤ length command.most) × (length command.most ≤ 2) →
     BeginsWithCommand asked text command (take (length text - length word) (drop (length word) text))
 begins asked known text word command same within stands some letters found most counted = record {
   word = word;

@@ -1,9 +1,10 @@
--- The numbers of a region as its corners.
-use Rattle.std.proofs.Common.{◌≡◌, ℕ, zero, suc, ◌+◌, ◌-◌, ◌^◌, ◌<◌, ◌≤◌, List, ◌++◌, length, take, drop, get_or, replicate, sym, ap, ◌∙◌, arith, All, lit≤}
-use Rattle.std.proofs.lemmas.List.{take-take, drop-take, length-take, get_or-take}
+-- The numbers of a region as its corners, and those of a centre.
+use Rattle.std.proofs.Common.{◌≡◌, ℕ, zero, suc, ◌+◌, ◌-◌, ◌^◌, ◌<◌, ◌≤◌, List, [], ◌∷◌, ◌++◌, length, length-append, take, drop, get_or, replicate, sym, ap, ◌∙◌, arith, lit≤}
+use Rattle.std.proofs.lemmas.List.{take-take, drop-take, get_or-replicate, get_or_append_left, length-replicate}
 use Rattle.zorder.specs.Codes.{IsDimension, coordinate_bits}
 use Rattle.zorder.specs.declared.regions.Region.{Region}
-use Rattle.pgm_script.specs.Commands.{corner, region_of}
+use Rattle.pgm_script.specs.Commands.{box_command, corner, greatest, most_points, near_command, region_of}
+use Rattle.pgm_script.specs.Verbs.{AreWithin}
 
 -- a corner is that of the numbers up to its end
 low-corner : (d : ℕ) (numbers : List ℕ) → corner d numbers ≡ corner d (take (d + d) numbers)
@@ -33,9 +34,21 @@ bits-few : (d : ℕ) → IsDimension d → 2 ^ coordinate_bits d ≤ 2 ^ 32
 bits-few = of-dimension (λ d. 2 ^ coordinate_bits d ≤ 2 ^ 32) (lit≤ tt) (lit≤ tt) (lit≤ tt)
 
 -- a number in range has at most 32 bits
-pub in-range : (d : ℕ) (numbers : List ℕ) (c : ℕ) → IsDimension d → All (λ number. number ≤ 2 ^ coordinate_bits d - 1) (take (d + d) numbers) → c < d + d → c < length numbers →
-    get_or numbers c 0 < 2 ^ 32
-in-range d numbers c dimension all below within =
-    let here = all c 0 (omega (arith, length-take (d + d) numbers)) in
-    let same = get_or-take (d + d) numbers c 0 below in
-    omega (arith, bits-few d dimension)
+pub in-range : (d : ℕ) (numbers : List ℕ) (c : ℕ) → IsDimension d → AreWithin (box_command d).most numbers → c < d + d → get_or numbers c 0 < 2 ^ 32
+in-range d numbers c dimension all below =
+    omega (arith, all c (omega (arith, below, length-replicate (d + d) (greatest d))), get_or-replicate (d + d) c (greatest d) 0 below, bits-few d dimension)
+
+-- ---- a centre and how many points are asked for
+
+pub near-count : (d : ℕ) → length (near_command d).most ≡ d + 1
+near-count d = length-append (replicate d (greatest d)) (most_points ∷ []) ∙ ap (λ (n : ℕ). n + 1) (length-replicate d (greatest d))
+
+-- each coordinate is in the range of a coordinate
+pub near-coordinate : (d : ℕ) (numbers : List ℕ) (c : ℕ) → AreWithin (near_command d).most numbers → c < d → get_or numbers c 0 ≤ greatest d
+near-coordinate d numbers c all below =
+    omega (
+      arith,
+      all c (omega (arith, near-count d)),
+      get_or_append_left (replicate d (greatest d)) (most_points ∷ []) 0 c (omega (arith, length-replicate d (greatest d))),
+      get_or-replicate d c (greatest d) 0 below,
+    )

@@ -1,5 +1,5 @@
 -- A line as it is mostly written, at the front of a text. No public clause cites it.
-use Rattle.std.specs.Prelude.{◌≡◌, ℕ, ◌<◌, ◌≤◌, true, List, ◌∷◌, ◌++◌, length, bytes_eq, find, All, Some, Ok}
+use Rattle.std.specs.Prelude.{◌≡◌, ℕ, ◌<◌, ◌≤◌, true, List, ◌∷◌, ◌++◌, length, replicate, bytes_eq, find, All, Some, Ok}
 use Rattle.std.specs.Char.{is_ascii_digit}
 use Rattle.std.specs.List.{list_all}
 use Rattle.std.specs.Str.Parse.{digits_value}
@@ -20,8 +20,8 @@ pub record BeginsWithCommand (kind : ScriptKind) (text : List ℕ) (command : Co
   pub some : 0 < length word
   pub letters : AreLetters word
   pub found : find (λ command. bytes_eq word command.word) (commands_of kind) ≡ Some command
-  pub any_value : command.most ≡ any
-  pub counted : (1 ≤ command.count) × (command.count ≤ 2)
+  pub any_value : command.most ≡ replicate (length command.most) any
+  pub counted : (1 ≤ length command.most) × (length command.most ≤ 2)
 
 -- a space, and digits that write this number
 pub record BeginsWithDigits (text : List ℕ) (number : ℕ) (after : List ℕ) : Type 0 where

@@ -1,8 +1,8 @@
 -- What a line is, and what a text is: a script, or one with a first line that is none.
-use Rattle.std.specs.Prelude.{◌≡◌, ℕ, zero, suc, ◌+◌, ◌==◌, if◌then◌else◌, List, [], ◌∷◌, ◌++◌, length, slice_index, bytes_eq, find, filter_map, All, Option, Some, None, Result, Ok, Err, IsOk, ⊤}
+use Rattle.std.specs.Prelude.{◌≡◌, ℕ, ◌+◌, ◌==◌, if◌then◌else◌, List, [], ◌∷◌, ◌++◌, length, slice_index, bytes_eq, find, filter_map, All, Option, Some, None, Result, Ok, Err, IsOk, ⊤}
 use Rattle.std.specs.Str.{is_utf8}
 use Rattle.std.specs.Str.Lines.{strip_carriage_return}
-use Rattle.zorder.specs.Codes.{IsDimension}
+use Rattle.zorder.specs.Codes.{IsDimension, IsInRange}
 use Rattle.zorder.specs.Regions.{IsRegion}
 use Rattle.pgm_script.specs.declared.script.ScriptKind.{ScriptKind}
 use Rattle.pgm_script.specs.declared.script.ScriptLine.{ScriptLine}
@@ -19,12 +19,12 @@ and_then None others = Err Number
 and_then (Some number) (Err why) = Err why
 and_then (Some number) (Ok numbers) = Ok (number ∷ numbers)
 
--- the numbers of these words, which are to be so many, each at most `most`; or what is wrong first
-abbrev pub numbers_of : ℕ → ℕ → List (List ℕ) → Result (List ℕ) Why
-numbers_of most zero [] = Ok []
-numbers_of most zero (word ∷ words) = Err Extra
-numbers_of most (suc count) [] = Err Missing
-numbers_of most (suc count) (word ∷ words) = and_then (number_of most word) (numbers_of most count words)
+-- the numbers of these words, one for each of these greatest values and none above its own; or what is wrong first
+abbrev pub numbers_of : List ℕ → List (List ℕ) → Result (List ℕ) Why
+numbers_of [] [] = Ok []
+numbers_of [] (word ∷ words) = Err Extra
+numbers_of (most ∷ later) [] = Err Missing
+numbers_of (most ∷ later) (word ∷ words) = and_then (number_of most word) (numbers_of later words)
 
 -- the line that a command makes of its numbers
 abbrev pub made : Command → Result (List ℕ) Why → Result (Option ScriptLine) Why
@@ -33,7 +33,7 @@ made command (Err why) = Err why
 
 abbrev pub command_reading : Option Command → List (List ℕ) → Result (Option ScriptLine) Why
 command_reading None words = Err Word
-command_reading (Some command) words = made command (numbers_of command.most command.count words)
+command_reading (Some command) words = made command (numbers_of command.most words)
 
 -- a line without a word is skipped, and so is one whose first word begins with a `#`
 abbrev pub words_reading : ScriptKind → List (List ℕ) → Result (Option ScriptLine) Why
@@ -82,16 +82,18 @@ pub record HasOneReading (asked : ScriptKind) (text : List ℕ) : Type 0 where
   pub is_one : ReadsAs asked text reading
   pub only : (other : Result (List ScriptLine) ScriptFault) → ReadsAs asked text other → other ≡ reading
 
--- a region has from 2 to 4 coordinates
+-- a region or a centre has from 2 to 4 coordinates
 abbrev pub IsKind : ScriptKind → Type 0
 IsKind ScriptKind.Find = ⊤
 IsKind (ScriptKind.Region d) = IsDimension d
+IsKind (ScriptKind.Near d) = IsDimension d
 IsKind ScriptKind.Replay = ⊤
 
--- a line that a script of this kind can have; a region is one of its dimension
+-- a line that a script of this kind can have; a region is one of its dimension, and a centre in its range
 abbrev pub IsLineOf : ScriptKind → ScriptLine → Type 0
 IsLineOf ScriptKind.Find (ScriptLine.Find q) = ⊤
 IsLineOf (ScriptKind.Region d) (ScriptLine.Region region) = (region.d ≡ d) × IsRegion region
+IsLineOf (ScriptKind.Near d) (ScriptLine.Near centre k) = IsInRange d centre
 IsLineOf ScriptKind.Replay (ScriptLine.Put key value) = ⊤
 IsLineOf ScriptKind.Replay (ScriptLine.Del key) = ⊤
 IsLineOf ScriptKind.Replay (ScriptLine.Get key) = ⊤

@@ -22,9 +22,9 @@ pub fn readings_are_one()
 ///
 /// A line ends at a byte 10, and one byte 13 at its end is dropped. Spaces and tabs divide words.
 /// The first word is a command of the kind, and so many numbers follow: ASCII digits that write a
-/// number below 2^64, in a region one in the range of its coordinates. A line without a word is
-/// skipped, and so is one whose first word begins with `#`. It is one pass, and memory is taken for
-/// the lines alone.
+/// number below 2^64, in a region or a centre one in the range of its coordinates, and one below
+/// 2^32 that says how many points are asked for. A line without a word is skipped, and so is one
+/// whose first word begins with `#`. It is one pass, and memory is taken for the lines alone.
 ///
 /// # Errors
 ///

@@ -51,6 +51,6 @@ fn read_words(kind: ScriptKind, line: &[u8]) -> Result<Option<ScriptLine>, Why>
     let Some(verb) = verb_of(kind, word) else {
         return Err(Why::Word);
     };
-    let numbers = numbers(rest, count(verb), most(verb))?;
+    let numbers = numbers(rest, &most(verb)[..count(verb)])?;
     Ok(Some(script_line(verb, &numbers)))
 }

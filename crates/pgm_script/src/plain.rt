@@ -38,7 +38,7 @@ fn plain_command(kind: ScriptKind, text: &[u8]) -> Option<(Verb, &[u8])>
             [b'f', b'i', b'n', b'd', rest @ ..] => Some((Verb::Find, rest)),
             _ => None,
         },
-        ScriptKind::Region(_) => None,
+        ScriptKind::Region(_) | ScriptKind::Near(_) => None,
         ScriptKind::Replay => plain_replay_command(text),
     }
 }

@@ -10,6 +10,9 @@ pub enum ScriptKind {
     /// `box LOW .. HIGH ..`, questions for the points of a region of so many coordinates, from 2 to
     /// 4.
     Region(u32),
+    /// `near CENTRE .. K`, questions for the points nearest to a centre of so many coordinates, from
+    /// 2 to 4.
+    Near(u32),
     /// `put K V`, `del K` and `sweep A B`, updates of a map, and `get K`, `next Q` and `count A B`,
     /// questions to it.
     Replay,
@@ -22,6 +25,8 @@ pub enum ScriptLine {
     Find(u64),
     /// The points of this region.
     Region(Region),
+    /// The points nearest to this centre, with 0 for its unused coordinates, so many.
+    Near([u32; 4], u32),
     /// At this key this value.
     Put(u64, u64),
     /// Nothing at this key.

@@ -1,10 +1,10 @@
 // The commands, as the program knows them.
-ghost use Rattle.std.specs.Prelude.{◌≡◌, ◌≤◌, ◌<◌, ◌+◌, ◌^◌, ℕ, Option, All, IfSome, option_map};
+ghost use Rattle.std.specs.Prelude.{◌≡◌, ◌≤◌, ◌<◌, ◌+◌, ◌^◌, ℕ, Option, IfSome, option_map};
 ghost use Rattle.std.specs.Prelude.{find, bytes_eq, take, drop, length, slice_index};
 ghost use Rattle.zorder.specs.Codes.{IsDimension};
-ghost use Rattle.pgm_script.specs.Commands.{Command, commands_of, corner};
+ghost use Rattle.pgm_script.specs.Commands.{Command, commands_of, corner, greatest};
 ghost use Rattle.pgm_script.specs.Scripts.{IsKind};
-ghost use Rattle.pgm_script.specs.Verbs.{command_of, IsVerb};
+ghost use Rattle.pgm_script.specs.Verbs.{command_of, AreWithin, IsVerb};
 
 use crate::{ScriptKind, ScriptLine};
 use zorder::Region;
@@ -14,6 +14,7 @@ use zorder::Region;
 pub(crate) enum Verb {
     Find,
     Box(u32),
+    Near(u32),
     Put,
     Del,
     Get,
@@ -32,6 +33,7 @@ pub(crate) fn verb_of(kind: ScriptKind, word: &[u8]) -> Option<Verb>
     match kind {
         ScriptKind::Find => (word == b"find".as_slice()).then_some(Verb::Find),
         ScriptKind::Region(d) => (word == b"box".as_slice()).then_some(Verb::Box(d)),
+        ScriptKind::Near(d) => (word == b"near".as_slice()).then_some(Verb::Near(d)),
         ScriptKind::Replay => {
             if word == b"put".as_slice() {
                 Some(Verb::Put)
@@ -55,38 +57,55 @@ pub(crate) fn verb_of(kind: ScriptKind, word: &[u8]) -> Option<Verb>
 // How many numbers follow.
 pub(crate) fn count(verb: Verb) -> usize
     requires { IsVerb verb }
-    ensures count { result ≡ (command_of verb).count }
+    ensures count { result ≡ length (command_of verb).most }
     ensures few { result ≤ 8 }
 {
     match verb {
         Verb::Find | Verb::Del | Verb::Get | Verb::Next => 1,
         Verb::Put | Verb::Count | Verb::Sweep => 2,
         Verb::Box(d) => 2 * d as usize,
+        Verb::Near(d) => d as usize + 1,
     }
 }
 
-// The greatest value of each.
-pub(crate) fn most(verb: Verb) -> u64
+// The greatest value of each. Past the last number's the list says nothing.
+pub(crate) fn most(verb: Verb) -> [u64; 8]
     requires { IsVerb verb }
-    ensures { result ≡ (command_of verb).most }
+    ensures { take (length (command_of verb).most) result ≡ (command_of verb).most }
 {
     match verb {
-        Verb::Box(d) => (1 << (64 / d)) - 1,
-        _ => u64::MAX,
+        Verb::Box(d) => [greatest(d); 8],
+        Verb::Near(d) => {
+            let mut most = [greatest(d); 8];
+            most[d as usize] = u64::from(u32::MAX);
+            most
+        }
+        _ => [u64::MAX; 8],
     }
+}
+
+// The greatest coordinate.
+fn greatest(d: u32) -> u64
+    requires { IsDimension d }
+    ensures { result ≡ greatest d }
+{
+    (1 << (64 / d)) - 1
 }
 
 // The line that the command makes of its numbers.
 pub(crate) fn script_line(verb: Verb, numbers: &[u64]) -> ScriptLine
     requires verb { IsVerb verb }
     requires enough { 8 ≤ length numbers.now }
-    requires range { All (λ number. number ≤ (command_of verb).most)
-        (take (command_of verb).count numbers.now) }
-    ensures { result ≡ (command_of verb).line (take (command_of verb).count numbers.now) }
+    requires range { AreWithin (command_of verb).most numbers.now }
+    ensures { result ≡ (command_of verb).line
+        (take (length (command_of verb).most) numbers.now) }
 {
     match verb {
         Verb::Find => ScriptLine::Find(numbers[0]),
         Verb::Box(d) => ScriptLine::Region(region(d, numbers)),
+        Verb::Near(d) => {
+            ScriptLine::Near(corner(d as usize, numbers), numbers[d as usize] as u32)
+        }
         Verb::Put => ScriptLine::Put(numbers[0], numbers[1]),
         Verb::Del => ScriptLine::Del(numbers[0]),
         Verb::Get => ScriptLine::Get(numbers[0]),

@@ -91,17 +91,18 @@ fn is_blank(byte: u8) -> bool
     byte == b' ' || byte == b'\t'
 }
 
-// The numbers of the words of this line, which are to be so many. Past these the list is 0.
-pub(crate) fn numbers(line: &[u8], count: usize, most: u64) -> Result<[u64; 8], Why>
-    requires { count ≤ 8 }
+// The numbers of the words of this line, one for each of these greatest values. Past these the list
+// is 0.
+pub(crate) fn numbers(line: &[u8], most: &[u64]) -> Result<[u64; 8], Why>
+    requires { length most.now ≤ 8 }
     ensures { MatchResult result
-        (λ numbers. numbers_of most count (words_of line.now) ≡ Ok (take count numbers))
-        (λ why. numbers_of most count (words_of line.now) ≡ Err why) }
+        (λ numbers. numbers_of most.now (words_of line.now) ≡ Ok (take (length most.now) numbers))
+        (λ why. numbers_of most.now (words_of line.now) ≡ Err why) }
 {
     let mut numbers = [0; 8];
     let mut rest = line;
-    for i in 0..count {
-        let (number, after) = cut_number(rest, most)?;
+    for i in 0..most.len() {
+        let (number, after) = cut_number(rest, most[i])?;
         numbers[i] = number;
         rest = after;
     }

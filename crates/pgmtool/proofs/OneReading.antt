@@ -4,7 +4,7 @@ use Rattle.pgm_script.specs.declared.script.ScriptKind.{ScriptKind}
 use Rattle.sosd_reader.specs.KeyFiles.{key_width}
 use Rattle.sosd_reader.specs.NumberFiles.Kind.{of_keys, of_points}
 use Rattle.command_line.specs.Requests.{Building, Replaying, Request}
-use Rattle.command_line.specs.Requests.Request.{build, explain, query, box, replay, drill}
+use Rattle.command_line.specs.Requests.Request.{build, explain, query, relax, box, near, replay, drill}
 use Rattle.pgm_script.specs.declared.script.ScriptLine.{ScriptLine}
 use Rattle.pgmtool.specs.declared.refusal.Refusal.TheVariants.{Full}
 use Rattle.pgmtool.specs.Inputs.{reads, reads_index, reads_points, reads_history}
@@ -35,7 +35,11 @@ module _ (contents : List ℕ → Option (List ℕ)) where
   reads_one (explain building) = then_one (reads_index (Some contents) building) _ (index_one building) (λ keys. gives_one _)
   reads_one (query building name windows) = then_one (reads_index (Some contents) building) _ (index_one building)
       (λ keys. then_one _ _ (script_one ScriptKind.Find contents name) (λ lines. gives_one _))
+  reads_one (relax building name pieces) = then_one (reads_index (Some contents) building) _ (index_one building)
+      (λ keys. then_one _ _ (script_one ScriptKind.Find contents name) (λ lines. gives_one _))
   reads_one (box searching) = then_one (reads_points searching.dims (Some contents) searching.file) _ (numbers_one (of_points searching.dims) contents searching.file)
       (λ coords. then_one _ _ (script_one (ScriptKind.Region searching.dims) contents searching.script) (λ lines. gives_one _))
+  reads_one (near searching) = then_one (reads_points searching.dims (Some contents) searching.file) _ (numbers_one (of_points searching.dims) contents searching.file)
+      (λ coords. then_one _ _ (script_one (ScriptKind.Near searching.dims) contents searching.script) (λ lines. gives_one _))
   reads_one (replay replaying) = then_one _ _ (script_one ScriptKind.Replay contents replaying.script) (history_one replaying)
   reads_one (drill drilling) = gives_one _

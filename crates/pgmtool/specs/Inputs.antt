@@ -13,13 +13,14 @@ use Rattle.pgm_script.specs.Scripts.{IsLineOf, ReadsAs as ReadsScript}
 use Rattle.log_levels.specs.declared.update.Update.{Update}
 use Rattle.log_levels.specs.Accepted.{entries_of}
 use Rattle.command_line.specs.Requests.{Building, Drilling, Replaying, Request}
-use Rattle.command_line.specs.Requests.Request.{build, explain, query, box, replay, drill}
+use Rattle.command_line.specs.Requests.Request.{build, explain, query, relax, box, near, replay, drill}
 use Rattle.pgmtool.specs.declared.refusal.Refusal.{Refusal}
 use Rattle.pgmtool.specs.declared.refusal.Refusal.TheVariants.{ReadFault, TooLong, Script, Full}
 use Rattle.pgmtool.specs.declared.inputs.TheConstants.{SCRIPT_LIMIT}
 use Rattle.pgmtool.specs.Files.{Files, HoldsOfFile, IsFaultOf, IsMissing, IsReadable}
 use Rattle.pgmtool.specs.Refusals.{refusal_of}
 use Rattle.map_replay.specs.declared.question.Question.{Question}
+use Rattle.commands.specs.declared.task.Centre.{Centre}
 use Rattle.commands.specs.Tasks.{Bounds}
 use Rattle.commands.specs.Tasks as tasks
 
@@ -66,6 +67,14 @@ region_in line = None
 
 abbrev pub regions_in : List ScriptLine → List Region
 regions_in lines = filter_map region_in lines
+
+-- the centres of a script, in order
+abbrev pub centre_in : ScriptLine → Option Centre
+centre_in (ScriptLine.Near place count) = Some (record { place = place; count = count })
+centre_in line = None
+
+abbrev pub centres_in : List ScriptLine → List Centre
+centres_in lines = filter_map centre_in lines
 
 -- the updates of a script, in order
 abbrev pub update_in : ScriptLine → Option Update
@@ -125,8 +134,14 @@ reads files (explain building) = then (reads_index files building) (λ keys. giv
 reads files (query building name windows) = then (reads_index files building) (λ keys.
     then (reads_script ScriptKind.Find files name) (λ lines.
     gives (tasks.Task.query keys (bounds_in building) (questions_in lines) windows)))
+reads files (relax building name pieces) = then (reads_index files building) (λ keys.
+    then (reads_script ScriptKind.Find files name) (λ lines.
+    gives (tasks.Task.relax keys (bounds_in building) pieces (questions_in lines))))
 reads files (box searching) = then (reads_points searching.dims files searching.file) (λ coords.
     then (reads_script (ScriptKind.Region searching.dims) files searching.script) (λ lines.
     gives (tasks.Task.box searching.dims coords (regions_in lines))))
+reads files (near searching) = then (reads_points searching.dims files searching.file) (λ coords.
+    then (reads_script (ScriptKind.Near searching.dims) files searching.script) (λ lines.
+    gives (tasks.Task.near searching.dims coords (centres_in lines))))
 reads files (replay replaying) = then (reads_script ScriptKind.Replay files replaying.script) (reads_history replaying)
 reads files (drill drilling) = gives (drill_of drilling)

@@ -1,19 +1,21 @@
 // Reading the inputs of a request, in order.
 ghost use Rattle.std.specs.Prelude.{◌≡◌, ◌++◌, ◌∷◌, [], All, Err, IfOk, OnOk};
-ghost use Rattle.zorder.specs.Codes.{IsDimension};
+ghost use Rattle.zorder.specs.Codes.{IsDimension, IsInRange};
 ghost use Rattle.pgm_script.specs.Scripts.{IsKind, IsLineOf};
 ghost use Rattle.commands.specs.PointRegions.{IsRegionOf};
 ghost use Rattle.command_line.specs.Requests.{asked_of, first_file, built_of, drilled_of};
 ghost use Rattle.pgmtool.specs.Files.{IsFirstMissing, IsMissing};
 ghost use Rattle.commands.specs.Tasks.{bounds_of, task_of};
 ghost use Rattle.pgmtool.specs.Inputs.{reads, reads_index, reads_keys, reads_script, bounds_in};
-ghost use Rattle.pgmtool.specs.Inputs.{drill_of, reads_points, regions_in};
+ghost use Rattle.pgmtool.specs.Inputs.{centres_in, drill_of, reads_points, regions_in};
 ghost use Rattle.pgmtool.specs.Stops.{Answers};
 
 use crate::history::history_in;
 use crate::refusal::{Refusal, Stopped};
 use command_line::{Building, Drilling, Request};
-use commands::{Bounds, Drill, Search, SortedKeys, Table, Task, Workers};
+use commands::{
+    Bounds, Centre, Drill, Neighbours, Pieces, Search, SortedKeys, Table, Task, Workers,
+};
 use edge::Shelf;
 use pgm_script::{Finds, LineList, ScriptKind, ScriptLine, parse_as, read_text};
 use sosd_reader::{read_keys, read_points};
@@ -76,6 +78,23 @@ pub fn read<F: Shelf>(alloc: Global, files: &mut F, request: Request<'_>) -> Res
                 table: table_in(table),
             })
         }
+        Request::Relax {
+            building,
+            script,
+            pieces,
+        } => {
+            let keys = index_keys(alloc, files, building)?;
+            let finds: Finds = script_lines(alloc, files, script, ScriptKind::Find)?;
+            let bounds = bounds_in(building);
+            let workers = workers_in(building);
+            Ok(Task::Relax {
+                keys,
+                bounds,
+                workers,
+                pieces: pieces_in(pieces),
+                questions: finds.numbers,
+            })
+        }
         Request::Box { searching } => {
             let dims = searching.dims;
             let coords = coordinates(alloc, files, searching.file, dims)?;
@@ -92,6 +111,23 @@ pub fn read<F: Shelf>(alloc: Global, files: &mut F, request: Request<'_>) -> Res
                 regions,
             };
             Ok(Task::Box { search })
+        }
+        Request::Near { searching } => {
+            let dims = searching.dims;
+            let coords = coordinates(alloc, files, searching.file, dims)?;
+            let lines: Vec<ScriptLine> = script_lines(
+                alloc,
+                files,
+                searching.script,
+                ScriptKind::Near(dims),
+            )?;
+            let centres = centres_in(alloc, dims, &lines)?;
+            let neighbours = Neighbours {
+                dims,
+                coords,
+                centres,
+            };
+            Ok(Task::Near { neighbours })
         }
         Request::Replay { replaying } => {
             let lines: Vec<ScriptLine> = script_lines(
@@ -138,6 +174,14 @@ fn bounds_in(building: Building<'_>) -> Bounds
 fn workers_in(building: Building<'_>) -> Workers {
     Workers {
         count: building.workers,
+    }
+}
+
+fn pieces_in(pieces: command_line::Pieces) -> Pieces
+    ensures { result.count ≡ pieces.count }
+{
+    Pieces {
+        count: pieces.count,
     }
 }
 
@@ -255,6 +299,33 @@ fn push_region(regions: &mut Vec<Region>, line: &ScriptLine) -> Result<(), Alloc
 {
     if let ScriptLine::Region(region) = line {
         regions.push(*region)?;
+    }
+    Ok(())
+}
+
+// The centres of a script, each in the range of `d` coordinates.
+fn centres_in(alloc: Global, d: u32, lines: &[ScriptLine]) -> Result<Vec<Centre>, AllocError>
+    requires { All (IsLineOf (ScriptKind.Near d)) lines.now }
+    ensures centres { IfOk result (λ centres. centres.items ≡ centres_in lines.now) }
+    ensures each { IfOk result
+        (λ centres. All (λ centre. IsInRange d centre.place) centres.items) }
+{
+    let mut centres = Vec::with_capacity(alloc, lines.len())?;
+    for i in 0..lines.len() {
+        push_centre(&mut centres, &lines[i])?;
+    }
+    Ok(centres)
+}
+
+fn push_centre(centres: &mut Vec<Centre>, line: &ScriptLine) -> Result<(), AllocError>
+    ensures { OnOk result
+        (centres.new.items ≡ centres.old.items ++ centres_in (line.now ∷ [])) }
+{
+    if let ScriptLine::Near(place, count) = line {
+        centres.push(Centre {
+            place: *place,
+            count: *count,
+        })?;
     }
     Ok(())
 }

@@ -1,10 +1,12 @@
 //! `pgmtool` builds a PGM-index over a key file, writes it as text, and answers questions by it.
 //!
 //! `pgmtool build FILE` writes how many levels the index has and how many segments each level,
-//! `pgmtool explain FILE` each segment too, with three places that show why it ends, and
-//! `pgmtool query FILE SCRIPT` how many keys are below each question of the script, `pgmtool box
-//! FILE SCRIPT` the points in each box of the script, and `pgmtool replay SCRIPT` what a map says
-//! after the updates of the script. Of the keys 0, 1, 2, 10, `explain` writes with both bounds 0:
+//! `pgmtool explain FILE` each segment too, with three places that show why it ends,
+//! `pgmtool query FILE SCRIPT` how many keys are below each question of the script, `pgmtool relax
+//! FILE SCRIPT` both, of an index whose pieces aren't joined, `pgmtool box FILE SCRIPT` the points
+//! in each box of the script, `pgmtool near FILE SCRIPT` those nearest to each centre, and
+//! `pgmtool replay SCRIPT` what a map says after the updates of the script. Of the keys 0, 1, 2,
+//! 10, `explain` writes with both bounds 0:
 //!
 //! ```text
 //! keys 4 distinct 4 levels 2

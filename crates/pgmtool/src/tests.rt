@@ -13,10 +13,12 @@ mod damage;
 mod drill;
 mod explain;
 mod holds;
+mod neighbours;
 mod query;
 mod readers;
 mod refusals;
 mod regions;
+mod relax;
 mod replay;
 mod workers;
 

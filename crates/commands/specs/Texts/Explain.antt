@@ -46,7 +46,7 @@ run_lines (segment ∷ later) to = run_line segment (run_end (starts_of later) t
 -- level i: its text line, and those of its runs
 abbrev pub level_lines : List ℕ → Bounds → List (List Segment) → ℕ → List (List ℕ)
 level_lines keys bounds levels i =
-    level_line_of keys bounds levels i ∷ run_lines (level_at levels i) (length (xs_at keys levels i))
+    level_line_of keys bounds None levels i ∷ run_lines (level_at levels i) (length (xs_at keys levels i))
 
 -- the index of the keys: how many keys and levels, and each level with its runs, which are as few as lines can do
 pub record IsExplained (keys : List ℕ) (bounds : Bounds) (pieces : List (List ℕ)) : Type 0 where

@@ -1,23 +1,19 @@
 -- The text of `box`.
 use Rattle.std.specs.Prelude.{◌≡◌, ℕ, List, [], ◌∷◌, length, map, codes, decimal}
-use Rattle.std.specs.List.{range_with_len}
 use Rattle.zorder.specs.declared.regions.Region.{Region}
-use Rattle.zorder.specs.Codes.{coordinate}
 use Rattle.boxes.specs.PointCodes.{AreSortedCodes}
 use Rattle.boxes.specs.BoxAnswers.{IsLooked, codes_inside}
 use Rattle.written.specs.TextLines.{text_line}
+use Rattle.commands.specs.Texts.Coordinates.{coordinate_words}
 use Rattle.commands.specs.Texts.InTurn.{TellsEach}
 
 -- `box FOUND LOOKED`
 abbrev pub box_line : (found looked : ℕ) → List ℕ
 box_line found looked = text_line (codes "box" ∷ decimal found ∷ decimal looked ∷ [])
 
--- the words of `point CODE C_1 .. C_d`, with the first n of the d coordinates
-abbrev pub point_words : (d code n : ℕ) → List (List ℕ)
-point_words d code n = codes "point" ∷ decimal code ∷ map (λ c. decimal (coordinate d c code)) (range_with_len 0 n)
-
+-- `point CODE C_1 .. C_d`
 abbrev pub point_line : (d code : ℕ) → List ℕ
-point_line d code = text_line (point_words d code d)
+point_line d code = text_line (codes "point" ∷ decimal code ∷ coordinate_words d code d)
 
 -- the text lines of a region: how many points are inside and how many places are looked at, and each point inside, by rising code
 abbrev pub TellsRegion : List ℕ → Region → List (List ℕ) → Type 0

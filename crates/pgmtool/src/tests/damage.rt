@@ -49,7 +49,7 @@ const SIDE_4: &[u8] = b"\x10\0\0\0\0\0\0\0\
 const NARROW: &[u8] = b"\x02\0\0\0\0\0\0\0\x05\0\0\0\x09\0\0\0";
 
 // Words, the files `keys` and `script`, and the text.
-const TEXTS: [(&str, &[u8], &[u8], &str); 11] = [
+const TEXTS: [(&str, &[u8], &[u8], &str); 12] = [
     (
         EXPLAIN,
         FOUR,
@@ -75,6 +75,12 @@ const TEXTS: [(&str, &[u8], &[u8], &str); 11] = [
         b"\x01\0\0\0\0\0\0\0\x02\0\0\0\x01\0\0\0",
         b"box 0 0 3 3",
         "box 1 1\npoint 6 2 1\n",
+    ),
+    (
+        "near keys script",
+        SIDE_4,
+        b"near 0 0 3\n",
+        "near 3 2\npoint 0 0 0 0\npoint 1 1 1 0\npoint 2 1 0 1\n",
     ),
     (
         "replay script --batch 1",

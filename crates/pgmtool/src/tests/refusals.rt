@@ -8,6 +8,11 @@ const BOX: &str = "box keys script";
 
 const SPACE: &str = "box keys script --dims 3";
 
+const NEAR: &str = "near keys script";
+
+// A point file without points.
+const NO_POINT: &[u8] = b"\0\0\0\0\0\0\0\0";
+
 // A name, words, the files `keys` and `script`, and the fault line.
 type Refused = (
     &'static str,
@@ -17,7 +22,7 @@ type Refused = (
     &'static str,
 );
 
-const USAGE: [Refused; 8] = [
+const USAGE: [Refused; 10] = [
     ("no command", "", FOUR, b"", "fault usage\n"),
     (
         "a command that isn't there",
@@ -31,6 +36,14 @@ const USAGE: [Refused; 8] = [
         "an error bound past its range",
         "explain keys --eps 1048577",
         FOUR,
+        b"",
+        "fault usage\n",
+    ),
+    ("no centres", "near keys", FOUR, b"", "fault usage\n"),
+    (
+        "centres of five coordinates",
+        "near keys script --dims 5",
+        NO_POINT,
         b"",
         "fault usage\n",
     ),
@@ -77,7 +90,7 @@ const MISSING: [Refused; 4] = [
     ),
 ];
 
-const BAD_KEYS: [Refused; 15] = [
+const BAD_KEYS: [Refused; 16] = [
     (
         "bad keys before a script that isn't there",
         "query keys none",
@@ -184,9 +197,16 @@ const BAD_KEYS: [Refused; 15] = [
         b"box 0 0 1 1",
         "fault keys short 12\n",
     ),
+    (
+        "a point cut off before a bad script of centres",
+        NEAR,
+        b"\x01\0\0\0\0\0\0\0\x02\0\0\0",
+        b"near 0",
+        "fault keys short 12\n",
+    ),
 ];
 
-const BAD_SCRIPTS: [Refused; 11] = [
+const BAD_SCRIPTS: [Refused; 15] = [
     (
         "a line that isn't UTF-8",
         QUERY,
@@ -242,6 +262,34 @@ const BAD_SCRIPTS: [Refused; 11] = [
         b"\0\0\0\0\0\0\0\0",
         b"box 0 0 0 1 1 1\nbox 0 0 0 1 1 2097152",
         "fault script 2 number\n",
+    ),
+    (
+        "a centre without a number of points",
+        NEAR,
+        NO_POINT,
+        b"near 1 2",
+        "fault script 1 missing\n",
+    ),
+    (
+        "a number of points past 32 bits",
+        NEAR,
+        NO_POINT,
+        b"near 1 2 4294967296",
+        "fault script 1 number\n",
+    ),
+    (
+        "a centre out of range",
+        "near keys script --dims 4",
+        NO_POINT,
+        b"near 1 2 3 4 5\nnear 1 2 3 65536 5",
+        "fault script 2 number\n",
+    ),
+    (
+        "a box among centres",
+        NEAR,
+        NO_POINT,
+        b"box 1 1 2 2",
+        "fault script 1 word\n",
     ),
     (
         "a question about keys in a replay",

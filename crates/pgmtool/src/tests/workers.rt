@@ -6,10 +6,11 @@ use edge::Place;
 use holds::Holds;
 
 // By two workers. The six squares are six pieces, and the keys of the drill three or more.
-const WORDS: [&str; 4] = [
+const WORDS: [&str; 5] = [
     "build keys --workers 2",
     "explain keys --workers 2",
     "query keys script --windows --workers 2",
+    "relax keys script --pieces 6 --workers 2",
     "drill 6 1 --workers 2",
 ];
 

@@ -18,10 +18,14 @@ returns c =
     let second_is = c.in_ok-subcommand-2.ensures.shape c.in_ok-index_command-2.ensures.local ∙ added _ _ _ _ first_is explain_is in
     let query_is = ap top_of (c.in_ok-query_command.ensures.shape) in
     let third_is = c.in_ok-subcommand-3.ensures.shape c.in_ok-query_command.ensures.local ∙ added _ _ _ _ second_is query_is in
-    let box_is = ap top_of (c.in_ok-box_command.ensures.shape) in
-    let fourth_is = c.in_ok-subcommand-4.ensures.shape c.in_ok-box_command.ensures.local ∙ added _ _ _ _ third_is box_is in
+    let relax_is = ap top_of (c.in_ok-relax_command.ensures.shape) in
+    let fourth_is = c.in_ok-subcommand-4.ensures.shape c.in_ok-relax_command.ensures.local ∙ added _ _ _ _ third_is relax_is in
+    let box_is = ap top_of (c.in_ok-points_command.ensures.shape) in
+    let fifth_is = c.in_ok-subcommand-5.ensures.shape c.in_ok-points_command.ensures.local ∙ added _ _ _ _ fourth_is box_is in
+    let near_is = ap top_of (c.in_ok-points_command-2.ensures.shape) in
+    let sixth_is = c.in_ok-subcommand-6.ensures.shape c.in_ok-points_command-2.ensures.local ∙ added _ _ _ _ fifth_is near_is in
     let replay_is = ap top_of (c.in_ok-replay_command.ensures.shape) in
-    let fifth_is = c.in_ok-subcommand-5.ensures.shape c.in_ok-replay_command.ensures.local ∙ added _ _ _ _ fourth_is replay_is in
+    let seventh_is = c.in_ok-subcommand-7.ensures.shape c.in_ok-replay_command.ensures.local ∙ added _ _ _ _ sixth_is replay_is in
     let drill_is = ap top_of (c.in_ok-drill_command.ensures.shape) in
-    IfOk-weaker c.subcommand-6.result _ _
-    (λ program h. h.shape c.in_ok-drill_command.ensures.local ∙ added _ _ _ _ fifth_is drill_is) c.subcommand-6.ensures
+    IfOk-weaker c.subcommand-8.result _ _
+    (λ program h. h.shape c.in_ok-drill_command.ensures.local ∙ added _ _ _ _ seventh_is drill_is) c.subcommand-8.ensures

@@ -1,4 +1,4 @@
-use Rattle.std.proofs.Common.{◌≡◌, sym, subst, refl, ℕ, List}
+use Rattle.std.proofs.Common.{◌≡◌, sym, subst, refl, ℕ, List, None}
 use Rattle.exact_cross.specs.declared.segment.Segment.{Segment}
 use Rattle.levels.specs.Indexes.{IsIndex}
 use Rattle.commands.specs.Tasks.{Bounds, bounds_of}
@@ -8,9 +8,9 @@ use Rattle.commands.proofs.build.write.Goals as goal
 
 -- what is told of the index is told of the keys
 told : (keys of_index : List ℕ) (bounds : Bounds) (levels : List (List Segment)) → of_index ≡ keys → IsIndex keys bounds.eps bounds.eps_rec levels →
-    IsBuilt keys bounds (tells_levels of_index levels (built_level of_index bounds levels))
+    IsBuilt keys bounds (tells_levels of_index levels (built_level of_index bounds None levels))
 told keys of_index bounds levels same index =
-    subst (λ (k : List ℕ). IsBuilt keys bounds (tells_levels k levels (built_level k bounds levels))) (sym same)
+    subst (λ (k : List ℕ). IsBuilt keys bounds (tells_levels k levels (built_level k bounds None levels))) (sym same)
     (record { levels = levels; index = index; told = refl })
 
 pub returns-in-Ok : goal.returns-in-Ok

@@ -9,6 +9,6 @@ use Rattle.commands.proofs.build.write_levels.Given as goal
 -- what is told of the levels before this one was written
 abbrev pub invariant-loop-i : goal.invariant-loop-i
 invariant-loop-i g l =
-    let told = built_level l.index.keys (bounds_of l.bounds) l.index.levels in
+    let told = built_level l.index.keys (bounds_of l.bounds) l.slack l.index.levels in
     HasWritten g.S.Sink l.fn.out l.out (flat_map told (places (length l.index.levels)))
     (flat_map told (drop l.i (places (length l.index.levels))))

@@ -1,4 +1,4 @@
-use Rattle.std.proofs.Common.{◌∷◌, [], length, ◌∙◌, ap, ap₂, subst, arith, ℕ, List}
+use Rattle.std.proofs.Common.{◌∷◌, [], length, ◌∙◌, ap, ap₂, subst, arith, ℕ, List, None}
 use Rattle.std.specs.Prelude.{OnOk, OnErr}
 use Rattle.written.specs.Writing.{Writes, BreaksOff}
 use Rattle.levels.proofs.CallerLemmas.{ascends}
@@ -11,7 +11,7 @@ use Rattle.commands.proofs.explain.write_level.Goals as goal
 
 pub returns-in_err-hand_over-clause-err : goal.returns-in_err-hand_over-clause-err
 returns-in_err-hand_over-clause-err g c =
-    let head = level_line_of c.args.index.now.keys (bounds_of c.args.bounds) c.args.index.now.levels c.args.i in
+    let head = level_line_of c.args.index.now.keys (bounds_of c.args.bounds) None c.args.index.now.levels c.args.i in
     on_err c.from_residual.result _
     (head_broken g.S.Sink c.args.out.now c.hand_over.new.out c.as_bytes.result.now head _ (c.as_bytes.ensures ∙ c.fill_level_line.ensures)
     c.in_err-hand_over.ensures.err)
@@ -26,7 +26,7 @@ overflow_cast-len g c =
 pub returns-clause-ok : goal.returns-clause-ok
 returns-clause-ok g c =
     let index = c.args.index.now in
-    let head = level_line_of index.keys (bounds_of c.args.bounds) index.levels c.args.i in
+    let head = level_line_of index.keys (bounds_of c.args.bounds) None index.levels c.args.i in
     let runs = run_lines (level_at index.levels c.args.i) (length (xs_at index.keys index.levels c.args.i)) in
     let runs_are = ap₂ run_lines c.level.ensures.segments (ap length c.list.ensures) in
     ok_behind g.S.Sink c.args.out.now c.hand_over.new.out c.write_runs.new.out (head ∷ []) runs c.write_runs.result
@@ -36,7 +36,7 @@ returns-clause-ok g c =
 pub returns-clause-err : goal.returns-clause-err
 returns-clause-err g c =
     let index = c.args.index.now in
-    let head = level_line_of index.keys (bounds_of c.args.bounds) index.levels c.args.i in
+    let head = level_line_of index.keys (bounds_of c.args.bounds) None index.levels c.args.i in
     let runs = run_lines (level_at index.levels c.args.i) (length (xs_at index.keys index.levels c.args.i)) in
     let runs_are = ap₂ run_lines c.level.ensures.segments (ap length c.list.ensures) in
     err_behind g.S.Sink c.args.out.now c.hand_over.new.out c.write_runs.new.out (head ∷ []) runs c.write_runs.result

@@ -6,17 +6,18 @@ use Rattle.pgm_script.specs.declared.script.ScriptLine.{ScriptLine}
 use Rattle.pgm_script.specs.declared.script.ScriptLine.TheVariants.{Find}
 use Rattle.pgm_script.specs.declared.list.Finds.{Finds}
 use Rattle.command_line.specs.Requests.{Building, Searching, built_of, searched_of, replayed_of}
-use Rattle.command_line.specs.Requests.Request.{box as search, query, replay}
+use Rattle.command_line.specs.Requests.Request.{box as search, near, query, relax, replay}
+use Rattle.commands.specs.declared.task.Centre.{Centre}
 use Rattle.commands.specs.declared.task.History.{History}
 use Rattle.commands.specs.declared.task.Task.TheVariants as declared_task
 use Rattle.commands.specs.Histories.{replay_of}
 use Rattle.commands.specs.Tasks.{task_of}
 use Rattle.commands.specs.Tasks as tasks
-use Rattle.commands.specs.Tasks.Task.{box}
+use Rattle.commands.specs.Tasks.Task.{box, near as neighbours}
 use Rattle.commands.proofs.SearchLemmas.{count_is}
 use Rattle.pgmtool.specs.Files.{Files}
 use Rattle.pgmtool.specs.Stops.{Answers}
-use Rattle.pgmtool.specs.Inputs.{reads, reads_index, reads_points, reads_script, reads_history, regions_in, questions_in, bounds_in, gives}
+use Rattle.pgmtool.specs.Inputs.{reads, reads_index, reads_points, reads_script, reads_history, centres_in, regions_in, questions_in, bounds_in, gives}
 use Rattle.pgmtool.proofs.InputLemmas.{then_goes_on, second_stops, stopped_alike, handed_on}
 use Rattle.pgmtool.proofs.inputs.read.Goals as goal
 
@@ -61,6 +62,47 @@ returns-in_ok-regions-in-Box-clause-answer g c =
       never_falls = omega (arith, quiet);
     }
 
+-- the task of points and centres that were read
+neighbours_of : (files : Files) (searching : Searching) (coords : List ℕ) (lines : List ScriptLine) (centres : List Centre) →
+    reads_points searching.dims files searching.file (Ok coords) → reads_script (ScriptKind.Near searching.dims) files searching.script (Ok lines) →
+    centres ≡ centres_in lines → reads files (near searching) (Ok (neighbours searching.dims coords centres))
+neighbours_of files searching coords lines centres points script is =
+    (coords, points, (lines, script, ap (λ (cs : List Centre). Ok (neighbours searching.dims coords cs)) is))
+
+-- what is read of a point file holds the points of a search of neighbours
+pub invariant_of-neighbours : goal.invariant_of-neighbours
+invariant_of-neighbours g c =
+    let d = c.in-Near.searching.dims in
+    let coords = c.in_ok-coords-in-Near.coords.items in
+    let points = c.in_ok-coords-in-Near.ensures.answer.ok.0 in
+    let dimension : IsDimension d = (c.in-Near.searching.some, c.in-Near.searching.few) in
+    let count = count_is d coords dimension points in
+    record {
+      dimension = dimension;
+      whole = points.whole ∙ ap (λ (n : ℕ). d * n) (sym count);
+      few_points = subst (λ (n : ℕ). n < 4294967296) (sym count) points.few;
+      range = points.range;
+      each = c.in_ok-centres-in-Near.ensures.each;
+    }
+
+pub returns-in_ok-centres-in-Near-clause-answer : goal.returns-in_ok-centres-in-Near-clause-answer
+returns-in_ok-centres-in-Near-clause-answer g c =
+    let searching = c.in-Near.searching in
+    let coords = c.in_ok-coords-in-Near.coords.items in
+    let lines = c.in_ok-lines-in-Near.lines.items in
+    let one = c.in_ok-coords-in-Near.ensures in
+    let two = c.in_ok-lines-in-Near.ensures in
+    let quiet = two.answer.unfaulted ∙ one.answer.unfaulted in
+    record {
+      ok = rw c.in-Near.is (neighbours_of _ (searched_of searching) coords lines _ one.answer.ok
+          (subst (λ (files : Files). reads_script (ScriptKind.Near searching.dims) files searching.script.now (Ok lines)) one.files two.answer.ok)
+          (c.in_ok-centres-in-Near.ensures.centres ∙ ap centres_in c.deref-in-Near.ensures.value));
+      unfaulted = quiet;
+      stopped = tt;
+      faulted = λ rose. absurd (omega (arith, rose, quiet));
+      never_falls = omega (arith, quiet);
+    }
+
 -- the task of keys and the questions of a script that were read
 questions_in-finds : (questions : List ℕ) → questions_in (map Find questions) ≡ questions
 questions_in-finds [] = refl
@@ -97,6 +139,38 @@ returns-in_ok-finds-in-Query-clause-answer g c =
       never_falls = omega (arith, quiet);
     }
 
+asked_relaxed : (files : Files) (building : Building) (name keys questions : List ℕ) (pieces told : ℕ) (bounds : tasks.Bounds) → told ≡ pieces → bounds ≡ bounds_in building →
+    reads_index files building (Ok keys) → reads_script ScriptKind.Find files name (Ok (map Find questions)) →
+    reads files (relax building name pieces) (Ok (tasks.Task.relax keys bounds told questions))
+asked_relaxed files building name keys questions pieces told bounds same is index script = (
+  keys,
+  index,
+  (
+    map Find questions,
+    script,
+    ap (λ (n : ℕ). Ok (tasks.Task.relax keys bounds n questions)) same
+        ∙ ap (λ (b : tasks.Bounds). Ok (tasks.Task.relax keys b pieces questions)) is
+        ∙ ap (λ (q : List ℕ). Ok (tasks.Task.relax keys (bounds_in building) pieces q)) (sym (questions_in-finds questions)),
+  ),
+)
+
+pub returns-in_ok-finds-in-Relax-clause-answer : goal.returns-in_ok-finds-in-Relax-clause-answer
+returns-in_ok-finds-in-Relax-clause-answer g c =
+    let building = built_of c.in-Relax.building in
+    let name = c.in-Relax.script.now in
+    let questions = c.in_ok-finds-in-Relax.finds.numbers.items in
+    let one = c.in_ok-keys-in-Relax.ensures in
+    let two = c.in_ok-finds-in-Relax.ensures in
+    let quiet = two.answer.unfaulted ∙ one.answer.unfaulted in
+    record {
+      ok = rw c.in-Relax.is (asked_relaxed _ building name _ questions _ _ _ c.pieces_in.ensures c.bounds_in-bounds-in-Relax.ensures one.answer.ok
+          (subst (λ (files : Files). reads_script ScriptKind.Find files name (Ok (map Find questions))) one.files two.answer.ok));
+      unfaulted = quiet;
+      stopped = tt;
+      faulted = λ rose. absurd (omega (arith, rose, quiet));
+      never_falls = omega (arith, quiet);
+    }
+
 -- a script that stopped, behind what was read first
 pub returns-in_err-finds-in-Query-clause-answer : goal.returns-in_err-finds-in-Query-clause-answer
 returns-in_err-finds-in-Query-clause-answer g c =
@@ -115,6 +189,23 @@ returns-in_err-finds-in-Query-clause-answer g c =
     (λ keys lines. gives (tasks.Task.query keys (bounds_in building) (questions_in lines) c.in-Query.windows)) (λ sorted. sorted.keys.items)
     (λ (finds : Finds). map Find finds.numbers.items) task_of before middle after c.in_ok-keys-in-Query.keys stopped one.answer two))
 
+pub returns-in_err-finds-in-Relax-clause-answer : goal.returns-in_err-finds-in-Relax-clause-answer
+returns-in_err-finds-in-Relax-clause-answer g c =
+    let before = g.F.Shelf.faults c.args.files.now in
+    let middle = g.F.Shelf.faults c.index_keys-in-Relax.new.files in
+    let after = g.F.Shelf.faults c.script_lines-in-Relax.new.files in
+    let files = g.F.Shelf.files c.args.files.now in
+    let building = built_of c.in-Relax.building in
+    let name = c.in-Relax.script.now in
+    let stopped = c.in_err-finds-in-Relax.field-0.0 in
+    let one = c.in_ok-keys-in-Relax.ensures in
+    let two = subst (λ (f : Files). Answers {B = Finds} (reads_script ScriptKind.Find f name) (λ finds. map Find finds.numbers.items) middle after (Err stopped)) one.files c.in_err-finds-in-Relax.ensures.answer in
+    rw c.in-Relax.is (subst (Answers (reads files (relax building name c.in-Relax.pieces.count)) task_of before after)
+    (sym (handed_on _ stopped c.from_residual-in_err-finds-in-Relax.ensures.1))
+    (second_stops (reads_index files building) (λ keys. reads_script ScriptKind.Find files name)
+    (λ keys lines. gives (tasks.Task.relax keys (bounds_in building) c.in-Relax.pieces.count (questions_in lines))) (λ sorted. sorted.keys.items)
+    (λ (finds : Finds). map Find finds.numbers.items) task_of before middle after c.in_ok-keys-in-Relax.keys stopped one.answer two))
+
 pub returns-in_err-lines-in-Box-clause-answer : goal.returns-in_err-lines-in-Box-clause-answer
 returns-in_err-lines-in-Box-clause-answer g c =
     let before = g.F.Shelf.faults c.args.files.now in
@@ -130,6 +221,22 @@ returns-in_err-lines-in-Box-clause-answer g c =
     (second_stops (reads_points searching.dims files searching.file) (λ coords. reads_script (ScriptKind.Region searching.dims) files searching.script)
     (λ coords lines. gives (tasks.Task.box searching.dims coords (regions_in lines))) (λ (coords : Vec ℕ Global). coords.items)
     (λ (lines : Vec ScriptLine Global). lines.items) task_of before middle after c.in_ok-coords-in-Box.coords stopped one.answer two))
+
+pub returns-in_err-lines-in-Near-clause-answer : goal.returns-in_err-lines-in-Near-clause-answer
+returns-in_err-lines-in-Near-clause-answer g c =
+    let before = g.F.Shelf.faults c.args.files.now in
+    let middle = g.F.Shelf.faults c.coordinates-in-Near.new.files in
+    let after = g.F.Shelf.faults c.script_lines-in-Near.new.files in
+    let files = g.F.Shelf.files c.args.files.now in
+    let searching = searched_of c.in-Near.searching in
+    let stopped = c.in_err-lines-in-Near.field-0.0 in
+    let one = c.in_ok-coords-in-Near.ensures in
+    let two = subst (λ (f : Files). Answers {B = Vec ScriptLine Global} (reads_script (ScriptKind.Near searching.dims) f searching.script) (λ lines. lines.items) middle after (Err stopped)) one.files c.in_err-lines-in-Near.ensures.answer in
+    rw c.in-Near.is (subst (Answers (reads files (near searching)) task_of before after)
+    (sym (handed_on _ stopped c.from_residual-in_err-lines-in-Near.ensures.1))
+    (second_stops (reads_points searching.dims files searching.file) (λ coords. reads_script (ScriptKind.Near searching.dims) files searching.script)
+    (λ coords lines. gives (tasks.Task.near searching.dims coords (centres_in lines))) (λ (coords : Vec ℕ Global). coords.items)
+    (λ (lines : Vec ScriptLine Global). lines.items) task_of before middle after c.in_ok-coords-in-Near.coords stopped one.answer two))
 
 -- what a script of updates and questions asks for
 pub returns-in_err-history-in-Replay-clause-answer : goal.returns-in_err-history-in-Replay-clause-answer
