@@ -1,11 +1,12 @@
 #!/usr/bin/env python3
 """Where the gate's time goes: processor seconds of each crate's proof, of its tests, and of its must-fail edits.
 
-    python3 dev/gate_times.py rt ci            (at the top of the repository)
+    python3 dev/gate_times.py TABLE rt ci      (at the top of the repository)
 
 Runs the command and reads once a second what the provers below it have used, so what ends sooner than that is
-missed. Prints a table at the end, dearest crate first: seconds of the proof, of the tests' proof, of the edits'
-seed (the crate's own proof once more, over which its edits are tried), and of the edits: all, and the dearest one."""
+missed. Writes a table to the file TABLE, anew each minute and at the end, dearest crate first: seconds of the proof,
+of the tests' proof, of the edits' seed (the crate's own proof once more, over which its edits are tried), and of the
+edits: all, and the dearest one."""
 import collections
 import os
 import subprocess
@@ -49,10 +50,26 @@ def kind_of(words, folder):
     return "tests" if "--test" in words else "proof"
 
 
-def watch(command):
-    """Seconds by prover's process: crate, kind and processor seconds."""
+def table_of(seen, seconds):
+    """The table, of crate, kind and processor seconds by prover's process."""
+    sums, dearest = collections.defaultdict(collections.Counter), collections.Counter()
+    for crate, kind, used in seen.values():
+        sums[crate][kind] += used
+        if kind == "edit":
+            dearest[crate] = max(dearest[crate], used)
+    lines = ["| Crate | Proof | Tests | Seed | Edits | Dearest edit | All |", "|---|---|---|---|---|---|---|"]
+    for crate, by in sorted(sums.items(), key=lambda it: -sum(it[1].values())):
+        cells = [by["proof"], by["tests"], by["seed"], by["edit"], dearest[crate], sum(by.values())]
+        lines.append(f"| `{crate}` | " + " | ".join(f"{it:.0f}" for it in cells) + " |")
+    whole = sum(used for _, _, used in seen.values())
+    lines.append(f"{seconds / 60:.0f} minutes, {whole / 60:.0f} minutes of the processors")
+    return "\n".join(lines) + "\n"
+
+
+def watch(path, command):
+    """Runs the command, writes the table, and gives the command's status."""
     seen = {}
-    began = time.time()
+    began = written = time.time()
     child = subprocess.Popen(command)
     while child.poll() is None:
         table = processes()
@@ -66,26 +83,18 @@ def watch(command):
             crate = words[words.index("--crate-name") + 1]
             before = seen.get((top, start), (None, None, 0))[2]
             seen[top, start] = crate, kind_of(words, folder), max(before, used)
+        if time.time() - written >= 60:
+            written = time.time()
+            write(path, seen, written - began)
         time.sleep(1)
-    return child.returncode, time.time() - began, list(seen.values())
+    write(path, seen, time.time() - began)
+    return child.returncode
 
 
-def main():
-    status, seconds, rows = watch(sys.argv[1:] or ["rt", "ci"])
-    sums, dearest = collections.defaultdict(collections.Counter), collections.Counter()
-    for crate, kind, used in rows:
-        sums[crate][kind] += used
-        if kind == "edit":
-            dearest[crate] = max(dearest[crate], used)
-    print("| Crate | Proof | Tests | Seed | Edits | Dearest edit | All |")
-    print("|---|---|---|---|---|---|---|")
-    for crate, by in sorted(sums.items(), key=lambda it: -sum(it[1].values())):
-        cells = [by["proof"], by["tests"], by["seed"], by["edit"], dearest[crate], sum(by.values())]
-        print(f"| `{crate}` | " + " | ".join(f"{it:.0f}" for it in cells) + " |")
-    whole = sum(used for _, _, used in rows)
-    print(f"{seconds / 60:.0f} minutes, {whole / 60:.0f} minutes of the processors", flush=True)
-    sys.exit(status)
+def write(path, seen, seconds):
+    with open(path, "w") as it:
+        it.write(table_of(seen, seconds))
 
 
 if __name__ == "__main__":
-    main()
+    sys.exit(watch(sys.argv[1], sys.argv[2:]))

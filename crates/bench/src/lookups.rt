@@ -4,15 +4,12 @@ ghost use Rattle.std.specs.Prelude.{◌≡◌, ◌+◌, ◌≤◌, length, vec_l
 use crate::shared::{ROUNDS, error_bound, keys_of, least_of, nanos_each, number};
 use anyhow::{Result, bail, ensure};
 use bucketed::{Buckets, MAX_BITS};
-use budget::{NoMemory, Steps};
 use byteorder::{ByteOrder, LittleEndian};
 use exact_cross::MAX_EPSILON;
 use levels::{Index, Keys};
 use std::alloc::{AllocError, Global};
 use std::fs;
-use std::marker::Brand;
 use std::rt::{Clock, Files};
-use std::sync::ledger::{Blank, Ledger};
 use std::time::{Duration, Instant};
 
 /// What is asked for positions.
@@ -83,21 +80,10 @@ fn index_of<R: AllocGlobal + Files + Print + Clock>(rt: &R, name: &str, eps: u32
     let reading = start.elapsed(rt)?.as_secs_f64();
     let start = Instant::now(rt)?;
     let keys = Keys::of(rt.alloc(), keys)?;
-    let index = built::<Brand>(rt.alloc(), keys, eps, Blank::new(1))?;
+    let index = Index::of(rt.alloc(), keys, eps, 4)?;
     let building = start.elapsed(rt)?.as_secs_f64();
     println!(rt; "read {reading}\nbuild {building}")?;
     Ok(index)
-}
-
-/// The index, built with a counter of its own.
-fn built<L: Ledger>(alloc: Global, keys: Keys, eps: u32, blank: Blank) -> Result<Index, NoMemory>
-    requires bounded { eps ≤ MAX_EPSILON }
-    requires name { blank.name ≡ L.name }
-    requires parts { blank.parts ≡ L.parts }
-    requires one { blank.parts ≡ 1 }
-{
-    let mut steps = Steps::<L>::new(blank);
-    Index::build_here(alloc, keys, eps, 4, &mut steps)
 }
 
 /// The questions of a file, whose number is printed with those of keys and levels.

@@ -9,11 +9,10 @@ ghost use Rattle.boxes.specs.PointCodes.{AreSortedCodes};
 
 use crate::codes::sorted_codes;
 use crate::near::bound_near;
-use budget::{NoMemory, Steps};
+use budget::NoMemory;
 use levels::{Index, Keys};
 use std::alloc::Global;
-use std::marker::{Brand, Model};
-use std::sync::ledger::{Blank, Ledger};
+use std::marker::Model;
 use std::thread::Threads;
 
 /// The error bound of the index's level 0, in places.
@@ -75,7 +74,7 @@ impl Boxes {
     {
         let codes = sorted_codes(rt, alloc, d, points)?;
         let keys = Keys::of(alloc, codes)?;
-        let index = indexed::<Brand>(alloc, keys, Blank::new(1))?;
+        let index = Index::of(alloc, keys, EPSILON, EPSILON_ABOVE)?;
         Ok(Boxes { d, index })
     }
 
@@ -118,16 +117,4 @@ impl Boxes {
         }
         self.index.start_near(code) as usize
     }
-}
-
-/// The index of codes, built with a counter of its own.
-fn indexed<L: Ledger>(alloc: Global, keys: Keys, blank: Blank) -> Result<Index, NoMemory>
-    requires name { blank.name ≡ L.name }
-    requires parts { blank.parts ≡ L.parts }
-    requires one { blank.parts ≡ 1 }
-    ensures keys { IfOk result (λ index. index.keys ≡ keys) }
-    ensures index { IfOk result (λ index. IsIndex keys 64 4 index.levels) }
-{
-    let mut steps = Steps::<L>::new(blank);
-    Index::build_here(alloc, keys, EPSILON, EPSILON_ABOVE, &mut steps)
 }

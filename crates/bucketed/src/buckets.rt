@@ -55,7 +55,7 @@ impl<'a> Buckets<'a> {
 
     /// How many bits tell a bucket, 1 to 20.
     #[inline(always)]
-    pub fn bits(&self) -> u32
+    pub(crate) fn bits(&self) -> u32
         ensures bits { result ≡ self.now.bits }
         ensures some { 1 ≤ result }
         ensures few { result ≤ MAX_BITS }
@@ -65,7 +65,7 @@ impl<'a> Buckets<'a> {
 
     /// The index.
     #[inline(always)]
-    pub fn index(&self) -> &Index
+    pub(crate) fn index(&self) -> &Index
         ensures { result.now ≡ self.now.index }
     {
         self.index

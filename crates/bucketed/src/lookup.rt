@@ -58,7 +58,8 @@ impl<'a> Buckets<'a> {
         let mut left = high.saturating_sub(low);
         while left > 0 {
             let half = left / 2;
-            if index.read_first(begun + half, steps) <= q {
+            steps.tick();
+            if index.first_x(begun + half) <= q {
                 begun += half + 1;
                 left -= half + 1;
             } else {
@@ -68,8 +69,8 @@ impl<'a> Buckets<'a> {
         begun
     }
 
-    /// At least and at most how many runs of level 0 begin at or before `q`: by the bucket, narrowed
-    /// by what the table of the index tells.
+    /// At least and at most how many runs of level 0 begin at or before `q`: by the bucket,
+    /// narrowed by what the table of the index tells.
     #[inline(always)]
     pub(crate) fn begun_between(&self, q: u64) -> (u32, u32)
         ensures between { IsBetween (xs_at self.now.index.keys self.now.index.levels 1) q result.0

@@ -69,8 +69,7 @@ impl<'a> Buckets<'a> {
             lows[lane] = low;
             count = count.max(len);
         }
-        index.runs_in_step(&asked, &lows, count, &mut places);
-        index.lower_bounds_in(&asked, &mut places);
+        index.lower_bounds_among(&asked, &lows, count, &mut places);
         for place in &places {
             let _ = into.push(*place);
         }

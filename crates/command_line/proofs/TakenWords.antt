@@ -24,11 +24,11 @@ use Rattle.clap.specs.declared.parser.matches.ArgMatches.{ArgMatches}
 use Rattle.clap.specs.declared.parser.matches.ArgMatches.TheViews.{out-ArgMatches, out-SubCommand}
 use Rattle.clap.specs.declared.parser.matches.SubCommand.{SubCommand}
 use Rattle.exact_cross.specs.declared.TheConstants.{MAX_EPSILON}
-use Rattle.command_line.specs.Application.{application, build_rules, drill_rules, points_rules, query_rules, relax_rules, replay_rules}
+use Rattle.command_line.specs.Application.{application, build_rules, check_rules, drill_rules, points_rules, query_rules, relax_rules, replay_rules}
 use Rattle.command_line.specs.declared.request.Request as declared
 use Rattle.command_line.specs.Requests.{Request, asked_of, request_for}
 use Rattle.command_line.specs.Words.{AreTaken, AskFor, request_of}
-use Rattle.command_line.specs.Passed.{ArePassed, AreDrillOptions, AreIndexOptions, AreQueryOptions, AreReplayOptions, IsDimensionOption, IsPiecesOption}
+use Rattle.command_line.specs.Passed.{ArePassed, AreDrillOptions, AreIndexOptions, AreQueryOptions, AreReplayOptions, IsDimensionOption, IsNarrowOption, IsPiecesOption}
 use Rattle.command_line.proofs.PassedRows.{all_set, level_good, quiet}
 use Rattle.command_line.proofs.OptionReads.{number_reads, flag_reads, takes_numbers, takes_flag}
 
@@ -124,6 +124,8 @@ IsCommand p = ((p.0 ≡ codes "build") × AreIndexOptions p.1)
     ⊎ ((p.0 ≡ codes "near") × IsDimensionOption p.1)
     ⊎ ((p.0 ≡ codes "replay") × AreReplayOptions p.1)
     ⊎ ((p.0 ≡ codes "drill") × AreDrillOptions p.1)
+    ⊎ ((p.0 ≡ codes "save") × AreIndexOptions p.1)
+    ⊎ ((p.0 ≡ codes "check") × IsNarrowOption p.1)
 
 index_options : (rules : List Rule) (rows : List Row) → (list_all (takes_numbers 0 MAX_EPSILON (codes "eps")) rules ≡ true) →
     (list_all (takes_numbers 0 MAX_EPSILON (codes "rec")) rules ≡ true) → (list_all (takes_numbers 1 64 (codes "workers")) rules ≡ true) → (list_all (takes_flag (codes "narrow")) rules ≡ true) →
@@ -180,6 +182,9 @@ drill_options rows passed = record {
   workers = number_reads drill_filled 1 64 (codes "workers") rows refl passed;
 }
 
+abbrev check_filled : List Rule
+check_filled = filled_from 1 check_rules
+
 is_command : (p : Text × List Row) → SomeShape (built application).subs (IsOfCommand p) → IsCommand p
 unfolding clap_on_literals
 is_command p (inl s) = inl (s.name, index_options build_filled p.1 refl refl refl refl s.passed)
@@ -189,8 +194,10 @@ is_command p (inr (inr (inr (inl s)))) = inr (inr (inr (inl (s.name, index_optio
 is_command p (inr (inr (inr (inr (inl s))))) = inr (inr (inr (inr (inl (s.name, number_reads points_filled 2 4 (codes "dims") p.1 refl s.passed)))))
 is_command p (inr (inr (inr (inr (inr (inl s)))))) = inr (inr (inr (inr (inr (inl (s.name, number_reads points_filled 2 4 (codes "dims") p.1 refl s.passed))))))
 is_command p (inr (inr (inr (inr (inr (inr (inl s))))))) = inr (inr (inr (inr (inr (inr (inl (s.name, replay_options p.1 s.passed)))))))
-is_command p (inr (inr (inr (inr (inr (inr (inr (inl s)))))))) = inr (inr (inr (inr (inr (inr (inr (s.name, drill_options p.1 s.passed)))))))
-is_command p (inr (inr (inr (inr (inr (inr (inr (inr none)))))))) = absurd none
+is_command p (inr (inr (inr (inr (inr (inr (inr (inl s)))))))) = inr (inr (inr (inr (inr (inr (inr (inl (s.name, drill_options p.1 s.passed))))))))
+is_command p (inr (inr (inr (inr (inr (inr (inr (inr (inl s))))))))) = inr (inr (inr (inr (inr (inr (inr (inr (inl (s.name, index_options build_filled p.1 refl refl refl refl s.passed)))))))))
+is_command p (inr (inr (inr (inr (inr (inr (inr (inr (inr (inl s)))))))))) = inr (inr (inr (inr (inr (inr (inr (inr (inr (s.name, flag_reads check_filled (codes "narrow") p.1 refl s.passed)))))))))
+is_command p (inr (inr (inr (inr (inr (inr (inr (inr (inr (inr none)))))))))) = absurd none
 
 once_all : list_all sets_once (built application).subs ≡ true
 unfolding clap_on_literals
@@ -209,7 +216,9 @@ asks p (inr (inr (inr (inl c)))) = (_, ap (λ (name : Text). request_for name p.
 asks p (inr (inr (inr (inr (inl c))))) = (_, ap (λ (name : Text). request_for name p.1) c.0)
 asks p (inr (inr (inr (inr (inr (inl c)))))) = (_, ap (λ (name : Text). request_for name p.1) c.0)
 asks p (inr (inr (inr (inr (inr (inr (inl c))))))) = (_, ap (λ (name : Text). request_for name p.1) c.0)
-asks p (inr (inr (inr (inr (inr (inr (inr c))))))) = (_, ap (λ (name : Text). request_for name p.1) c.0)
+asks p (inr (inr (inr (inr (inr (inr (inr (inl c)))))))) = (_, ap (λ (name : Text). request_for name p.1) c.0)
+asks p (inr (inr (inr (inr (inr (inr (inr (inr (inl c))))))))) = (_, ap (λ (name : Text). request_for name p.1) c.0)
+asks p (inr (inr (inr (inr (inr (inr (inr (inr (inr c))))))))) = (_, ap (λ (name : Text). request_for name p.1) c.0)
 
 pub words_ask : (words : List Text) → AreTaken words → (request : Request) × AskFor words request
 words_ask words taken = go (subcommand_of application words) refl
@@ -259,7 +268,9 @@ has_build p (inr (inr (inr (inl c)))) same = other_name p _ _ c.0 refl same
 has_build p (inr (inr (inr (inr (inl c))))) same = other_name p _ _ c.0 refl same
 has_build p (inr (inr (inr (inr (inr (inl c)))))) same = other_name p _ _ c.0 refl same
 has_build p (inr (inr (inr (inr (inr (inr (inl c))))))) same = other_name p _ _ c.0 refl same
-has_build p (inr (inr (inr (inr (inr (inr (inr c))))))) same = other_name p _ _ c.0 refl same
+has_build p (inr (inr (inr (inr (inr (inr (inr (inl c)))))))) same = other_name p _ _ c.0 refl same
+has_build p (inr (inr (inr (inr (inr (inr (inr (inr (inl c))))))))) same = other_name p _ _ c.0 refl same
+has_build p (inr (inr (inr (inr (inr (inr (inr (inr (inr c))))))))) same = other_name p _ _ c.0 refl same
 
 pub has_explain : (p : Text × List Row) → IsCommand p → bytes_eq p.0 (codes "explain") ≡ true → AreIndexOptions p.1
 has_explain p (inl c) same = other_name p _ _ c.0 refl same
@@ -269,7 +280,9 @@ has_explain p (inr (inr (inr (inl c)))) same = other_name p _ _ c.0 refl same
 has_explain p (inr (inr (inr (inr (inl c))))) same = other_name p _ _ c.0 refl same
 has_explain p (inr (inr (inr (inr (inr (inl c)))))) same = other_name p _ _ c.0 refl same
 has_explain p (inr (inr (inr (inr (inr (inr (inl c))))))) same = other_name p _ _ c.0 refl same
-has_explain p (inr (inr (inr (inr (inr (inr (inr c))))))) same = other_name p _ _ c.0 refl same
+has_explain p (inr (inr (inr (inr (inr (inr (inr (inl c)))))))) same = other_name p _ _ c.0 refl same
+has_explain p (inr (inr (inr (inr (inr (inr (inr (inr (inl c))))))))) same = other_name p _ _ c.0 refl same
+has_explain p (inr (inr (inr (inr (inr (inr (inr (inr (inr c))))))))) same = other_name p _ _ c.0 refl same
 
 pub has_query : (p : Text × List Row) → IsCommand p → bytes_eq p.0 (codes "query") ≡ true → AreIndexOptions p.1 × AreQueryOptions p.1
 has_query p (inl c) same = other_name p _ _ c.0 refl same
@@ -279,7 +292,9 @@ has_query p (inr (inr (inr (inl c)))) same = other_name p _ _ c.0 refl same
 has_query p (inr (inr (inr (inr (inl c))))) same = other_name p _ _ c.0 refl same
 has_query p (inr (inr (inr (inr (inr (inl c)))))) same = other_name p _ _ c.0 refl same
 has_query p (inr (inr (inr (inr (inr (inr (inl c))))))) same = other_name p _ _ c.0 refl same
-has_query p (inr (inr (inr (inr (inr (inr (inr c))))))) same = other_name p _ _ c.0 refl same
+has_query p (inr (inr (inr (inr (inr (inr (inr (inl c)))))))) same = other_name p _ _ c.0 refl same
+has_query p (inr (inr (inr (inr (inr (inr (inr (inr (inl c))))))))) same = other_name p _ _ c.0 refl same
+has_query p (inr (inr (inr (inr (inr (inr (inr (inr (inr c))))))))) same = other_name p _ _ c.0 refl same
 
 pub has_relax : (p : Text × List Row) → IsCommand p → bytes_eq p.0 (codes "relax") ≡ true → AreIndexOptions p.1 × IsPiecesOption p.1
 has_relax p (inl c) same = other_name p _ _ c.0 refl same
@@ -289,7 +304,9 @@ has_relax p (inr (inr (inr (inl c)))) same = (c.1, c.2)
 has_relax p (inr (inr (inr (inr (inl c))))) same = other_name p _ _ c.0 refl same
 has_relax p (inr (inr (inr (inr (inr (inl c)))))) same = other_name p _ _ c.0 refl same
 has_relax p (inr (inr (inr (inr (inr (inr (inl c))))))) same = other_name p _ _ c.0 refl same
-has_relax p (inr (inr (inr (inr (inr (inr (inr c))))))) same = other_name p _ _ c.0 refl same
+has_relax p (inr (inr (inr (inr (inr (inr (inr (inl c)))))))) same = other_name p _ _ c.0 refl same
+has_relax p (inr (inr (inr (inr (inr (inr (inr (inr (inl c))))))))) same = other_name p _ _ c.0 refl same
+has_relax p (inr (inr (inr (inr (inr (inr (inr (inr (inr c))))))))) same = other_name p _ _ c.0 refl same
 
 pub has_box : (p : Text × List Row) → IsCommand p → bytes_eq p.0 (codes "box") ≡ true → IsDimensionOption p.1
 has_box p (inl c) same = other_name p _ _ c.0 refl same
@@ -299,7 +316,9 @@ has_box p (inr (inr (inr (inl c)))) same = other_name p _ _ c.0 refl same
 has_box p (inr (inr (inr (inr (inl c))))) same = c.1
 has_box p (inr (inr (inr (inr (inr (inl c)))))) same = other_name p _ _ c.0 refl same
 has_box p (inr (inr (inr (inr (inr (inr (inl c))))))) same = other_name p _ _ c.0 refl same
-has_box p (inr (inr (inr (inr (inr (inr (inr c))))))) same = other_name p _ _ c.0 refl same
+has_box p (inr (inr (inr (inr (inr (inr (inr (inl c)))))))) same = other_name p _ _ c.0 refl same
+has_box p (inr (inr (inr (inr (inr (inr (inr (inr (inl c))))))))) same = other_name p _ _ c.0 refl same
+has_box p (inr (inr (inr (inr (inr (inr (inr (inr (inr c))))))))) same = other_name p _ _ c.0 refl same
 
 pub has_near : (p : Text × List Row) → IsCommand p → bytes_eq p.0 (codes "near") ≡ true → IsDimensionOption p.1
 has_near p (inl c) same = other_name p _ _ c.0 refl same
@@ -309,7 +328,9 @@ has_near p (inr (inr (inr (inl c)))) same = other_name p _ _ c.0 refl same
 has_near p (inr (inr (inr (inr (inl c))))) same = other_name p _ _ c.0 refl same
 has_near p (inr (inr (inr (inr (inr (inl c)))))) same = c.1
 has_near p (inr (inr (inr (inr (inr (inr (inl c))))))) same = other_name p _ _ c.0 refl same
-has_near p (inr (inr (inr (inr (inr (inr (inr c))))))) same = other_name p _ _ c.0 refl same
+has_near p (inr (inr (inr (inr (inr (inr (inr (inl c)))))))) same = other_name p _ _ c.0 refl same
+has_near p (inr (inr (inr (inr (inr (inr (inr (inr (inl c))))))))) same = other_name p _ _ c.0 refl same
+has_near p (inr (inr (inr (inr (inr (inr (inr (inr (inr c))))))))) same = other_name p _ _ c.0 refl same
 
 pub has_replay : (p : Text × List Row) → IsCommand p → bytes_eq p.0 (codes "replay") ≡ true → AreReplayOptions p.1
 has_replay p (inl c) same = other_name p _ _ c.0 refl same
@@ -319,7 +340,9 @@ has_replay p (inr (inr (inr (inl c)))) same = other_name p _ _ c.0 refl same
 has_replay p (inr (inr (inr (inr (inl c))))) same = other_name p _ _ c.0 refl same
 has_replay p (inr (inr (inr (inr (inr (inl c)))))) same = other_name p _ _ c.0 refl same
 has_replay p (inr (inr (inr (inr (inr (inr (inl c))))))) same = c.1
-has_replay p (inr (inr (inr (inr (inr (inr (inr c))))))) same = other_name p _ _ c.0 refl same
+has_replay p (inr (inr (inr (inr (inr (inr (inr (inl c)))))))) same = other_name p _ _ c.0 refl same
+has_replay p (inr (inr (inr (inr (inr (inr (inr (inr (inl c))))))))) same = other_name p _ _ c.0 refl same
+has_replay p (inr (inr (inr (inr (inr (inr (inr (inr (inr c))))))))) same = other_name p _ _ c.0 refl same
 
 pub has_drill : (p : Text × List Row) → IsCommand p → bytes_eq p.0 (codes "drill") ≡ true → AreDrillOptions p.1
 has_drill p (inl c) same = other_name p _ _ c.0 refl same
@@ -329,7 +352,33 @@ has_drill p (inr (inr (inr (inl c)))) same = other_name p _ _ c.0 refl same
 has_drill p (inr (inr (inr (inr (inl c))))) same = other_name p _ _ c.0 refl same
 has_drill p (inr (inr (inr (inr (inr (inl c)))))) same = other_name p _ _ c.0 refl same
 has_drill p (inr (inr (inr (inr (inr (inr (inl c))))))) same = other_name p _ _ c.0 refl same
-has_drill p (inr (inr (inr (inr (inr (inr (inr c))))))) same = c.1
+has_drill p (inr (inr (inr (inr (inr (inr (inr (inl c)))))))) same = c.1
+has_drill p (inr (inr (inr (inr (inr (inr (inr (inr (inl c))))))))) same = other_name p _ _ c.0 refl same
+has_drill p (inr (inr (inr (inr (inr (inr (inr (inr (inr c))))))))) same = other_name p _ _ c.0 refl same
+
+pub has_save : (p : Text × List Row) → IsCommand p → bytes_eq p.0 (codes "save") ≡ true → AreIndexOptions p.1
+has_save p (inl c) same = other_name p _ _ c.0 refl same
+has_save p (inr (inl c)) same = other_name p _ _ c.0 refl same
+has_save p (inr (inr (inl c))) same = other_name p _ _ c.0 refl same
+has_save p (inr (inr (inr (inl c)))) same = other_name p _ _ c.0 refl same
+has_save p (inr (inr (inr (inr (inl c))))) same = other_name p _ _ c.0 refl same
+has_save p (inr (inr (inr (inr (inr (inl c)))))) same = other_name p _ _ c.0 refl same
+has_save p (inr (inr (inr (inr (inr (inr (inl c))))))) same = other_name p _ _ c.0 refl same
+has_save p (inr (inr (inr (inr (inr (inr (inr (inl c)))))))) same = other_name p _ _ c.0 refl same
+has_save p (inr (inr (inr (inr (inr (inr (inr (inr (inl c))))))))) same = c.1
+has_save p (inr (inr (inr (inr (inr (inr (inr (inr (inr c))))))))) same = other_name p _ _ c.0 refl same
+
+pub has_check : (p : Text × List Row) → IsCommand p → bytes_eq p.0 (codes "check") ≡ true → IsNarrowOption p.1
+has_check p (inl c) same = other_name p _ _ c.0 refl same
+has_check p (inr (inl c)) same = other_name p _ _ c.0 refl same
+has_check p (inr (inr (inl c))) same = other_name p _ _ c.0 refl same
+has_check p (inr (inr (inr (inl c)))) same = other_name p _ _ c.0 refl same
+has_check p (inr (inr (inr (inr (inl c))))) same = other_name p _ _ c.0 refl same
+has_check p (inr (inr (inr (inr (inr (inl c)))))) same = other_name p _ _ c.0 refl same
+has_check p (inr (inr (inr (inr (inr (inr (inl c))))))) same = other_name p _ _ c.0 refl same
+has_check p (inr (inr (inr (inr (inr (inr (inr (inl c)))))))) same = other_name p _ _ c.0 refl same
+has_check p (inr (inr (inr (inr (inr (inr (inr (inr (inl c))))))))) same = other_name p _ _ c.0 refl same
+has_check p (inr (inr (inr (inr (inr (inr (inr (inr (inr c))))))))) same = c.1
 
 -- words that are taken are never refused for their command
 pub never_refused : {E : Type 0} (words : List Text) (found : Option declared.Request) (e : E) → AreTaken words → option_map asked_of found ≡ request_of words →

@@ -72,11 +72,16 @@ drawn_rules = positional_number (codes "N") 1 1000000 ∷ positional_number (cod
 abbrev pub drill_rules : List Rule
 drill_rules = drawn_rules ++ bounds_rules
 
+-- a key file, a saved index, and how wide the keys are
+abbrev pub check_rules : List Rule
+check_rules = positional (codes "FILE") ∷ positional (codes "INDEX") ∷ flag (codes "narrow") ∷ []
+
 abbrev pub commands : List Shape
 commands = command (codes "build") build_rules ∷ command (codes "explain") build_rules
     ∷ command (codes "query") query_rules ∷ command (codes "relax") relax_rules
     ∷ command (codes "box") points_rules ∷ command (codes "near") points_rules
-    ∷ command (codes "replay") replay_rules ∷ command (codes "drill") drill_rules ∷ []
+    ∷ command (codes "replay") replay_rules ∷ command (codes "drill") drill_rules
+    ∷ command (codes "save") build_rules ∷ command (codes "check") check_rules ∷ []
 
 -- the program before its commands. No public clause cites it
 abbrev pub bare_program : App

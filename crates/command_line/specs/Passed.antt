@@ -43,6 +43,10 @@ IsDimensionOption rows = IsNumberIn 2 4 (codes "dims") rows
 abbrev pub IsPiecesOption : List Row → Type 0
 IsPiecesOption rows = IsNumberIn 1 65536 (codes "pieces") rows
 
+-- what the option of a check holds
+abbrev pub IsNarrowOption : List Row → Type 0
+IsNarrowOption rows = IsFlag (codes "narrow") rows
+
 -- what the options of a replay hold
 pub record AreReplayOptions (rows : List Row) : Type 0 where
   pub levels : IsNumberIn 1 26 (codes "levels") rows

@@ -7,6 +7,7 @@ use Rattle.command_line.specs.declared.request.Building as declared_building
 use Rattle.command_line.specs.declared.request.Searching as declared_searching
 use Rattle.command_line.specs.declared.request.Replaying as declared_replaying
 use Rattle.command_line.specs.declared.request.Drilling as declared_drilling
+use Rattle.command_line.specs.declared.request.Checking as declared_checking
 use Rattle.command_line.specs.declared.request.Request as declared
 use Rattle.command_line.specs.declared.request.Request.TheVariants as variant
 
@@ -37,6 +38,12 @@ pub record Drilling : Type 0 where
   pub eps : ℕ
   pub eps_rec : ℕ
 
+-- a key file, and a saved index that is checked over its keys
+pub record Checking : Type 0 where
+  pub file : Text
+  pub index : Text
+  pub narrow : Bool
+
 -- each command, with the names of its files and its options; the table of a query isn't told, since no answer depends on it
 pub data Request : Type 0 where
   build : (building : Building) → Request
@@ -47,6 +54,8 @@ pub data Request : Type 0 where
   near : (searching : Searching) → Request
   replay : (replaying : Replaying) → Request
   drill : (drilling : Drilling) → Request
+  save : (building : Building) → Request
+  check : (checking : Checking) → Request
 
 -- the number that an option has, or else its default; the name; and whether a flag is given
 abbrev pub number_in : Text → ℕ → List Row → ℕ
@@ -95,6 +104,13 @@ drilling_of rows = record {
   eps_rec = number_in (codes "rec") 4 rows;
 }
 
+abbrev pub checking_of : List Row → Checking
+checking_of rows = record {
+  file = name_in (codes "FILE") rows;
+  index = name_in (codes "INDEX") rows;
+  narrow = is_given (codes "narrow") rows;
+}
+
 -- what a command asks for, by what was found for its arguments
 abbrev pub request_for : Text → List Row → Option Request
 request_for name rows =
@@ -105,7 +121,9 @@ request_for name rows =
     else (if bytes_eq name (codes "box") then Some (box (searching_of rows))
     else (if bytes_eq name (codes "near") then Some (near (searching_of rows))
     else (if bytes_eq name (codes "replay") then Some (replay (replaying_of rows))
-    else (if bytes_eq name (codes "drill") then Some (drill (drilling_of rows)) else None)))))))
+    else (if bytes_eq name (codes "drill") then Some (drill (drilling_of rows))
+    else (if bytes_eq name (codes "save") then Some (save (building_of rows))
+    else (if bytes_eq name (codes "check") then Some (check (checking_of rows)) else None)))))))))
 
 -- the request that the program's own type stands for
 abbrev pub built_of : declared_building.Building → Building
@@ -120,6 +138,9 @@ replayed_of r = record { script = r.script.now; levels = r.levels; batch = r.bat
 abbrev pub drilled_of : declared_drilling.Drilling → Drilling
 drilled_of d = record { number = d.number; seed = d.seed; eps = d.eps; eps_rec = d.eps_rec }
 
+abbrev pub checked_of : declared_checking.Checking → Checking
+checked_of c = record { file = c.file.now; index = c.index.now; narrow = c.narrow }
+
 abbrev pub asked_of : declared.Request → Request
 asked_of (variant.Build building) = build (built_of building)
 asked_of (variant.Explain building) = explain (built_of building)
@@ -129,6 +150,8 @@ asked_of (variant.Box searching) = box (searched_of searching)
 asked_of (variant.Near searching) = near (searched_of searching)
 asked_of (variant.Replay replaying) = replay (replayed_of replaying)
 asked_of (variant.Drill drilling) = drill (drilled_of drilling)
+asked_of (variant.Save building) = save (built_of building)
+asked_of (variant.Check checking) = check (checked_of checking)
 
 -- the file that is read first, if one is read
 abbrev pub first_file : Request → Option Text
@@ -140,3 +163,5 @@ first_file (box searching) = Some searching.file
 first_file (near searching) = Some searching.file
 first_file (replay replaying) = Some replaying.script
 first_file (drill drilling) = None
+first_file (save building) = Some building.file
+first_file (check checking) = Some checking.file

@@ -9,6 +9,7 @@ ghost use Rattle.command_line.specs.Application.{flag, number, positional};
 ghost use Rattle.command_line.specs.Application.{bare_program, batch_rules};
 ghost use Rattle.command_line.specs.Application.{drawn_rules, drill_rules};
 ghost use Rattle.command_line.specs.Application.{positional_number, ranged};
+ghost use Rattle.command_line.specs.Application.{check_rules};
 ghost use Rattle.exact_cross.specs.declared.TheConstants.{MAX_EPSILON};
 
 use clap::{Arg, ArgAction, Command, value_parser};
@@ -45,7 +46,9 @@ pub fn application<'a>(alloc: Global) -> Result<Command<'a>, AllocError>
         .subcommand(points_command(alloc, "box")?)?
         .subcommand(points_command(alloc, "near")?)?
         .subcommand(replay_command(alloc)?)?
-        .subcommand(drill_command(alloc)?)
+        .subcommand(drill_command(alloc)?)?
+        .subcommand(index_command(alloc, "save")?)?
+        .subcommand(check_command(alloc)?)
 }
 
 // The program before its commands.
@@ -156,6 +159,18 @@ fn drawn_command<'a>(alloc: Global) -> Result<Command<'a>, AllocError>
     Command::new(alloc, "drill")
         .arg(positional_number(alloc, "N", 1, MOST_DRAWN))?
         .arg(positional_number(alloc, "SEED", 0, GREATEST_SEED))
+}
+
+// A command over a key file and a saved index.
+fn check_command<'a>(alloc: Global) -> Result<Command<'a>, AllocError>
+    ensures shape { IfOk result
+        (λ made. app_of made ≡ record { top = command (codes "check") check_rules; subs = [] }) }
+    ensures local { IfOk result (λ made. (out-Command made).has_globals ≡ false) }
+{
+    Command::new(alloc, "check")
+        .arg(positional(alloc, "FILE"))?
+        .arg(positional(alloc, "INDEX"))?
+        .arg(flag(alloc, "narrow"))
 }
 
 // `--eps N`, the error bound of level 0.

@@ -95,6 +95,17 @@ pub struct Drilling {
     pub ghost few_workers: { workers ≤ 64 },
 }
 
+/// A key file, and a saved index that is checked over its keys.
+#[derive(Clone, Copy, Debug)]
+pub struct Checking<'a> {
+    /// The name of the key file.
+    pub file: &'a str,
+    /// The name of the file of the saved index.
+    pub index: &'a str,
+    /// Keys are 32 bits wide, and not 64.
+    pub narrow: bool,
+}
+
 /// A command, with the names of its files and its options.
 #[derive(Clone, Copy, Debug)]
 pub enum Request<'a> {
@@ -140,5 +151,13 @@ pub enum Request<'a> {
     /// Write what is counted of inputs of every kind that are drawn.
     Drill {
         drilling: Drilling,
+    },
+    /// Write the index, as bytes that can be read again.
+    Save {
+        building: Building<'a>,
+    },
+    /// Write how many levels and runs a saved index has, where it is that of the keys.
+    Check {
+        checking: Checking<'a>,
     },
 }

@@ -15,9 +15,11 @@ ghost use Rattle.command_line.specs.Passed.{IsDimensionOption, IsFlag, IsNumberI
 ghost use Rattle.command_line.specs.Passed.{IsPiecesOption};
 ghost use Rattle.command_line.specs.Passed.{AreDrillOptions};
 ghost use Rattle.command_line.specs.Requests.{drilled_of, drilling_of};
+ghost use Rattle.command_line.specs.Requests.{checked_of, checking_of};
+ghost use Rattle.command_line.specs.Passed.{IsNarrowOption};
 
 use crate::definition::application;
-use crate::request::{Building, Drilling, Pieces, Replaying, Request, Searching, Table};
+use crate::request::{Building, Checking, Drilling, Pieces, Replaying, Request, Searching, Table};
 use clap::ArgMatches;
 use clap::error::ErrorKind;
 use std::alloc::{AllocError, Global};
@@ -92,6 +94,12 @@ fn request_in<'a>(matches: &ArgMatches<'a>) -> Option<Request<'a>>
     } else if name == "drill" {
         let drilling = drilling_in(found);
         Some(Request::Drill { drilling })
+    } else if name == "save" {
+        let building = building_in(found);
+        Some(Request::Save { building })
+    } else if name == "check" {
+        let checking = checking_in(found);
+        Some(Request::Check { checking })
     } else {
         None
     }
@@ -186,6 +194,17 @@ fn drilling_in(found: &ArgMatches<'_>) -> Drilling
         eps: eps_in(found),
         eps_rec: eps_rec_in(found),
         workers: workers_in(found),
+    }
+}
+
+fn checking_in<'a>(found: &ArgMatches<'a>) -> Checking<'a>
+    requires { IsNarrowOption (rows_of (found_of found.now)) }
+    ensures { checked_of result ≡ checking_of (rows_of (found_of found.now)) }
+{
+    Checking {
+        file: name_in(found, "FILE"),
+        index: name_in(found, "INDEX"),
+        narrow: is_given(found, "narrow"),
     }
 }
 

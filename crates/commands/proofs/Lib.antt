@@ -9,3 +9,4 @@ pub mod WritingLemmas
 pub mod OneDrill
 pub mod SameCuts
 pub mod OneText
+pub mod SavedTexts

@@ -1,6 +1,6 @@
 -- There is one text of a drill: the index, the sorted codes and the number of places that are looked at are functions of the inputs.
 use Rattle.std.proofs.Common.{◌≡◌, ℕ, List, length, ap, sym, ◌∙◌, subst}
-use Rattle.levels.specs.Indexes.{level_at}
+use Rattle.exact_cross.specs.IndexLevels.{level_at}
 use Rattle.levels.proofs.CallerLemmas.{IsIndex-unique}
 use Rattle.boxes.specs.BoxAnswers.{IsLooked, IsLookedAt, codes_inside}
 use Rattle.boxes.proofs.OneCount.{one_count, one_sort}

@@ -28,6 +28,7 @@ use Rattle.commands.specs.Texts.InTurn.{TellsEach}
 use Rattle.commands.specs.Texts.Indexing.{tells_levels}
 use Rattle.commands.specs.Texts.Build.{IsBuilt, built_level}
 use Rattle.commands.specs.Texts.Explain.{IsExplained, level_lines}
+use Rattle.commands.specs.Texts.Save.{IsSaved, saved_pieces}
 use Rattle.commands.specs.Texts.Query.{IsAnswered, TellsAnswer, TellsWindows, find_line, window_lines}
 use Rattle.commands.specs.Texts.Relax.{IsBuiltRelaxed}
 use Rattle.commands.specs.Texts.Regions.{IsSearched, TellsRegion, box_line, point_line}
@@ -44,6 +45,11 @@ pub one_explained : (keys : List ℕ) (bounds : Bounds) (one two : List (List �
 one_explained keys bounds one two first second =
     let levels = IsIndex-unique keys bounds.eps bounds.eps_rec first.levels second.levels first.index second.index in
     first.told ∙ ap (λ (l : List (List Segment)). tells_levels keys l (level_lines keys bounds l)) levels ∙ sym second.told
+
+pub one_saved : (keys : List ℕ) (bounds : Bounds) (one two : List (List ℕ)) → IsSaved keys bounds one → IsSaved keys bounds two → one ≡ two
+one_saved keys bounds one two first second =
+    let levels = IsIndex-unique keys bounds.eps bounds.eps_rec first.levels second.levels first.index second.index in
+    first.told ∙ ap (saved_pieces bounds) levels ∙ sym second.told
 
 module _ (keys : List ℕ) (bounds : Bounds) (order : IsNonDecreasing keys) where
   one_windows : (windows : Bool) (question : ℕ) (one two : List (List ℕ)) → TellsWindows keys bounds windows question one →

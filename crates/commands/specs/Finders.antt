@@ -6,7 +6,8 @@ use Rattle.exact_cross.specs.Segments.{starts_of}
 use Rattle.exact_cross.specs.Checked.{IsCoverWithin}
 use Rattle.key_points.specs.KeyPoints.{xs_of, ys_of}
 use Rattle.piece_join.specs.Cuttings.{AreCutsAt, even_place}
-use Rattle.levels.specs.Indexes.{PgmIndex, IsIndex, IsRelaxedIndex, level_at}
+use Rattle.exact_cross.specs.IndexLevels.{level_at}
+use Rattle.levels.specs.Indexes.{PgmIndex, IsIndex, IsRelaxedIndex}
 use Rattle.commands.specs.Tasks.{Bounds}
 use Rattle.commands.specs.declared.finder.Finder.{Finder}
 use Rattle.commands.specs.declared.finder.Finder.TheVariants.{Levels, Sorted, Table}

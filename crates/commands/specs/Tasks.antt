@@ -23,6 +23,8 @@ pub data Task : Type 0 where
   near : (d : ℕ) (coords : List ℕ) (centres : List Centre) → Task
   replay : (updates : List Update) (questions : List Question) (batch readers : ℕ) → Task
   drill : (n seed : ℕ) (bounds : Bounds) → Task
+  save : (keys : List ℕ) (bounds : Bounds) → Task
+  check : (levels runs : ℕ) → Task
 
 -- the task that the program's own type stands for
 abbrev pub bounds_of : declared_bounds.Bounds → Bounds
@@ -38,3 +40,5 @@ task_of (variant.Box search) = box search.dims search.coords.items search.region
 task_of (variant.Near neighbours) = near neighbours.dims neighbours.coords.items neighbours.centres.items
 task_of (variant.Replay history) = replay history.updates.items history.questions.items history.batch history.readers
 task_of (variant.Drill d bounds workers) = drill d.number d.seed (bounds_of bounds)
+task_of (variant.Save keys bounds workers) = save keys.keys.items (bounds_of bounds)
+task_of (variant.Check levels runs) = check levels runs

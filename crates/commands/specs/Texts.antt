@@ -1,7 +1,7 @@
 -- The text of each task.
 use Rattle.std.specs.Prelude.{ℕ, List}
 use Rattle.commands.specs.Tasks.{Task}
-use Rattle.commands.specs.Tasks.Task.{build, explain, query, relax, box, near, replay, drill}
+use Rattle.commands.specs.Tasks.Task.{build, explain, query, relax, box, near, replay, drill, save, check}
 use Rattle.commands.specs.Texts.Build.{IsBuilt}
 use Rattle.commands.specs.Texts.Explain.{IsExplained}
 use Rattle.commands.specs.Texts.Query.{IsAnswered}
@@ -10,6 +10,8 @@ use Rattle.commands.specs.Texts.Regions.{IsSearched}
 use Rattle.commands.specs.Texts.Neighbours.{IsNearest}
 use Rattle.commands.specs.Texts.Replay.{IsReplayed}
 use Rattle.commands.specs.Texts.Drill.{IsDrilled}
+use Rattle.commands.specs.Texts.Save.{IsSaved}
+use Rattle.commands.specs.Texts.Check.{IsChecked}
 pub mod InTurn
 pub mod Indexing
 pub mod Build
@@ -21,6 +23,8 @@ pub mod Regions
 pub mod Neighbours
 pub mod Replay
 pub mod Drill
+pub mod Save
+pub mod Check
 
 -- one equation for each command
 abbrev pub IsText : Task → List (List ℕ) → Type 0
@@ -32,3 +36,5 @@ IsText (box d coords regions) pieces = IsSearched d coords regions pieces
 IsText (near d coords centres) pieces = IsNearest d coords centres pieces
 IsText (replay updates questions batch readers) pieces = IsReplayed updates questions batch readers pieces
 IsText (drill n seed bounds) pieces = IsDrilled n seed bounds pieces
+IsText (save keys bounds) pieces = IsSaved keys bounds pieces
+IsText (check levels runs) pieces = IsChecked levels runs pieces

@@ -5,7 +5,8 @@ ghost use Rattle.std.specs.List.{All};
 ghost use Rattle.exact_cross.specs.declared.segment.Segment.{Segment};
 ghost use Rattle.key_points.specs.KeyPoints.{distinct_of};
 ghost use Rattle.window_search.specs.Searches.{lb};
-ghost use Rattle.levels.specs.Indexes.{IsIndex, level_at};
+ghost use Rattle.exact_cross.specs.IndexLevels.{level_at};
+ghost use Rattle.levels.specs.Indexes.{IsIndex};
 ghost use Rattle.zorder.specs.Points.{ArePoints};
 ghost use Rattle.boxes.specs.PointCodes.{AreSortedCodes};
 ghost use Rattle.boxes.specs.BoxAnswers.{IsLooked, codes_inside};
@@ -38,7 +39,7 @@ const MAP_LEVELS: u32 = 20;
 #[derive(Clone, Copy)]
 pub struct Counts {
     /// How many keys are distinct.
-    pub distinct: usize,
+    pub distinct: u32,
     /// How many levels the index of the keys has.
     pub levels: u32,
     /// How many runs its level 0 has.
@@ -101,7 +102,7 @@ fn counts_of<R: Threads + Sync, G: Gate>(
     let (found, looked) = points_in_region(rt, alloc, &coordinates)?;
     let live = live_after(rt, alloc, &updates, workers, gate)?;
     Ok(Counts {
-        distinct: index.keys().distinct().len(),
+        distinct: index.keys().distinct_count(),
         levels: index.levels(),
         runs: index.runs(),
         sum,
@@ -213,7 +214,7 @@ fn fill_drill_line(line: &mut TextLine, n: u32, seed: u32)
     line.push(b"\n");
 }
 
-fn fill_index_line(line: &mut TextLine, n: u32, distinct: usize, levels: u32, runs: u32)
+fn fill_index_line(line: &mut TextLine, n: u32, distinct: u32, levels: u32, runs: u32)
     ensures { line.new ≡ index_line n distinct levels runs }
 {
     line.clear();

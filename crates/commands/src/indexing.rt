@@ -1,6 +1,7 @@
 // What the commands over an index share: building it, and its first text lines.
 ghost use Rattle.std.specs.Prelude.{◌≡◌, ◌∷◌, ◌++◌, ◌<◌, ◌≤◌, [], length, IfOk, OnOk, OnErr};
-ghost use Rattle.levels.specs.Indexes.{IsIndex, level_at, xs_at, eps_at};
+ghost use Rattle.exact_cross.specs.IndexLevels.{level_at, eps_at};
+ghost use Rattle.levels.specs.Indexes.{IsIndex, xs_at};
 ghost use Rattle.written.specs.Writing.{Writes, BreaksOff};
 ghost use Rattle.commands.specs.Tasks.{bounds_of};
 ghost use Rattle.commands.specs.Texts.Indexing.{keys_line, level_line, level_line_of};
@@ -10,7 +11,6 @@ use crate::task::{Bounds, SortedKeys, Workers};
 use budget::NoMemory;
 use edge::{Failed, Gate, Sink};
 use levels::{Index, Keys};
-use piece_join::uneven_cuts;
 use std::alloc::Global;
 use std::thread::Threads;
 use written::{TextLine, hand_over};
@@ -31,15 +31,12 @@ pub fn index_of<R: Threads + Sync, G: Gate>(
         (λ index. IsIndex sorted.keys.items bounds.eps bounds.eps_rec index.levels) }
 {
     let keys = Keys::of(alloc, sorted.keys)?;
-    let points = keys.xs().len() as u32;
-    let cuts = uneven_cuts(alloc, points, workers.count)?;
-    Index::build(
+    Index::by_workers(
         rt,
         alloc,
         keys,
         bounds.eps,
         bounds.eps_rec,
-        &cuts,
         workers.count,
         gate,
     )
@@ -63,7 +60,7 @@ fn fill_keys_line(line: &mut TextLine, index: &Index)
     line.push(b"keys");
     line.push_number(index.keys().len());
     line.push(b" distinct");
-    line.push_number(index.keys().distinct().len());
+    line.push_number(index.keys().distinct_count());
     line.push(b" levels");
     line.push_number(index.levels());
     line.push(b"\n");

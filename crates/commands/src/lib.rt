@@ -17,6 +17,7 @@ ghost use Rattle.commands.specs.Tasks.{task_of};
 ghost use Rattle.commands.specs.Texts.{IsText};
 
 mod build;
+mod check;
 mod coordinates;
 mod drill;
 mod explain;
@@ -28,6 +29,7 @@ mod query;
 mod regions;
 mod relax;
 mod replay;
+mod save;
 mod task;
 
 pub use build::one_build;
@@ -39,6 +41,7 @@ pub use neighbours::one_near;
 pub use query::one_query;
 pub use regions::one_box;
 pub use relax::one_relaxed;
+pub use save::one_save;
 use std::alloc::Global;
 use std::sync::Wait;
 use std::thread::Threads;
@@ -96,5 +99,11 @@ pub fn write<R: Threads + Wait + Sync, S: Sink, G: Gate>(
             bounds,
             workers,
         } => drill::write(rt, alloc, drill, bounds, workers, out, gate),
+        Task::Save {
+            keys,
+            bounds,
+            workers,
+        } => save::write(rt, alloc, keys, bounds, workers, out, gate),
+        Task::Check { levels, runs } => check::write(levels, runs, out),
     }
 }

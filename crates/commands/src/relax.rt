@@ -8,7 +8,8 @@ ghost use Rattle.exact_cross.specs.Segments.{starts_of};
 ghost use Rattle.window_search.specs.Searches.{lb};
 ghost use Rattle.key_points.specs.KeyPoints.{xs_of, ys_of};
 ghost use Rattle.piece_join.specs.Cuttings.{AreCutsAt, even_place};
-ghost use Rattle.levels.specs.Indexes.{IsRelaxedIndex, level_at};
+ghost use Rattle.exact_cross.specs.IndexLevels.{level_at};
+ghost use Rattle.levels.specs.Indexes.{IsRelaxedIndex};
 ghost use Rattle.written.specs.Writing.{Writes, BreaksOff, WritesText};
 ghost use Rattle.commands.specs.Finders.{IsRelaxedOf};
 ghost use Rattle.commands.specs.Tasks.{Bounds as TaskBounds, bounds_of};
@@ -57,8 +58,8 @@ pub fn write<R: Threads + Sync, S: Sink, G: Gate>(
     }
 }
 
-// The relaxed index of the keys, level 0 of which is built in even pieces by the workers, and at how
-// many places its points are cut.
+// The relaxed index of the keys, level 0 of which is built in even pieces by the workers, and at
+// how many places its points are cut.
 fn relaxed_of<R: Threads + Sync, G: Gate>(
     rt: &R,
     alloc: Global,
@@ -115,8 +116,8 @@ fn write_relaxed<S: Sink>(
     write_answers(out, keys, bounds, questions, positions, None, &mut room)
 }
 
-/// Keys that never fall, error bounds, a number of pieces and questions have one text of `relax`: it
-/// depends on nothing else, so not on how many workers there are. It does nothing.
+/// Keys that never fall, error bounds, a number of pieces and questions have one text of `relax`:
+/// it depends on nothing else, so not on how many workers there are. It does nothing.
 pub fn one_relaxed()
     ensures { (keys : List ℕ) (bounds : TaskBounds) (pieces : ℕ) (questions : List ℕ)
         (one two : List (List ℕ)) → IsNonDecreasing keys

@@ -181,4 +181,15 @@ pub enum Task {
         bounds: Bounds,
         workers: Workers,
     },
+    /// Write the index, as bytes that can be read again.
+    Save {
+        keys: SortedKeys,
+        bounds: Bounds,
+        workers: Workers,
+    },
+    /// Write how many levels and runs a saved index has that was found right.
+    Check {
+        levels: u32,
+        runs: u64,
+    },
 }

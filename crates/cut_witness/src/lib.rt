@@ -6,8 +6,8 @@
 //! above the rank of the key 10.
 //!
 //! Main clauses: `certified` of [`check_cover`] and of [`slack`], and `exact` of [`is_steep`] and
-//! [`is_flat`], which judge the pairs of a run. The words of the clauses are those of `exact_cross`.
-//! No call takes memory.
+//! [`is_flat`], which judge the pairs of a run. The words of the clauses are those of
+//! `exact_cross`. No call takes memory.
 #![tactic(auto)]
 
 ghost use Rattle.std.specs.List.Sorted.{IsStrictlyIncreasing, IsNonDecreasing};
@@ -22,8 +22,6 @@ ghost use Rattle.exact_cross.specs.Checked.{IsLeastCover, IsCoverWithin, uncut};
 ghost use Rattle.cut_witness.specs.Runs.{IsShownRun};
 
 mod pairs;
-#[cfg(test)]
-mod tests;
 
 use exact_cross::{MAX_EPSILON, Segment, Side, Witness};
 pub use pairs::{is_flat, is_steep};

@@ -16,6 +16,13 @@ pub enum Place {
     },
     /// After the publication of this number, counted from 1, when its notes were handed out.
     Published(u64),
+    /// Before a sender's first try to send an update, both counted from 0.
+    Send {
+        /// The sender's number.
+        sender: u32,
+        /// The number of the update among the sender's own.
+        turn: u64,
+    },
 }
 
 /// What is told of each place that a thread passes. It has no meaning: it may hold a thread there,

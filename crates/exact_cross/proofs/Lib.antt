@@ -17,3 +17,5 @@ pub mod CheckedLemmas
 pub mod LinePasses
 pub mod WitnessLines
 pub mod Certificate
+pub mod Unique
+pub mod LevelPoints

@@ -8,3 +8,5 @@ pub mod Witnesses
 pub mod Segments
 pub mod Cuts
 pub mod Checked
+pub mod Segmentation
+pub mod IndexLevels

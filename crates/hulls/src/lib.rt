@@ -17,6 +17,3 @@ mod slope;
 mod vertex;
 
 pub use fitting::{Hulls, Offer};
-
-#[cfg(test)]
-mod tests;

@@ -1,7 +1,7 @@
 // Slopes whose comparison is a step.
 //
-// `is_below` is the one comparison of two slopes in this crate, and no `Slope` leaves this file. Its
-// clause bounds what is counted; that each comparison ticks is seen in its body.
+// `is_below` is the one comparison of two slopes in this crate, and no `Slope` leaves this file.
+// Its clause bounds what is counted; that each comparison ticks is seen in its body.
 ghost use Rattle.std.specs.Prelude.{◌≡◌, ◌+◌, ◌<◌, ◌≤◌};
 ghost use Rattle.std.specs.Bool.{OnTrue, OnFalse};
 ghost use Rattle.exact_cross.specs.Slopes.{IsAtMost};

@@ -8,3 +8,7 @@ pub mod Heads
 pub mod Unique
 pub mod Readings
 pub mod Wherever
+pub mod JudgedRuns
+pub mod RightLevels
+pub mod BoundedIndex
+pub mod CallerLemmas

@@ -1,5 +1,5 @@
 -- The bytes of a saved index.
-use Rattle.std.specs.Prelude.{◌≡◌, ℕ, ◌<◌, ◌≤◌, ◌^◌, List, [], ◌∷◌, ◌++◌, length, map, All, Vec}
+use Rattle.std.specs.Prelude.{◌≡◌, ℕ, ◌+◌, ◌<◌, ◌≤◌, ◌^◌, List, [], ◌∷◌, ◌++◌, length, map, All, Vec}
 use Rattle.std.specs.List.{flat_map}
 use Rattle.std.specs.Int.{w32, to_le_bytes}
 use Rattle.std.specs.declared.alloc.Global.{Global}
@@ -16,6 +16,14 @@ pub record SavedIndex : Type 0 where
 -- the runs of each level, as they are kept
 abbrev pub runs_of : List (Vec SavedRun Global) → List (List SavedRun)
 runs_of levels = map (λ runs. runs.items) levels
+
+-- how many runs levels have together, and those of an index
+abbrev pub count_runs : List (List SavedRun) → ℕ
+count_runs [] = 0
+count_runs (runs ∷ later) = length runs + count_runs later
+
+abbrev pub run_count : SavedIndex → ℕ
+run_count index = count_runs index.levels
 
 -- a number's four bytes, the lowest first
 unfoldable pub number : ℕ → List ℕ

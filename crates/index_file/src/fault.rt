@@ -1,6 +1,7 @@
-// Why the file of an index wasn't read.
+// Why the file of an index wasn't read, and why a saved index wasn't found right.
 ghost use Rattle.std.specs.Prelude.{◌≡◌};
 ghost use Rattle.index_file.specs.declared.fault.IndexFault.TheVariants.{ReadFault, NoMemory};
+ghost use Rattle.index_file.specs.declared.fault.CheckFault.TheVariants.{NoMemory as Unchecked};
 
 use edge::Failed;
 use std::alloc::AllocError;
@@ -62,5 +63,27 @@ impl From<AllocError> for IndexFault {
 
     fn from(_: AllocError) -> Self {
         IndexFault::NoMemory
+    }
+}
+
+/// Why [`crate::check`] didn't find a saved index right.
+#[derive(Clone, Copy, Debug, PartialEq, Eq, Error)]
+pub enum CheckFault {
+    /// A level isn't that of the one index.
+    #[error("level {level} is not that of the index")]
+    Wrong {
+        /// The lowest such level. One that only the saved or only the true index has counts.
+        level: u32,
+    },
+    /// Memory for the points of a level wasn't found.
+    #[error("out of memory")]
+    NoMemory,
+}
+
+impl From<AllocError> for CheckFault {
+    ghost from_gives = { λ _ fault. fault ≡ Unchecked };
+
+    fn from(_: AllocError) -> Self {
+        CheckFault::NoMemory
     }
 }

@@ -1,5 +1,6 @@
 // An index as it was saved.
-ghost use Rattle.std.specs.Prelude.{◌≡◌, ◌<◌, ◌≤◌, length, slice_index_or, []};
+ghost use Rattle.std.specs.Prelude.{◌≡◌, ◌<◌, ◌≤◌, ◌^◌, length, slice_index_or, All, []};
+ghost use Rattle.index_file.specs.Spelling.{LevelFits, run_count, count_runs, runs_of};
 
 use exact_cross::MAX_EPSILON;
 use std::alloc::Global;
@@ -103,4 +104,24 @@ impl Saved {
     {
         &self.levels[i as usize]
     }
+
+    /// How many runs all levels have together. Takes no memory.
+    pub fn run_count(&self) -> u64
+        ensures { result ≡ run_count self.now }
+    {
+        count_runs(&self.levels)
+    }
+}
+
+/// How many runs these levels have together.
+fn count_runs(levels: &[Vec<SavedRun>]) -> u64
+    requires few { length levels.now < 2 ^ 32 }
+    requires each { All LevelFits (runs_of levels.now) }
+    ensures { result ≡ count_runs (runs_of levels.now) }
+{
+    let mut count = 0;
+    for i in 0..levels.len() {
+        count += levels[i].len() as u64;
+    }
+    count
 }

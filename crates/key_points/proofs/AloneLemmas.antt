@@ -21,6 +21,10 @@ from-short : (k : ℕ) (xs : List ℕ) → length (dedup_from eqb k xs) ≤ leng
 from-short k [] = omega arith
 from-short k (x ∷ xs) = grind (arith, nat_tests, from-short k xs, from-short x xs)
 
+pub distinct_of-few : (keys : List ℕ) → length (distinct_of keys) ≤ length keys
+distinct_of-few [] = omega arith
+distinct_of-few (k ∷ keys) = omega (arith, from-short k keys)
+
 from-whole : (k : ℕ) (xs : List ℕ) → length xs + 1 ≤ length (dedup_from eqb k xs) → dedup_from eqb k xs ≡ k ∷ xs
 from-whole k [] long = refl
 from-whole k (x ∷ xs) long = grind (arith, nat_tests, from-short k xs, from-whole x xs)

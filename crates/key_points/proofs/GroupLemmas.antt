@@ -132,25 +132,24 @@ module _ (keys : List ℕ) (at end : ℕ) (order : IsNonDecreasing keys) (start 
       ∙ flat_map-append (with_closing keys) (distinct_of (take at keys)) (slice_index keys at ∷ [])
       ∙ ap (λ (l : List ℕ). flat_map (with_closing keys) (distinct_of (take at keys)) ++ l) (append-nil (with_closing keys (slice_index keys at)) ∙ is)
 
-  pub HoldsUpTo-more : (distinct xs ys points : List ℕ) → HoldsUpTo keys at distinct xs ys → with_closing keys (slice_index keys at) ≡ points →
-      HoldsUpTo keys end (distinct ++ slice_index keys at ∷ []) (xs ++ points) (ys ++ map (lb keys) points)
-  HoldsUpTo-more distinct xs ys points so_far is = record {
+  pub HoldsUpTo-more : (xs ys points : List ℕ) → HoldsUpTo keys at xs ys → with_closing keys (slice_index keys at) ≡ points →
+      HoldsUpTo keys end (xs ++ points) (ys ++ map (lb keys) points)
+  HoldsUpTo-more xs ys points so_far is = record {
     inside = group.within;
-    distinct_are = ap (λ (l : List ℕ). l ++ slice_index keys at ∷ []) so_far.distinct_are ∙ sym distinct_of-group;
     xs_are = ap (λ (l : List ℕ). l ++ points) so_far.xs_are ∙ sym (xs-more points is);
     ys_are = ap (λ (l : List ℕ). l ++ map (lb keys) points) so_far.ys_are ∙ sym (map-append (lb keys) xs points);
   }
 
-  pub HoldsUpTo-alone : (distinct xs ys : List ℕ) → HoldsUpTo keys at distinct xs ys → is_closed keys (slice_index keys at) ≡ false →
-      HoldsUpTo keys end (distinct ++ slice_index keys at ∷ []) (xs ++ slice_index keys at ∷ []) (ys ++ at ∷ [])
-  HoldsUpTo-alone distinct xs ys so_far open_ended =
-      subst (λ (place : ℕ). HoldsUpTo keys end (distinct ++ slice_index keys at ∷ []) (xs ++ slice_index keys at ∷ []) (ys ++ place ∷ []))
-      lb-start (HoldsUpTo-more distinct xs ys (slice_index keys at ∷ []) so_far (points-alone open_ended))
+  pub HoldsUpTo-alone : (xs ys : List ℕ) → HoldsUpTo keys at xs ys → is_closed keys (slice_index keys at) ≡ false →
+      HoldsUpTo keys end (xs ++ slice_index keys at ∷ []) (ys ++ at ∷ [])
+  HoldsUpTo-alone xs ys so_far open_ended =
+      subst (λ (place : ℕ). HoldsUpTo keys end (xs ++ slice_index keys at ∷ []) (ys ++ place ∷ []))
+      lb-start (HoldsUpTo-more xs ys (slice_index keys at ∷ []) so_far (points-alone open_ended))
 
-  pub HoldsUpTo-closed : (distinct xs ys : List ℕ) → HoldsUpTo keys at distinct xs ys → is_closed keys (slice_index keys at) ≡ true →
-      HoldsUpTo keys end (distinct ++ slice_index keys at ∷ []) (xs ++ slice_index keys at ∷ (slice_index keys at + 1) ∷ []) (ys ++ at ∷ end ∷ [])
-  HoldsUpTo-closed distinct xs ys so_far closed =
-      subst (λ (place : ℕ). HoldsUpTo keys end (distinct ++ slice_index keys at ∷ []) (xs ++ slice_index keys at ∷ (slice_index keys at + 1) ∷ []) (ys ++ place ∷ end ∷ []))
+  pub HoldsUpTo-closed : (xs ys : List ℕ) → HoldsUpTo keys at xs ys → is_closed keys (slice_index keys at) ≡ true →
+      HoldsUpTo keys end (xs ++ slice_index keys at ∷ (slice_index keys at + 1) ∷ []) (ys ++ at ∷ end ∷ [])
+  HoldsUpTo-closed xs ys so_far closed =
+      subst (λ (place : ℕ). HoldsUpTo keys end (xs ++ slice_index keys at ∷ (slice_index keys at + 1) ∷ []) (ys ++ place ∷ end ∷ []))
       lb-start
-      (subst (λ (place : ℕ). HoldsUpTo keys end (distinct ++ slice_index keys at ∷ []) (xs ++ slice_index keys at ∷ (slice_index keys at + 1) ∷ []) (ys ++ lb keys (slice_index keys at) ∷ place ∷ []))
-      lb-end (HoldsUpTo-more distinct xs ys (slice_index keys at ∷ (slice_index keys at + 1) ∷ []) so_far (points-closed closed)))
+      (subst (λ (place : ℕ). HoldsUpTo keys end (xs ++ slice_index keys at ∷ (slice_index keys at + 1) ∷ []) (ys ++ lb keys (slice_index keys at) ∷ place ∷ []))
+      lb-end (HoldsUpTo-more xs ys (slice_index keys at ∷ (slice_index keys at + 1) ∷ []) so_far (points-closed closed)))

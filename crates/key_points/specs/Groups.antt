@@ -16,9 +16,8 @@ pub record IsGroupEnd (keys : List ℕ) (at end : ℕ) : Type 0 where
   pub same : (k : ℕ) → at ≤ k → k < end → slice_index keys k ≡ slice_index keys at
   pub behind : (k : ℕ) → end ≤ k → k < length keys → slice_index keys at < slice_index keys k
 
--- the lists have the groups of the first `at` keys
-pub record HoldsUpTo (keys : List ℕ) (at : ℕ) (distinct xs ys : List ℕ) : Type 0 where
+-- the lists have the points of the first `at` keys
+pub record HoldsUpTo (keys : List ℕ) (at : ℕ) (xs ys : List ℕ) : Type 0 where
   pub inside : at ≤ length keys
-  pub distinct_are : distinct ≡ distinct_of (take at keys)
   pub xs_are : xs ≡ flat_map (with_closing keys) (distinct_of (take at keys))
   pub ys_are : ys ≡ map (lb keys) xs

@@ -1,4 +1,5 @@
 pub mod KeyPoints
 pub mod Shown
 pub mod Groups
+pub mod Falls
 pub use Rattle.window_search.specs.Searches

@@ -1,17 +1,18 @@
 // The keys of a file, with the points that they stand for.
 ghost use Rattle.std.specs.Prelude.{◌≡◌, ◌+◌, ◌<◌, ◌≤◌, ◌^◌, length};
-ghost use Rattle.std.specs.Prelude.{slice_index, vec_len, IfOk, IsTrue, ◌↔◌};
+ghost use Rattle.std.specs.Prelude.{slice_index, vec_len, IfOk, Err, ℕ, IsTrue, ◌↔◌};
 ghost use Rattle.std.specs.List.Sorted.{IsNonDecreasing, IsStrictlyIncreasing};
-ghost use Rattle.window_search.specs.Searches.{lb};
 ghost use Rattle.key_points.specs.KeyPoints.{distinct_of, first_of, xs_of, ys_of};
+ghost use Rattle.key_points.specs.Falls.{IsFirstFall};
+ghost use Rattle.key_points.specs.declared.fault.KeysFault.TheVariants.{Falls, TooMany};
 
 use crate::alone::{count_distinct, places_of};
-use crate::parts::{Parts, parts_of};
-use budget::{NoMemory, Steps};
+use crate::fault::KeysFault;
+use crate::order::first_fall;
+use crate::parts::{Parts, parts_of, start_of_group};
+use budget::NoMemory;
 use std::alloc::Global;
-use std::marker::{Brand, Model};
-use std::sync::ledger::{Blank, Ledger};
-use window_search::lower_in;
+use std::marker::Model;
 
 /// The keys of a file, which may repeat, with the points that level 0 stands on. Seen as the list
 /// of the keys.
@@ -21,14 +22,13 @@ use window_search::lower_in;
 /// next number is a key or past 64 bits.
 ///
 /// 1. The keys never fall, and are fewer than 2^32.
-/// 2. Where no key repeats, the keys are the distinct ones and the x of the points, and stand once.
+/// 2. Where no key repeats, the keys are the x of the points, and stand once.
 #[derive(Drop)]
 pub struct Keys {
     file: Vec<u64>,
-    distinct: Vec<u64>,
+    distinct: u32,
     xs: Vec<u64>,
     ys: Vec<u32>,
-    repeats: bool,
 }
 
 impl Model for Keys {
@@ -39,8 +39,8 @@ impl Model for Keys {
 
     ghost view = { λ keys. keys.file.items };
 
-    ghost invariant = { λ keys. AreOfKeys keys.file.items keys.distinct.items keys.xs.items
-        keys.ys.items keys.repeats };
+    ghost invariant = { λ keys. AreOfKeys keys.file.items keys.distinct keys.xs.items
+        keys.ys.items };
 }
 
 impl Keys {
@@ -61,13 +61,12 @@ impl Keys {
         if count == sorted.len() {
             return Keys::alone(alloc, sorted);
         }
-        let Parts { distinct, xs, ys } = parts_of(alloc, &sorted, count)?;
+        let Parts { xs, ys } = parts_of(alloc, &sorted, count)?;
         Ok(Keys {
             file: sorted,
-            distinct,
+            distinct: count as u32,
             xs,
             ys,
-            repeats: true,
         })
     }
 
@@ -85,6 +84,36 @@ impl Keys {
         Keys::alone(alloc, rising)
     }
 
+    /// The keys of a file, for a caller that hasn't shown that they are such: they are gone through
+    /// once more, for a key that is below the one before it.
+    ///
+    /// # Errors
+    ///
+    /// - `TooMany` where there are 2^32 keys or more. It is judged first.
+    /// - `Falls` where a key is below the one before it, with the first place.
+    /// - `NoMemory` where memory wasn't found.
+    ///
+    /// After any the keys are given up.
+    pub fn tested(alloc: Global, keys: Vec<u64>) -> Result<Keys, KeysFault>
+        ensures keys { IfOk result (λ tested. tested ≡ keys.items) }
+        ensures too_many { 2 ^ 32 ≤ vec_len keys → result ≡ Err (TooMany (vec_len keys)) }
+        ensures too_many_only { (count : ℕ) → result ≡ Err (TooMany count) →
+            (count ≡ vec_len keys) × (2 ^ 32 ≤ count) }
+        ensures falls { (place : ℕ) → vec_len keys < 2 ^ 32 → IsFirstFall keys.items place →
+            result ≡ Err (Falls place) }
+        ensures falls_only { (place : ℕ) → result ≡ Err (Falls place) →
+            IsFirstFall keys.items place }
+    {
+        let count = keys.len();
+        if count > u32::MAX as usize {
+            return Err(KeysFault::TooMany { count });
+        }
+        match first_fall(&keys) {
+            Some(place) => Err(KeysFault::Falls { place }),
+            None => Ok(Keys::of(alloc, keys)?),
+        }
+    }
+
     /// The keys of a file in which none repeats.
     fn alone(alloc: Global, sorted: Vec<u64>) -> Result<Keys, NoMemory>
         requires never_falls { IsNonDecreasing sorted.items }
@@ -94,11 +123,10 @@ impl Keys {
     {
         let ys = places_of(alloc, &sorted)?;
         Ok(Keys {
+            distinct: sorted.len() as u32,
             file: sorted,
-            distinct: Vec::new(alloc),
             xs: Vec::new(alloc),
             ys,
-            repeats: false,
         })
     }
 
@@ -125,41 +153,49 @@ impl Keys {
         self.file.is_empty()
     }
 
-    /// The keys without repeats, in order.
-    pub fn distinct(&self) -> &[u64]
-        ensures { result.now ≡ distinct_of self.now }
+    /// How many keys the file has, where each of those that are equal counts once.
+    pub fn distinct_count(&self) -> u32
+        ensures { result ≡ length (distinct_of self.now) }
     {
-        if self.repeats {
-            &self.distinct
-        } else {
-            &self.file
-        }
+        self.distinct
+    }
+
+    /// The keys without repeats, in order: a list of its own.
+    ///
+    /// # Errors
+    ///
+    /// `NoMemory` alone.
+    pub fn distinct(&self, alloc: Global) -> Result<Vec<u64>, NoMemory>
+        ensures { IfOk result (λ keys. keys.items ≡ distinct_of self.now) }
+    {
+        let mut keys = Vec::from_slice(alloc, &self.file)?;
+        keys.dedup();
+        Ok(keys)
     }
 
     /// How many keys of the file are below the `j`-th distinct key, counted from 0, and all of them
     /// where `j` is the number of distinct keys.
     ///
-    /// Where keys repeat, the distinct key is searched in the file, and at most 33 of its keys are
-    /// read. Cannot fail and takes no memory.
+    /// Where keys repeat, all keys below are read. Cannot fail and takes no memory.
     pub fn first(&self, j: u32) -> u32
         requires { j ≤ length (distinct_of self.now) }
         ensures { result ≡ first_of self.now j }
     {
-        if !self.repeats {
+        if self.distinct as usize == self.file.len() {
             return j;
         }
-        let distinct = &self.distinct;
-        if j as usize == distinct.len() {
-            return self.file.len() as u32;
-        }
-        lower_of::<Brand>(&self.file, distinct[j as usize], Blank::new(1))
+        start_of_group(&self.file, j)
     }
 
     /// The x of the points, which rise.
     pub fn xs(&self) -> &[u64]
         ensures { result.now ≡ xs_of self.now }
     {
-        if self.repeats { &self.xs } else { &self.file }
+        if self.distinct as usize == self.file.len() {
+            &self.file
+        } else {
+            &self.xs
+        }
     }
 
     /// The y of the points: for each x how many keys of the file are below it. They never fall.
@@ -168,17 +204,4 @@ impl Keys {
     {
         &self.ys
     }
-}
-
-/// How many keys of the file are below `q`, with a counter of its own, from a new ledger.
-fn lower_of<L: Ledger>(file: &[u64], q: u64, blank: Blank) -> u32
-    requires never_falls { IsNonDecreasing file.now }
-    requires few { length file.now < 2 ^ 32 }
-    requires name { blank.name ≡ L.name }
-    requires parts { blank.parts ≡ L.parts }
-    requires one { blank.parts ≡ 1 }
-    ensures { result ≡ lb file.now q }
-{
-    let mut steps = Steps::<L>::new(blank);
-    lower_in(file, 0, file.len() as u32, q, &mut steps)
 }

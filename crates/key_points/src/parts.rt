@@ -1,36 +1,33 @@
-// The distinct keys and the points of keys that repeat.
+// The points of keys that repeat.
 ghost use Rattle.std.specs.Prelude.{◌≡◌, ◌+◌, ◌<◌, ◌≤◌, ◌^◌, ℕ};
 ghost use Rattle.std.specs.Prelude.{◌-◌, length, min, slice_index, vec_len, vec_capacity};
 ghost use Rattle.std.specs.Prelude.{IfOk, IsTrue};
 ghost use Rattle.std.specs.List.Sorted.{IsNonDecreasing};
-ghost use Rattle.key_points.specs.KeyPoints.{distinct_of, is_closed, xs_of, ys_of};
+ghost use Rattle.key_points.specs.KeyPoints.{distinct_of, first_of, is_closed, xs_of, ys_of};
 ghost use Rattle.key_points.specs.Groups.{HoldsUpTo, IsGroupStart, IsGroupEnd};
 
 use budget::NoMemory;
 use std::alloc::Global;
 
-/// The distinct keys, and the points: their x and y.
+/// The points: their x and y.
 #[derive(Drop)]
 pub struct Parts {
-    pub distinct: Vec<u64>,
     pub xs: Vec<u64>,
     pub ys: Vec<u32>,
 }
 
-/// The parts of sorted keys, one group of equal keys after the other. Room is taken once: for the
-/// distinct keys, of which there are so many, and for two points of each, but no more than there
-/// are keys.
+/// The points of sorted keys, one group of equal keys after the other. Room is taken once: for two
+/// points of each of the distinct keys, of which there are so many, but no more than there are
+/// keys.
 pub fn parts_of(alloc: Global, file: &[u64], count: usize) -> Result<Parts, NoMemory>
     requires never_falls { IsNonDecreasing file.now }
     requires few { length file.now < 2 ^ 32 }
     requires counted { count ≡ length (distinct_of file.now) }
-    ensures distinct { IfOk result (λ parts. parts.distinct.items ≡ distinct_of file.now) }
     ensures xs { IfOk result (λ parts. parts.xs.items ≡ xs_of file.now) }
     ensures ys { IfOk result (λ parts. parts.ys.items ≡ ys_of file.now) }
 {
     let most = count.saturating_mul(2).min(file.len());
     let mut parts = Parts {
-        distinct: Vec::with_capacity(alloc, count)?,
         xs: Vec::with_capacity(alloc, most)?,
         ys: Vec::with_capacity(alloc, most)?,
     };
@@ -41,6 +38,21 @@ pub fn parts_of(alloc: Global, file: &[u64], count: usize) -> Result<Parts, NoMe
         at = end;
     }
     Ok(parts)
+}
+
+/// Where the `j`-th distinct key, counted from 0, stands first, and the number of keys where there
+/// are `j`. All keys before it are read.
+pub fn start_of_group(file: &[u64], j: u32) -> u32
+    requires never_falls { IsNonDecreasing file.now }
+    requires few { length file.now < 2 ^ 32 }
+    requires inside { j ≤ length (distinct_of file.now) }
+    ensures { result ≡ first_of file.now j }
+{
+    let mut at = 0;
+    for _ in 0..j {
+        at = end_of(file, at);
+    }
+    at as u32
 }
 
 // Where the equal keys that begin at this place end.
@@ -76,25 +88,18 @@ fn is_closed_group(file: &[u64], at: usize, end: usize) -> bool
 fn add_group(parts: &mut Parts, file: &[u64], at: usize, end: usize)
     requires never_falls { IsNonDecreasing file.now }
     requires few { length file.now < 2 ^ 32 }
-    requires so_far { HoldsUpTo file.now at parts.old.distinct.items parts.old.xs.items
-        parts.old.ys.items }
+    requires so_far { HoldsUpTo file.now at parts.old.xs.items parts.old.ys.items }
     requires start { IsGroupStart file.now at }
     requires end { IsGroupEnd file.now at end }
-    requires distinct_room { vec_len parts.old.distinct < vec_capacity parts.old.distinct }
     requires xs_room { vec_len parts.old.xs + min 2 (end - at) ≤ vec_capacity parts.old.xs }
     requires ys_room { vec_len parts.old.ys + min 2 (end - at) ≤ vec_capacity parts.old.ys }
-    ensures holds { HoldsUpTo file.now end parts.new.distinct.items parts.new.xs.items
-        parts.new.ys.items }
-    ensures distinct_len { vec_len parts.new.distinct ≡ vec_len parts.old.distinct + 1 }
+    ensures holds { HoldsUpTo file.now end parts.new.xs.items parts.new.ys.items }
     ensures xs_len { vec_len parts.new.xs ≤ vec_len parts.old.xs + min 2 (end - at) }
     ensures ys_len { vec_len parts.new.ys ≤ vec_len parts.old.ys + min 2 (end - at) }
-    ensures distinct_capacity { vec_capacity parts.new.distinct
-        ≡ vec_capacity parts.old.distinct }
     ensures xs_capacity { vec_capacity parts.new.xs ≡ vec_capacity parts.old.xs }
     ensures ys_capacity { vec_capacity parts.new.ys ≡ vec_capacity parts.old.ys }
 {
     let key = file[at];
-    parts.distinct.push_reserved(key);
     parts.xs.push_reserved(key);
     parts.ys.push_reserved(at as u32);
     if is_closed_group(file, at, end) {

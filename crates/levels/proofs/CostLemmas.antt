@@ -21,11 +21,6 @@ power-some : (base n : ℕ) → 0 < base → 0 < base ^ n
 power-some base zero some = omega (arith, pow-zero base)
 power-some base (suc n) some = omega (arith, pow-suc base n, mul-le-mul_left (base ^ n) some, power-some base n some)
 
--- before the first window
-pub lookup-first : (base n before after : ℕ) → n ≡ 0 → after ≡ before + 1 → TakesAtMost (2 * base ^ n) before after
-lookup-first base n before after none is =
-    TakesAtMost-one (2 * base ^ n) before after is (omega (arith, pow-zero base, ap (λ (k : ℕ). base ^ k) none))
-
 -- a lookup that ends at the first key
 pub lookup-one : (eps eps_rec levels before after : ℕ) → after ≡ before + 1 → TakesAtMost (lookup_bound eps eps_rec levels) before after
 lookup-one eps eps_rec levels before after is =

@@ -28,12 +28,6 @@ predecessor_at keys eps eps_rec levels order index i q within some first =
 pub lookup-entry : (base n before middle after : ℕ) → middle ≡ before + 1 → TakesAtMost (base ^ n) middle after → TakesAtMost (2 * base ^ n) before after
 lookup-entry base n before middle after is entry = TakesAtMost-more 2 (base ^ n) before middle after (TakesAtMost-one 2 before middle is (omega arith)) entry
 
--- a lookup may start at the last level
-pub IsEntry-last : (keys : List ℕ) (eps_rec : ℕ) (levels : List Level) (top : ℕ) → top ≡ length levels - 1 → IsEntry keys eps_rec (segments_of levels) top
-IsEntry-last keys eps_rec levels top is =
-    let count = segments_of-count levels in
-    record { inside = λ some. omega (arith, count); few = λ more. absurd (omega (arith, count)) }
-
 -- one level down, where the first x of its runs are few enough
 pub IsEntry-down : (keys : List ℕ) (eps eps_rec : ℕ) (levels : List Level) (top count most : ℕ) (level : Level) → AreStored keys eps eps_rec levels → 0 < top → top ≤ length levels - 1 →
     level ≡ slice_index_or levels top level → count ≡ length level.xs.items → most ≤ (4 * (2 * eps_rec + 3)) ^ (length levels - 1 - (top - 1)) → 2 * count ≤ most → IsEntry keys eps_rec (segments_of levels) (top - 1)

@@ -17,7 +17,8 @@ use Rattle.exact_cross.specs.Covers.{run_end, CutsInto, IsLongest}
 use Rattle.exact_cross.specs.Segments.{starts_of}
 use Rattle.exact_cross.proofs.CallerLemmas.{IsWithin-in, CutsInto-rises}
 use Rattle.key_points.specs.KeyPoints.{xs_of}
-use Rattle.levels.specs.Indexes.{level_at, xs_at, points_at, eps_at, IsLevel, IsIndex, IsLaidIndex}
+use Rattle.exact_cross.specs.IndexLevels.{level_at, eps_at}
+use Rattle.levels.specs.Indexes.{xs_at, points_at, IsLevel, IsIndex, IsLaidIndex}
 use Rattle.levels.specs.Heights.{least_places, HasLongRuns, IsLow, IsLowOverRuns}
 use Rattle.levels.proofs.SegmentLemmas.{two_places, IsLong, cuts_long, runs-count, starts_count}
 use Rattle.levels.proofs.LevelLemmas.{xs_at-base, xs_at-length, some_at}

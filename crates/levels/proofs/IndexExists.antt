@@ -8,7 +8,8 @@ use Rattle.std.proofs.lemmas.List.{length-append}
 use Rattle.std.specs.List.Sorted.{IsNonDecreasing}
 use Rattle.exact_cross.specs.declared.segment.Segment.{Segment}
 use Rattle.segmenter.proofs.SegmentsExist.{IsSegmentation-some}
-use Rattle.levels.specs.Indexes.{level_at, xs_at, points_at, eps_at, IsLevel, IsLaidLevel, IsIndex}
+use Rattle.exact_cross.specs.IndexLevels.{level_at, eps_at}
+use Rattle.levels.specs.Indexes.{xs_at, points_at, IsLevel, IsLaidLevel, IsIndex}
 use Rattle.levels.proofs.SegmentLemmas.{fewer_runs}
 use Rattle.levels.proofs.LevelLemmas.{xs_at-length, ascends_at, some_at, IsLaidLevel-from_level}
 use Rattle.levels.proofs.StoredLemmas.{level_at-below, level_at-last, IsLevel-push}

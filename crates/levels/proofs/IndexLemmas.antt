@@ -11,7 +11,8 @@ use Rattle.key_points.specs.KeyPoints.{xs_of, ys_of}
 use Rattle.key_points.proofs.CallerLemmas.{xs-first}
 use Rattle.piece_join.specs.Cuttings.{AreCuts}
 use Rattle.piece_join.proofs.RelaxedLemmas.{AreShown-from_laid, uncut-from_relaxed}
-use Rattle.levels.specs.Indexes.{IsLevel, IsIndex, IsRelaxedIndex, IsLaidIndex, level_at, xs_at, points_at, eps_at}
+use Rattle.exact_cross.specs.IndexLevels.{level_at, eps_at}
+use Rattle.levels.specs.Indexes.{IsLevel, IsIndex, IsRelaxedIndex, IsLaidIndex, xs_at, points_at}
 use Rattle.levels.specs.Lookups.{AreWindows}
 use Rattle.levels.proofs.LevelLemmas.{AscendsAt, xs_at-base, ys_at-base, heights_few, IsLaidIndex-from_index, IsLaidIndex-from_relaxed}
 use Rattle.levels.proofs.StoredLemmas.{eps_at-bounded}

@@ -3,9 +3,8 @@
 -- Main results: `ascends_at`, `IsLaidIndex-from_index`, `IsIndex-over`, `IsIndex-unique`, and the same of the relaxed index. A
 -- level's points are a function of the levels below, so two indexes agree level by level, and the first level of one run is the
 -- last of both.
-use Rattle.std.proofs.Common.{◌≡◌, inl, inr, ℕ, zero, suc, ◌+◌, ◌-◌, ◌<◌, ◌≤◌, List, [], ◌∷◌, length, slice_index, slice_index_or, refl, sym, ap, ◌∙◌, subst, arith, add-one, ltb}
-use Rattle.std.proofs.lemmas.Bool.{cases_lt, cases_eq}
-use Rattle.std.proofs.lemmas.List.{ext_get_or}
+use Rattle.std.proofs.Common.{◌≡◌, inl, inr, ℕ, zero, suc, ◌+◌, ◌<◌, ◌≤◌, List, [], ◌∷◌, length, slice_index, slice_index_or, sym, ap, ◌∙◌, subst, arith, add-one, ltb}
+use Rattle.std.proofs.lemmas.Bool.{cases_lt}
 use Rattle.std.proofs.lemmas.List.Sums.{count_by-le-length}
 use Rattle.std.specs.List.Sorted.{IsNonDecreasing, IsStrictlyIncreasing}
 use Rattle.exact_cross.specs.declared.segment.Segment.{Segment}
@@ -14,8 +13,9 @@ use Rattle.exact_cross.specs.Lines.{SomeLineFits}
 use Rattle.exact_cross.specs.Covers.{IsCover}
 use Rattle.exact_cross.specs.Segments.{starts_of, EachRun}
 use Rattle.exact_cross.proofs.CallerLemmas.{IsAscending-points_of, IsNonDecreasing-places, length-places, slice_index-places, slice_index-rises}
-use Rattle.segmenter.specs.Segmentation.{IsSegmentation}
-use Rattle.segmenter.proofs.Unique.{IsSegmentation-unique}
+use Rattle.exact_cross.specs.Segmentation.{IsSegmentation}
+use Rattle.exact_cross.proofs.LevelPoints.{level_xs-base, level_xs-above, level_ys-base, level_ys-above, level_xs-same, level_ys-same, AreLevelled-unique}
+use Rattle.exact_cross.proofs.Unique.{IsSegmentation-unique}
 use Rattle.piece_join.specs.Cuttings.{AreCuts}
 use Rattle.piece_join.specs.Laid.{IsLaid}
 use Rattle.piece_join.specs.Relaxed.{IsRelaxed}
@@ -23,27 +23,24 @@ use Rattle.piece_join.proofs.RelaxedLemmas.{IsLaid-from_piece, IsLaid-from_cuts,
 use Rattle.key_points.specs.KeyPoints.{xs_of, ys_of}
 use Rattle.levels.specs.declared.model.RunModel.{RunModel}
 use Rattle.levels.specs.Models.{AreModels}
-use Rattle.levels.specs.Indexes.{first_xs, level_at, xs_at, ys_at, points_at, eps_at, IsLevel, IsRelaxedLevel, IsLaidLevel, AreLevelled, IsIndex, IsRelaxedIndex, IsLaidIndex}
+use Rattle.exact_cross.specs.IndexLevels.{first_xs, level_at, eps_at}
+use Rattle.levels.specs.Indexes.{xs_at, ys_at, points_at, IsLevel, IsRelaxedLevel, IsLaidLevel, IsIndex, IsRelaxedIndex, IsLaidIndex}
 use Rattle.key_points.proofs.CallerLemmas.{xs-rise, xs-few, ys-length, ys-never_fall, xs-first, ys-at}
 use Rattle.levels.proofs.SegmentLemmas.{runs_within, first_xs-count, first_x_at, run_at}
 
 -- ---- a level's points
 
 pub xs_at-base : (keys : List ℕ) (levels : List (List Segment)) → xs_at keys levels 0 ≡ xs_of keys
-unfolding xs_at
-xs_at-base keys levels = refl
+xs_at-base keys levels = level_xs-base (xs_of keys) levels
 
 pub xs_at-above : (keys : List ℕ) (levels : List (List Segment)) (i : ℕ) → xs_at keys levels (i + 1) ≡ first_xs (xs_at keys levels i) (level_at levels i)
-unfolding xs_at
-xs_at-above keys levels i = rw add-one refl
+xs_at-above keys levels i = level_xs-above (xs_of keys) levels i
 
 pub ys_at-base : (keys : List ℕ) (levels : List (List Segment)) → ys_at keys levels 0 ≡ ys_of keys
-unfolding ys_at
-ys_at-base keys levels = refl
+ys_at-base keys levels = level_ys-base (ys_of keys) levels
 
 pub ys_at-above : (keys : List ℕ) (levels : List (List Segment)) (i : ℕ) → ys_at keys levels (i + 1) ≡ places (length (level_at levels i))
-unfolding ys_at
-ys_at-above keys levels i = rw add-one refl
+ys_at-above keys levels i = level_ys-above (ys_of keys) levels i
 
 pub xs_at-length : (keys : List ℕ) (levels : List (List Segment)) (i : ℕ) → length (xs_at keys levels (i + 1)) ≡ length (level_at levels i)
 xs_at-length keys levels i = ap length (xs_at-above keys levels i) ∙ first_xs-count (xs_at keys levels i) (level_at levels i)
@@ -129,16 +126,10 @@ some_at keys eps eps_rec levels order some (suc i) below =
 -- ---- one more level
 
 pub xs_at-same : (keys : List ℕ) (levels others : List (List Segment)) (i : ℕ) → ((k : ℕ) → k < i → level_at levels k ≡ level_at others k) → xs_at keys levels i ≡ xs_at keys others i
-unfolding xs_at
-xs_at-same keys levels others zero same = refl
-xs_at-same keys levels others (suc i) same =
-    ap (λ (xs : List ℕ). first_xs xs (level_at levels i)) (xs_at-same keys levels others i (λ k less. same k (omega arith)))
-    ∙ ap (first_xs (xs_at keys others i)) (same i (omega arith))
+xs_at-same keys levels others i same = level_xs-same (xs_of keys) levels others i same
 
 pub ys_at-same : (keys : List ℕ) (levels others : List (List Segment)) (i : ℕ) → ((k : ℕ) → k < i → level_at levels k ≡ level_at others k) → ys_at keys levels i ≡ ys_at keys others i
-unfolding ys_at
-ys_at-same keys levels others zero same = refl
-ys_at-same keys levels others (suc i) same = ap (λ (segments : List Segment). places (length segments)) (same i (omega arith))
+ys_at-same keys levels others i same = level_ys-same (ys_of keys) levels others i same
 
 -- what segments are over the points of level i, they are beside other levels too, where those below i are the same
 level-in : (R : Points → ℕ → List Segment → Type 0) (keys : List ℕ) (levels others : List (List Segment)) (i : ℕ) (segments : List Segment) →
@@ -254,48 +245,14 @@ level_agrees keys eps eps_rec one two i first second below =
     (subst (λ (xs : List ℕ). IsSegmentation (points_of xs (ys_at keys one i)) (eps_at eps eps_rec i) 0 (length xs) (level_at one i)) (xs_at-same keys one two i below) first))
     second
 
-levels_agree : (one two : List (List Segment)) (n : ℕ) → ((i : ℕ) → i < n → ((k : ℕ) → k < i → level_at one k ≡ level_at two k) → level_at one i ≡ level_at two i) →
-    (i : ℕ) → i < n → level_at one i ≡ level_at two i
-levels_agree one two zero step i inside = absurd (omega arith)
-levels_agree one two (suc n) step i inside =
-    let below = levels_agree one two n (λ k less. step k (omega arith)) in
-    elim (cases_eq i n) [
-      | inr apart ↦ below i (omega arith)
-      | inl same ↦ step i inside (λ k less. below k (omega arith))
-    ]
-
--- the levels of one aren't fewer: its last one has one run, and so it is the last of the other
-no_fewer : (One Two : ℕ → Type 0) (keys : List ℕ) (one two : List (List Segment)) → AreLevelled One keys one → AreLevelled Two keys two →
-    ((i : ℕ) → i < length one → i < length two → level_at one i ≡ level_at two i) → length two ≤ length one
-no_fewer One Two keys one two first second agree = elim (cases_lt (length one) (length two)) [
-  | inr enough ↦ enough
-  | inl less ↦ elim (cases_eq (length keys) 0) [
-    | inl none ↦ absurd (omega (arith, second.none none))
-    | inr some ↦
-        let last = length one - 1 in
-        let at_last : last + 1 ≡ length one = omega (arith, first.some (omega arith)) in
-        absurd (second.others last (omega arith) (ap length (sym (agree last (omega arith) (omega arith))) ∙ first.last last at_last))
-  ]
-]
-
-AreLevelled-unique : (One Two : ℕ → Type 0) (keys : List ℕ) (one two : List (List Segment)) → AreLevelled One keys one → AreLevelled Two keys two →
-    ((i : ℕ) → One i → Two i → ((k : ℕ) → k < i → level_at one k ≡ level_at two k) → level_at one i ≡ level_at two i) → one ≡ two
-AreLevelled-unique One Two keys one two first second step = ext_get_or [] one two counts (λ i inside. agree i inside (omega (arith, counts)))
-  where
-    agree : (i : ℕ) → i < length one → i < length two → level_at one i ≡ level_at two i
-    agree i inside also = levels_agree one two (i + 1) (λ k less. step k (first.each k (omega arith)) (second.each k (omega arith))) i (omega arith)
-
-    counts : length one ≡ length two
-    counts = omega (arith, no_fewer One Two keys one two first second agree, no_fewer Two One keys two one second first (λ i inside also. sym (agree i also inside)))
-
 pub IsIndex-unique : (keys : List ℕ) (eps eps_rec : ℕ) (one two : List (List Segment)) → IsIndex keys eps eps_rec one → IsIndex keys eps eps_rec two → one ≡ two
 IsIndex-unique keys eps eps_rec one two first second =
-    AreLevelled-unique (λ i. IsLevel keys eps eps_rec one i) (λ i. IsLevel keys eps eps_rec two i) keys one two first second (λ i own other below. level_agrees keys eps eps_rec one two i own other below)
+    AreLevelled-unique (λ i. IsLevel keys eps eps_rec one i) (λ i. IsLevel keys eps eps_rec two i) (length keys) one two first second (λ i own other below. level_agrees keys eps eps_rec one two i own other below)
 
 pub IsRelaxedIndex-unique : (keys : List ℕ) (eps eps_rec : ℕ) (cuts : List ℕ) (one two : List (List Segment)) → IsRelaxedIndex keys eps eps_rec cuts one →
     IsRelaxedIndex keys eps eps_rec cuts two → one ≡ two
 IsRelaxedIndex-unique keys eps eps_rec cuts one two first second =
-    AreLevelled-unique (λ i. IsRelaxedLevel keys eps eps_rec cuts one i) (λ i. IsRelaxedLevel keys eps eps_rec cuts two i) keys one two first second (λ i own other below. elim (cases_lt 0 i) [
+    AreLevelled-unique (λ i. IsRelaxedLevel keys eps eps_rec cuts one i) (λ i. IsRelaxedLevel keys eps eps_rec cuts two i) (length keys) one two first second (λ i own other below. elim (cases_lt 0 i) [
       | inl above ↦ level_agrees keys eps eps_rec one two i (own.above above) (other.above above) below
       | inr lowest ↦
           let base : i ≡ 0 = omega arith in

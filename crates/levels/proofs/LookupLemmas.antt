@@ -18,7 +18,8 @@ use Rattle.window_search.specs.Windows.{IsWindow, IsLineOf, IsLastAtMost, IsClos
 use Rattle.window_search.proofs.CallerLemmas.{predecessor_exists, lb-predecessor}
 use Rattle.piece_join.proofs.RelaxedLemmas.{runs-from_laid}
 use Rattle.key_points.specs.KeyPoints.{xs_of}
-use Rattle.levels.specs.Indexes.{level_at, xs_at, ys_at, points_at, eps_at, IsLaidIndex}
+use Rattle.exact_cross.specs.IndexLevels.{level_at, eps_at}
+use Rattle.levels.specs.Indexes.{xs_at, ys_at, points_at, IsLaidIndex}
 use Rattle.key_points.proofs.CallerLemmas.{xs-first, next_of_point, close_of_point}
 use Rattle.levels.specs.Lookups.{HasRun, extent_at, IsWindowAt}
 use Rattle.levels.proofs.SegmentLemmas.{first_x_at, run_at, HasRun-at, IsRun, end_at, predecessor_in_run}

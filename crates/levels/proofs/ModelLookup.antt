@@ -14,7 +14,8 @@ use Rattle.window_search.specs.Searches.{lb, IsPredecessor}
 use Rattle.window_search.specs.Windows.{IsNext, IsClose}
 use Rattle.window_search.proofs.CallerLemmas.{IsLowerBound-lb, IsPredecessor-unique}
 use Rattle.levels.specs.declared.model.RunModel.{RunModel}
-use Rattle.levels.specs.Indexes.{level_at, xs_at, ys_at, points_at, eps_at, IsLaidIndex}
+use Rattle.exact_cross.specs.IndexLevels.{level_at, eps_at}
+use Rattle.levels.specs.Indexes.{xs_at, ys_at, points_at, IsLaidIndex}
 use Rattle.levels.specs.Lookups.{extent_at, HoldsAnswers}
 use Rattle.levels.specs.Models.{IsEndOf, IsModelOf, clamped_at}
 use Rattle.levels.proofs.SegmentLemmas.{run_at, end_at, first_x_at}

@@ -3,7 +3,8 @@ use Rattle.std.proofs.Common.{◌≡◌, ℕ, ◌<◌, ◌≤◌, List, [], ◌�
 use Rattle.std.proofs.lemmas.Bool.{cases_lt}
 use Rattle.std.specs.List.Sorted.{IsNonDecreasing}
 use Rattle.exact_cross.specs.declared.segment.Segment.{Segment}
-use Rattle.levels.specs.Indexes.{level_at, xs_at, IsLaidIndex}
+use Rattle.exact_cross.specs.IndexLevels.{level_at}
+use Rattle.levels.specs.Indexes.{xs_at, IsLaidIndex}
 use Rattle.window_search.specs.Searches.{lb}
 use Rattle.window_search.proofs.CallerLemmas.{lb-is}
 use Rattle.levels.proofs.LevelLemmas.{xs_at-length, some_at}

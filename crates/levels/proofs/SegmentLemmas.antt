@@ -14,7 +14,7 @@ use Rattle.exact_cross.specs.Covers.{run_end, CutsInto, IsGreedy, IsLongest}
 use Rattle.exact_cross.specs.Segments.{starts_of, EachRun}
 use Rattle.exact_cross.proofs.CallerLemmas.{CutsInto-rises, some_line-two_places, slice_index-rises}
 use Rattle.window_search.specs.Searches.{IsPredecessor}
-use Rattle.levels.specs.Indexes.{first_xs}
+use Rattle.exact_cross.specs.IndexLevels.{first_xs}
 use Rattle.levels.specs.Lookups.{HasRun}
 
 -- a run that isn't the last one has two places or more

@@ -12,13 +12,14 @@ use Rattle.exact_cross.specs.declared.segment.Segment.{Segment}
 use Rattle.exact_cross.specs.Points.{points_of, places}
 use Rattle.exact_cross.specs.Lines.{SomeLineFits}
 use Rattle.exact_cross.specs.Segments.{IsSteepSegment}
-use Rattle.segmenter.specs.Segmentation.{IsSegmentation}
+use Rattle.exact_cross.specs.Segmentation.{IsSegmentation}
 use Rattle.piece_join.specs.Laid.{IsLaid}
 use Rattle.levels.specs.declared.level.Level.{Level}
 use Rattle.levels.specs.declared.model.RunModel.{RunModel}
 use Rattle.levels.specs.Models.{AreModels}
 use Rattle.key_points.specs.KeyPoints.{xs_of, ys_of}
-use Rattle.levels.specs.Indexes.{first_xs, level_at, xs_at, ys_at, points_at, eps_at, IsLevel, IsLaidLevel, places_below}
+use Rattle.exact_cross.specs.IndexLevels.{first_xs, level_at, eps_at}
+use Rattle.levels.specs.Indexes.{xs_at, ys_at, points_at, IsLevel, IsLaidLevel, places_below}
 use Rattle.levels.specs.Stored.{segments_of, AreLevels, AreStored}
 use Rattle.levels.proofs.SegmentLemmas.{runs_within, fewer_runs, run_at}
 use Rattle.levels.proofs.LevelLemmas.{xs_at-base, ys_at-base, xs_at-above, ys_at-above, AscendsAt, ascends_at, some_at, xs_at-same, ys_at-same, xs_at-length, IsLevel-in, IsLaidLevel-in, AreModels-in}

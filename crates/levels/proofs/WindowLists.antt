@@ -11,7 +11,8 @@ use Rattle.exact_cross.specs.Lines.{SomeLineFits}
 use Rattle.exact_cross.specs.Segments.{IsSteepSegment}
 use Rattle.exact_cross.proofs.CallerLemmas.{line_of_pair-positive}
 use Rattle.window_search.proofs.CallerLemmas.{IsPredecessor-unique, IsWindow-unique}
-use Rattle.levels.specs.Indexes.{IsLaidIndex, level_at, xs_at, ys_at, points_at, eps_at}
+use Rattle.exact_cross.specs.IndexLevels.{level_at, eps_at}
+use Rattle.levels.specs.Indexes.{IsLaidIndex, xs_at, ys_at, points_at}
 use Rattle.levels.proofs.RunsApart.{HasRun-each, HasRun-within, HasRun-unique}
 use Rattle.levels.proofs.LookupLemmas.{ascends}
 use Rattle.levels.specs.Lookups.{extent_at, IsWindowAt, AreWindows, HoldsAnswers, IsNarrow, HasWindowsTo}

@@ -17,7 +17,8 @@ use Rattle.exact_cross.specs.Segments.{IsSteepSegment}
 use Rattle.exact_cross.proofs.CallerLemmas.{IsFloorAt-in, line_of_pair-positive}
 use Rattle.window_search.specs.Searches.{IsPredecessor}
 use Rattle.window_search.specs.Windows.{IsPredicted, IsWindow}
-use Rattle.levels.specs.Indexes.{IsLaidIndex, first_xs, level_at, xs_at, ys_at, points_at, eps_at}
+use Rattle.exact_cross.specs.IndexLevels.{first_xs, level_at, eps_at}
+use Rattle.levels.specs.Indexes.{IsLaidIndex, xs_at, ys_at, points_at}
 use Rattle.levels.specs.Lookups.{extent_at, IsWindowAt, IsBelowAll, AreWindows}
 use Rattle.levels.proofs.LevelLemmas.{xs_at-above, xs_at-length}
 use Rattle.levels.proofs.SegmentLemmas.{run_at, end_at, HasRun-at, predecessor_in_run}

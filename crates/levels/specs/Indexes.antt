@@ -1,10 +1,10 @@
 -- The one index of a key list: levels of segments, each over the first x of the runs below it. And a relaxed one, whose level 0
 -- is made in pieces that aren't joined.
 -- Source: P. Ferragina and G. Vinciguerra, The PGM-index, PVLDB 13(8), 2020, section 2.
-use Rattle.std.specs.Prelude.{◌≡◌, ◌≢◌, ◌==◌, if◌then◌else◌, ℕ, zero, suc, ◌+◌, ◌<◌, List, [], length, map, slice_index, slice_index_or}
+use Rattle.std.specs.Prelude.{◌≡◌, ℕ, zero, suc, ◌+◌, ◌<◌, List, length}
 use Rattle.exact_cross.specs.declared.segment.Segment.{Segment}
-use Rattle.exact_cross.specs.Points.{Points, points_of, places}
-use Rattle.segmenter.specs.Segmentation.{IsSegmentation}
+use Rattle.exact_cross.specs.Points.{Points, points_of}
+use Rattle.exact_cross.specs.IndexLevels.{level_at, level_xs, level_ys, level_points, eps_at, IsLevelOver, AreLevelled}
 use Rattle.piece_join.specs.Laid.{IsLaid}
 use Rattle.piece_join.specs.Relaxed.{IsRelaxed}
 use Rattle.key_points.specs.KeyPoints.{xs_of, ys_of}
@@ -16,48 +16,25 @@ pub record PgmIndex : Type 0 where
   pub eps_rec : ℕ
   pub levels : List (List Segment)
 
--- the first x of each run
-abbrev pub first_xs : List ℕ → List Segment → List ℕ
-first_xs xs segments = map (λ segment. slice_index xs segment.start) segments
-
--- the segments of level i, counted from the lowest
-abbrev pub level_at : List (List Segment) → ℕ → List Segment
-level_at levels i = slice_index_or levels i []
-
 -- the x of level i: at level 0 those of the points of the keys, and above the first x of the runs below
-unfoldable pub xs_at : List ℕ → List (List Segment) → ℕ → List ℕ
-xs_at keys levels zero = xs_of keys
-xs_at keys levels (suc i) = first_xs (xs_at keys levels i) (level_at levels i)
+abbrev pub xs_at : List ℕ → List (List Segment) → ℕ → List ℕ
+xs_at keys levels i = level_xs (xs_of keys) levels i
 
 -- the y of level i: at level 0 the positions in the file, and above the places
-unfoldable pub ys_at : List ℕ → List (List Segment) → ℕ → List ℕ
-ys_at keys levels zero = ys_of keys
-ys_at keys levels (suc i) = places (length (level_at levels i))
+abbrev pub ys_at : List ℕ → List (List Segment) → ℕ → List ℕ
+ys_at keys levels i = level_ys (ys_of keys) levels i
 
 -- the points of level i
 abbrev pub points_at : List ℕ → List (List Segment) → ℕ → Points
-points_at keys levels i = points_of (xs_at keys levels i) (ys_at keys levels i)
-
--- the error bound of level i
-abbrev pub eps_at : ℕ → ℕ → ℕ → ℕ
-eps_at eps eps_rec i = if i == 0 then eps else eps_rec
+points_at keys levels i = level_points (xs_of keys) (ys_of keys) levels i
 
 -- the segments of level i are the segmentation of its points
 abbrev pub IsLevel : (keys : List ℕ) (eps eps_rec : ℕ) (levels : List (List Segment)) (i : ℕ) → Type 0
-IsLevel keys eps eps_rec levels i =
-    IsSegmentation (points_at keys levels i) (eps_at eps eps_rec i) 0 (length (xs_at keys levels i)) (level_at levels i)
-
--- levels each of which is so, by its number, and the last one is the first of one run; no key, no level
-pub record AreLevelled (IsSo : ℕ → Type 0) (keys : List ℕ) (levels : List (List Segment)) : Type 0 where
-  pub none : length keys ≡ 0 → length levels ≡ 0
-  pub some : 0 < length keys → 0 < length levels
-  pub each : (i : ℕ) → i < length levels → IsSo i
-  pub last : (i : ℕ) → i + 1 ≡ length levels → length (level_at levels i) ≡ 1
-  pub others : (i : ℕ) → i + 1 < length levels → length (level_at levels i) ≢ 1
+IsLevel keys eps eps_rec levels i = IsLevelOver (xs_of keys) (ys_of keys) eps eps_rec levels i
 
 -- the index: each level is the segmentation of its points
 abbrev pub IsIndex : (keys : List ℕ) (eps eps_rec : ℕ) (levels : List (List Segment)) → Type 0
-IsIndex keys eps eps_rec levels = AreLevelled (λ i. IsLevel keys eps eps_rec levels i) keys levels
+IsIndex keys eps eps_rec levels = AreLevelled (λ i. IsLevel keys eps eps_rec levels i) (length keys) levels
 
 -- level 0 is the segmentation of each piece between the cuts by itself, and a level above is that of its points
 pub record IsRelaxedLevel (keys : List ℕ) (eps eps_rec : ℕ) (cuts : List ℕ) (levels : List (List Segment)) (i : ℕ) : Type 0 where
@@ -66,7 +43,7 @@ pub record IsRelaxedLevel (keys : List ℕ) (eps eps_rec : ℕ) (cuts : List ℕ
 
 -- the relaxed index of cuts
 abbrev pub IsRelaxedIndex : (keys : List ℕ) (eps eps_rec : ℕ) (cuts : List ℕ) (levels : List (List Segment)) → Type 0
-IsRelaxedIndex keys eps eps_rec cuts levels = AreLevelled (λ i. IsRelaxedLevel keys eps eps_rec cuts levels i) keys levels
+IsRelaxedIndex keys eps eps_rec cuts levels = AreLevelled (λ i. IsRelaxedLevel keys eps eps_rec cuts levels i) (length keys) levels
 
 -- the segments of level i cover its points, each with the line of its run's steep pair, and above level 0 they are the segmentation
 pub record IsLaidLevel (keys : List ℕ) (eps eps_rec : ℕ) (levels : List (List Segment)) (i : ℕ) : Type 0 where
@@ -75,7 +52,7 @@ pub record IsLaidLevel (keys : List ℕ) (eps eps_rec : ℕ) (levels : List (Lis
 
 -- what a lookup needs of levels: an index has it, and a relaxed one too
 abbrev pub IsLaidIndex : (keys : List ℕ) (eps eps_rec : ℕ) (levels : List (List Segment)) → Type 0
-IsLaidIndex keys eps eps_rec levels = AreLevelled (λ i. IsLaidLevel keys eps eps_rec levels i) keys levels
+IsLaidIndex keys eps eps_rec levels = AreLevelled (λ i. IsLaidLevel keys eps eps_rec levels i) (length keys) levels
 
 -- how many places the lists of the first n levels have together
 unfoldable pub places_below : List ℕ → List (List Segment) → ℕ → ℕ

@@ -10,11 +10,12 @@ pub use Rattle.exact_cross.specs.Points
 pub use Rattle.exact_cross.specs.Covers
 pub use Rattle.exact_cross.specs.Segments
 pub use Rattle.exact_cross.specs.Checked
+pub use Rattle.exact_cross.specs.IndexLevels
+pub use Rattle.exact_cross.specs.Segmentation
 pub use Rattle.key_points.specs.KeyPoints
 pub use Rattle.piece_join.specs.Cuttings
 pub use Rattle.piece_join.specs.Laid
 pub use Rattle.piece_join.specs.Relaxed
 pub use Rattle.radix_table.specs.Tables
-pub use Rattle.segmenter.specs.Segmentation
 pub use Rattle.window_search.specs.Searches
 pub use Rattle.window_search.specs.Windows

@@ -6,7 +6,8 @@ use Rattle.exact_cross.specs.Covers.{run_end}
 use Rattle.exact_cross.specs.Segments.{starts_of}
 use Rattle.window_search.specs.Searches.{lb, IsPredecessor}
 use Rattle.window_search.specs.Windows.{IsWindow}
-use Rattle.levels.specs.Indexes.{level_at, xs_at, ys_at, eps_at}
+use Rattle.exact_cross.specs.IndexLevels.{level_at, eps_at}
+use Rattle.levels.specs.Indexes.{xs_at, ys_at}
 
 -- the list of segments has this one, and its run goes up to e: to the next segment's start, the last one's to the end of all
 pub record HasRun (segments : List Segment) (to : ℕ) (segment : Segment) (e : ℕ) : Type 0 where

@@ -3,7 +3,8 @@ use Rattle.std.specs.Prelude.{◌≡◌, ◌≢◌, ℕ, ◌+◌, ◌<◌, ◌�
 use Rattle.std.specs.List.Sorted.{IsNonDecreasing}
 use Rattle.exact_cross.specs.declared.segment.Segment.{Segment}
 use Rattle.levels.specs.declared.level.Level.{Level}
-use Rattle.levels.specs.Indexes.{IsLaidIndex, IsLaidLevel, level_at, xs_at, ys_at, points_at, eps_at}
+use Rattle.exact_cross.specs.IndexLevels.{level_at, eps_at}
+use Rattle.levels.specs.Indexes.{IsLaidIndex, IsLaidLevel, xs_at, ys_at, points_at}
 use Rattle.levels.specs.Models.{AreModels}
 
 -- the segments of each level

@@ -6,14 +6,16 @@ ghost use Rattle.std.specs.List.Sorted.{IsStrictlyIncreasing, IsNonDecreasing};
 ghost use Rattle.exact_cross.specs.Points.{points_of, places};
 ghost use Rattle.key_points.specs.KeyPoints.{xs_of, ys_of};
 ghost use Rattle.exact_cross.specs.declared.segment.Segment.{Segment};
-ghost use Rattle.segmenter.specs.Segmentation.{IsSegmentation};
+ghost use Rattle.exact_cross.specs.Segmentation.{IsSegmentation};
 ghost use Rattle.exact_cross.specs.Checked.{IsCoverWithin, uncut};
 ghost use Rattle.exact_cross.specs.Segments.{starts_of};
 ghost use Rattle.piece_join.specs.Cuttings.{AreCuts};
 ghost use Rattle.piece_join.specs.Laid.{IsLaid};
 ghost use Rattle.piece_join.specs.Relaxed.{IsRelaxed};
-ghost use Rattle.levels.specs.Indexes.{first_xs, IsIndex, IsRelaxedIndex, IsLaidIndex, level_at};
-ghost use Rattle.levels.specs.Indexes.{xs_at, ys_at, points_at, eps_at, places_below};
+ghost use Rattle.exact_cross.specs.IndexLevels.{first_xs, level_at};
+ghost use Rattle.levels.specs.Indexes.{IsIndex, IsRelaxedIndex, IsLaidIndex};
+ghost use Rattle.exact_cross.specs.IndexLevels.{eps_at};
+ghost use Rattle.levels.specs.Indexes.{xs_at, ys_at, points_at, places_below};
 ghost use Rattle.levels.specs.Models.{AreModels, IsEndOf, IsModelOf};
 ghost use Rattle.levels.specs.Stored.{AreLevels, AreStored, segments_of};
 
@@ -25,7 +27,7 @@ use budget::{NoMemory, Steps};
 use edge::Gate;
 use exact_cross::{MAX_EPSILON, Segment};
 use key_points::Keys;
-use piece_join::{relaxed, segment_in_pieces};
+use piece_join::{relaxed, segment_in_pieces, uneven_cuts};
 use segmenter::segment_counted;
 use std::alloc::Global;
 use std::marker::Brand;
@@ -34,6 +36,62 @@ use std::thread::Threads;
 
 impl Index {
     /// The index of keys, built on the calling thread.
+    ///
+    /// `eps` is the error bound of level 0, in positions of the file, and `eps_rec` that of the
+    /// levels above, in places of their lists; 64 and 4 serve most keys. A caller that hasn't shown
+    /// that its keys never fall makes them by [`Keys::tested`].
+    ///
+    /// # Errors
+    ///
+    /// `NoMemory` alone. Then the keys are given up.
+    ///
+    /// Source: Ferragina and Vinciguerra, PVLDB 13(8), 2020, section 2.
+    pub fn of(alloc: Global, keys: Keys, eps: u32, eps_rec: u32) -> Result<Index, NoMemory>
+        requires bounded { eps ≤ MAX_EPSILON }
+        requires bounded_rec { eps_rec ≤ MAX_EPSILON }
+        ensures keys { IfOk result (λ index. index.keys ≡ keys) }
+        ensures eps { IfOk result (λ index. index.eps ≡ eps) }
+        ensures eps_rec { IfOk result (λ index. index.eps_rec ≡ eps_rec) }
+        ensures index { IfOk result (λ index. IsIndex keys eps eps_rec index.levels) }
+    {
+        Index::here::<Brand>(alloc, keys, eps, eps_rec, Blank::new(1))
+    }
+
+    /// The same index as [`Index::of`] gives, level 0 built by several workers.
+    ///
+    /// The points of the keys are cut into 8 uneven pieces a worker, and each of the `workers`, 1
+    /// to 64, draws pieces until there are none left. Where a thread can't be started the caller
+    /// does its work. The gate is passed as by [`Index::build`]; `&OpenGate` holds nobody.
+    ///
+    /// # Errors
+    ///
+    /// `NoMemory` alone. Then the keys are given up.
+    ///
+    /// Source: Ferragina and Vinciguerra, PVLDB 13(8), 2020, sections 2 and 3.1.
+    pub fn by_workers<R: Threads + Sync, G: Gate>(
+        rt: &R,
+        alloc: Global,
+        keys: Keys,
+        eps: u32,
+        eps_rec: u32,
+        workers: u32,
+        gate: &G,
+    ) -> Result<Index, NoMemory>
+        requires bounded { eps ≤ MAX_EPSILON }
+        requires bounded_rec { eps_rec ≤ MAX_EPSILON }
+        requires staffed { 1 ≤ workers }
+        requires few_workers { workers ≤ 64 }
+        ensures keys { IfOk result (λ index. index.keys ≡ keys) }
+        ensures eps { IfOk result (λ index. index.eps ≡ eps) }
+        ensures eps_rec { IfOk result (λ index. index.eps_rec ≡ eps_rec) }
+        ensures index { IfOk result (λ index. IsIndex keys eps eps_rec index.levels) }
+    {
+        let (xs, _) = lists_of(&keys);
+        let cuts = uneven_cuts(alloc, xs.len() as u32, workers)?;
+        Index::build(rt, alloc, keys, eps, eps_rec, &cuts, workers, gate)
+    }
+
+    /// The index of keys, built on the calling thread, which counts its steps.
     ///
     /// `eps` is the error bound of level 0, in positions of the file, and `eps_rec` that of the
     /// levels above, in places of their lists. It takes at most 12 steps for each place of the
@@ -67,8 +125,8 @@ impl Index {
     }
 
     /// The index of keys, level 0 built piece by piece by several workers, and the levels above on
-    /// the calling thread: the same index as [`Index::build_here`] gives, for all cuts, numbers of
-    /// workers and gates.
+    /// the calling thread: the same index as [`Index::of`] gives, for all cuts, numbers of workers
+    /// and gates.
     ///
     /// `eps` is the error bound of level 0, in positions of the file, and `eps_rec` that of the
     /// levels above, in places of their lists. The points of the keys are cut into pieces before
@@ -149,6 +207,28 @@ impl Index {
     {
         let segments = level_0_side_by_side(rt, alloc, &keys, eps, cuts, workers, gate)?;
         Index::over::<Brand>(alloc, keys, segments, eps, eps_rec, Blank::new(1))
+    }
+
+    /// The index of keys, its steps counted from a new ledger.
+    fn here<L: Ledger>(
+        alloc: Global,
+        keys: Keys,
+        eps: u32,
+        eps_rec: u32,
+        blank: Blank,
+    ) -> Result<Index, NoMemory>
+        requires bounded { eps ≤ MAX_EPSILON }
+        requires bounded_rec { eps_rec ≤ MAX_EPSILON }
+        requires name { blank.name ≡ L.name }
+        requires parts { blank.parts ≡ L.parts }
+        requires one { blank.parts ≡ 1 }
+        ensures keys { IfOk result (λ index. index.keys ≡ keys) }
+        ensures eps { IfOk result (λ index. index.eps ≡ eps) }
+        ensures eps_rec { IfOk result (λ index. index.eps_rec ≡ eps_rec) }
+        ensures index { IfOk result (λ index. IsIndex keys eps eps_rec index.levels) }
+    {
+        let mut steps = Steps::<L>::new(blank);
+        Index::build_here(alloc, keys, eps, eps_rec, &mut steps)
     }
 
     /// The index over the segments of level 0, its steps counted from a new ledger.

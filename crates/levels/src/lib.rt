@@ -4,10 +4,10 @@
 //! level 1 stands on their first keys, 0 and 10, with one run. The question 9 is asked at level 1,
 //! which leads to the first run, and at level 0, where 3 keys are below it.
 //!
-//! Main clauses: `index` of [`Index::build_here`] and of [`Index::build`], `cost` of the former,
-//! `relaxed` of [`Index::build_relaxed`], `found` and `cost` of [`Index::lower_bound`], `windows`
-//! of [`Index::windows`], and the laws [`one_index`] and [`some_index`]. The words of the clauses
-//! are in `specs/`.
+//! Main clauses: `index` of [`Index::of`] and of [`Index::build`], `cost` of
+//! [`Index::build_here`], `relaxed` of [`Index::build_relaxed`], `found` and `cost` of
+//! [`Index::lower_bound`], `windows` of [`Index::windows`], and the laws [`one_index`] and
+//! [`some_index`]. The words of the clauses are in `specs/`.
 #![tactic(auto)]
 
 mod among;
@@ -25,7 +25,8 @@ mod runs;
 mod windows;
 
 pub use among::positions_among;
+pub use edge::OpenGate;
 pub use grouped::positions_grouped;
 pub use index::{Index, each_index_is_laid, one_index, one_relaxed_index, some_index};
-pub use key_points::Keys;
+pub use key_points::{Keys, KeysFault, is_sorted};
 pub use windows::{one_list_of_windows, some_windows};

@@ -3,7 +3,8 @@ ghost use Rattle.std.specs.Prelude.{◌≡◌, ◌+◌, ◌*◌, ◌++◌, ◌<�
 ghost use Rattle.std.specs.Prelude.{map, min, slice_index, vec_len, vec_capacity, IfSome};
 ghost use Rattle.std.specs.List.Sorted.{IsNonDecreasing};
 ghost use Rattle.window_search.specs.Searches.{lb, IsPredecessor};
-ghost use Rattle.levels.specs.Indexes.{IsLaidIndex, xs_at, eps_at};
+ghost use Rattle.exact_cross.specs.IndexLevels.{eps_at};
+ghost use Rattle.levels.specs.Indexes.{IsLaidIndex, xs_at};
 ghost use Rattle.levels.specs.InStep.{IsAmong, HasBound, AreNear, AreRuns};
 
 use crate::in_step::{LANES, bounds_in_step, predecessors_in_step};

@@ -4,7 +4,7 @@ ghost use Rattle.std.specs.List.Sorted.{IsNonDecreasing};
 ghost use Rattle.window_search.specs.Searches.{lb, IsPredecessor};
 ghost use Rattle.levels.specs.Costs.{TakesAtMost};
 ghost use Rattle.levels.specs.Indexes.{IsLaidIndex, xs_at};
-ghost use Rattle.levels.specs.InStep.{AreNear, AreRuns};
+ghost use Rattle.levels.specs.InStep.{AreNear};
 
 use crate::index::Index;
 use budget::Steps;
@@ -38,17 +38,6 @@ impl Index {
         self.model_of(0, run).first
     }
 
-    /// The first x of a run of level 0, as a search reads it. Takes one step.
-    #[inline(always)]
-    pub fn read_first<L: Ledger>(&self, run: u32, steps: &mut Steps<L>) -> u64
-        requires { run < length (xs_at self.now.keys self.now.levels 1) }
-        ensures key { result ≡ slice_index (xs_at self.now.keys self.now.levels 1) run }
-        ensures cost { steps.new ≡ steps.old + 1 }
-    {
-        steps.tick();
-        self.first_x(run)
-    }
-
     /// The lower bound of `q`, searched in the window of the run of level 0 that is known to begin
     /// last at or before `q`: how many keys of the file are below `q`.
     ///
@@ -66,33 +55,30 @@ impl Index {
         lower_in(keys, low, high, q, steps)
     }
 
-    /// The runs of level 0 of sixteen questions, in step: the last one that begins at or before
-    /// each question, which is not below the first key and has its run among `count` places from
-    /// its low end on. No steps are counted. Cannot fail and takes no memory.
+    /// The lower bounds of sixteen questions, in step: how many keys of the file are below each.
+    ///
+    /// No question is below the first key, and the run of level 0 that begins last at or before it
+    /// is known to be among `count` from its low end on. No steps are counted. Cannot fail and takes
+    /// no memory.
     #[inline(always)]
-    pub fn runs_in_step(&self, qs: &[u64; 16], lows: &[u32; 16], count: u32, runs: &mut [u32; 16])
+    pub fn lower_bounds_among(
+        &self,
+        qs: &[u64; 16],
+        lows: &[u32; 16],
+        count: u32,
+        places: &mut [u32; 16],
+    )
         requires some { 0 < length self.now.keys }
         requires above { 1 < length self.now.levels }
         requires from_first { (k : ℕ) → k < 16 →
             slice_index self.now.keys 0 ≤ slice_index qs.now k }
         requires near { AreNear (xs_at self.now.keys self.now.levels 1) qs.now lows.now count }
-        ensures { AreRuns (xs_at self.now.keys self.now.levels 1) qs.now runs.new }
-    {
-        let _runs = self.runs();
-        self.runs_among(qs, lows, count, runs);
-    }
-
-    /// The lower bounds of sixteen questions, in step, each in the window of its run of level 0:
-    /// from the runs to how many keys of the file are below the questions. No steps are counted.
-    /// Cannot fail and takes no memory.
-    #[inline(always)]
-    pub fn lower_bounds_in(&self, qs: &[u64; 16], runs: &mut [u32; 16])
-        requires { AreRuns (xs_at self.now.keys self.now.levels 1) qs.now runs.old }
-        ensures lanes { length runs.new ≡ 16 }
-        ensures found { (k : ℕ) → k < 16 → slice_index runs.new k ≡ lb self.now.keys
+        ensures lanes { length places.new ≡ 16 }
+        ensures found { (k : ℕ) → k < 16 → slice_index places.new k ≡ lb self.now.keys
             (slice_index qs.now k) }
     {
         let _runs = self.runs();
-        self.bounds_below(qs, runs);
+        self.runs_among(qs, lows, count, places);
+        self.bounds_below(qs, places);
     }
 }

@@ -13,7 +13,7 @@ ghost use Rattle.log_levels.specs.Builders.{IsMergeOf, IsIndexFor};
 ghost use Rattle.log_levels.specs.Kept.{IsFull, plain_entry};
 ghost use Rattle.log_levels.specs.Shapes.{StandsFor, capacity_of};
 
-use crate::builder::{Builder, Built, Merged, Workers, index_in_pieces};
+use crate::builder::{Builder, Built, Here, Merged, Workers, index_in_pieces};
 use crate::fault::MapFault;
 use crate::log_map::LogMap;
 use crate::update::Update;
@@ -25,6 +25,33 @@ use std::thread::Threads;
 use tombstones::{Entry, merge_in_pieces};
 
 impl LogMap {
+    /// Applies updates in order, all or none, on the calling thread.
+    ///
+    /// The map is the one that [`LogMap::apply`] makes.
+    ///
+    /// # Errors
+    ///
+    /// As of [`LogMap::apply`].
+    pub fn apply_here(&mut self, alloc: Global, updates: &[Update]) -> Result<(), MapFault>
+        ensures applied { OnOk result ((before : List Update) → StandsFor self.old before →
+            StandsFor self.new (before ++ updates.now)) }
+        ensures full { (before : List Update) → StandsFor self.old before →
+            capacity_of self.old < length (entries_of (before ++ updates.now)) →
+            (result ≡ Err (Full self.old.accepted)) ⊎ (result ≡ Err MapFault.NoMemory) }
+        ensures full_first { All IsPlain updates.now →
+            capacity_of self.old < self.old.accepted + length updates.now →
+            result ≡ Err (Full self.old.accepted) }
+        ensures full_only { (accepted : ℕ) → result ≡ Err (Full accepted) →
+            (accepted ≡ self.old.accepted) × ((before : List Update) →
+            StandsFor self.old before →
+            capacity_of self.old < length (entries_of (before ++ updates.now))) }
+        ensures unchanged { OnErr result (self.new ≡ self.old) }
+        ensures levels { length self.new.levels ≡ length self.old.levels }
+    {
+        *self = self.with_updates(&Here { alloc }, alloc, updates)?;
+        Ok(())
+    }
+
     /// Applies updates in order, all or none.
     ///
     /// They are applied to a copy, which shares the levels, and the map is replaced at the end. So

@@ -5,13 +5,11 @@ ghost use Rattle.levels.specs.Indexes.{IsIndex};
 ghost use Rattle.log_levels.specs.Builders.{Merges, Builds};
 
 use crate::level::{EPS, EPS_REC};
-use budget::{NoMemory, Steps};
+use budget::NoMemory;
 use edge::Gate;
 use levels::{Index, Keys};
 use piece_join::even_cuts;
 use std::alloc::Global;
-use std::marker::Brand;
-use std::sync::ledger::{Blank, Ledger};
 use std::thread::Threads;
 use tombstones::{Entry, merge};
 
@@ -59,7 +57,7 @@ impl Builder for Here {
     }
 
     fn index(&self, keys: Keys) -> Built {
-        index_here::<Brand>(self.alloc, keys, Blank::new(1))
+        Index::of(self.alloc, keys, EPS, EPS_REC)
     }
 }
 
@@ -81,20 +79,6 @@ impl<M: Fn(&[Entry], &[Entry], bool) -> Merged, I: Fn(Keys) -> Built> Builder fo
     fn index(&self, keys: Keys) -> Built {
         (self.index)(keys)
     }
-}
-
-/// The index of keys, its steps counted from a new ledger.
-fn index_here<L: Ledger>(alloc: Global, keys: Keys, blank: Blank) -> Built
-    requires name { blank.name ≡ L.name }
-    requires parts { blank.parts ≡ L.parts }
-    requires one { blank.parts ≡ 1 }
-    ensures keys { IfOk result (λ index. index.keys ≡ keys) }
-    ensures eps { IfOk result (λ index. index.eps ≡ EPS) }
-    ensures eps_rec { IfOk result (λ index. index.eps_rec ≡ EPS_REC) }
-    ensures index { IfOk result (λ index. IsIndex keys EPS EPS_REC index.levels) }
-{
-    let mut steps = Steps::<L>::new(blank);
-    Index::build_here(alloc, keys, EPS, EPS_REC, &mut steps)
 }
 
 /// How many points a piece of an index has at least. A run of scattered keys has some ten

@@ -17,7 +17,12 @@ const FACTOR: u64 = 0x9E37_79B9_7F4A_7C15;
 /// One more than the greatest word.
 pub const WORDS: u128 = 1 << 64;
 
-/// A filter of keys: a few bits of one word for each key, set. Seen as the words.
+/// A blocked Bloom filter of keys: a few bits of one word for each key, set. Seen as the words.
+///
+/// ```text
+/// a key's hash   bits 63..32: which word   ..   23..18, 17..12, 11..6, 5..0: its four bits there
+/// words          | word 0: 64 bits | word 1 | word 2 | ..       a word for each four keys
+/// ```
 ///
 /// It denies no key that it was made of. Of others some five in a thousand pass, where the keys are
 /// scattered: there is a word of 64 bits for each four keys, and each key sets four. A question

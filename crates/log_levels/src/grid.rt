@@ -29,6 +29,12 @@ struct Scale {
 
 /// How many of a level's keys, nearly, are below each of even steps of their range.
 ///
+/// ```text
+/// keys     least |  8 or so  |  8 or so  |  8 or so  | greatest      steps of equal length
+/// counts         0           8          17          24               keys before each step, each
+///                                                                    up to three too low
+/// ```
+///
 /// Where keys are even a key's place is told by the counts of two neighbouring steps, and by how
 /// far between them the key is. Source of such tables: Kipf et al., RadixSpline, aiDM 2020.
 #[derive(Drop)]

@@ -36,9 +36,9 @@ const GROUPS_BY_INDEX: usize = 17;
 /// The entries of a level, by rising key, with the index of their keys, a filter of them, and a
 /// grid where they are even. Seen as the entries. It is never changed.
 ///
-/// A key is searched in three steps: a hint says where to look (`start`, from the grid, or else from
-/// the index); the entries there are looked at; and where the key's place isn't among them, the
-/// index finds it. No clause says that a hint is right: what is found is checked.
+/// A key is searched in three steps: a hint says where to look (`start`, from the grid, or else
+/// from the index); the entries there are looked at; and where the key's place isn't among them,
+/// the index finds it. No clause says that a hint is right: what is found is checked.
 #[derive(Drop)]
 pub struct Level {
     entries: Vec<Entry>,

@@ -75,7 +75,8 @@ fn passes(filter: &Filter, key: u64) -> bool {
 }
 
 // No contract says that a hint leads to a key, so each key is looked for where it leads: by the
-// index among squares, which are uneven, and by a grid among keys of which one is in each 64 numbers.
+// index among squares, which are uneven, and by a grid among keys of which one is in each 64
+// numbers.
 #[test]
 fn hints_lead_to_each_key(rt: HostRuntime) -> Result<(), Fail> {
     for count in [8, 9, 64, 100, 136, 137, 1000, 20_000] {

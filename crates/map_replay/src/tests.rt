@@ -1,4 +1,5 @@
-//! A replay beside readers, over updates whose answers are easily told, and the notes by themselves.
+//! A replay beside readers, over updates whose answers are easily told, and the notes by
+//! themselves.
 
 ghost use Rattle.std.specs.Prelude.{◌≡◌, All};
 ghost use Rattle.map_replay.specs.Crews.{IsReady};

@@ -19,6 +19,3 @@ mod search;
 
 pub use answer::Near;
 pub use search::{nearest, nearest_into, one_answer, room_for};
-
-#[cfg(test)]
-mod tests;

@@ -56,6 +56,7 @@ pub fn nearest(alloc: Global, boxes: &Boxes, centre: &[u32; 4], k: u32) -> Resul
 pub fn room_for(boxes: &Boxes, centre: &[u32; 4], k: u32) -> u64
     requires centre { IsInRange boxes.now.dims centre.now }
     ensures room { HasRoom boxes.now.dims centre.now boxes.now.codes k result }
+    ensures few { result ≤ length boxes.now.codes }
     ensures answered { (answer : NearAnswer)
         × IsNear boxes.now.dims centre.now boxes.now.codes k answer }
 {

@@ -10,8 +10,8 @@ pub enum ScriptKind {
     /// `box LOW .. HIGH ..`, questions for the points of a region of so many coordinates, from 2 to
     /// 4.
     Region(u32),
-    /// `near CENTRE .. K`, questions for the points nearest to a centre of so many coordinates, from
-    /// 2 to 4.
+    /// `near CENTRE .. K`, questions for the points nearest to a centre of so many coordinates,
+    /// from 2 to 4.
     Near(u32),
     /// `put K V`, `del K` and `sweep A B`, updates of a map, and `get K`, `next Q` and `count A B`,
     /// questions to it.

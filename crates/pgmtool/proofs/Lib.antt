@@ -2,5 +2,6 @@ pub mod TakenFiles
 pub mod InputLemmas
 pub mod NumberInputs
 pub mod ScriptInputs
+pub mod SavedInputs
 pub mod OneReading
 pub mod OutcomeLemmas

@@ -4,13 +4,14 @@ use Rattle.pgm_script.specs.declared.script.ScriptKind.{ScriptKind}
 use Rattle.sosd_reader.specs.KeyFiles.{key_width}
 use Rattle.sosd_reader.specs.NumberFiles.Kind.{of_keys, of_points}
 use Rattle.command_line.specs.Requests.{Building, Replaying, Request}
-use Rattle.command_line.specs.Requests.Request.{build, explain, query, relax, box, near, replay, drill}
+use Rattle.command_line.specs.Requests.Request.{build, explain, query, relax, box, near, replay, drill, save, check}
 use Rattle.pgm_script.specs.declared.script.ScriptLine.{ScriptLine}
 use Rattle.pgmtool.specs.declared.refusal.Refusal.TheVariants.{Full}
-use Rattle.pgmtool.specs.Inputs.{reads, reads_index, reads_points, reads_history}
+use Rattle.pgmtool.specs.Inputs.{reads, reads_index, reads_keys, reads_points, reads_saved, reads_history}
 use Rattle.pgmtool.proofs.InputLemmas.{IsFunctional, then_one, gives_one}
 use Rattle.pgmtool.proofs.NumberInputs.{numbers_one}
 use Rattle.pgmtool.proofs.ScriptInputs.{script_one}
+use Rattle.pgmtool.proofs.SavedInputs.{saved_one, judges_one}
 
 -- whether the map has room is a matter of two numbers
 history_one : (replaying : Replaying) (lines : List ScriptLine) → IsFunctional (reads_history replaying lines)
@@ -43,3 +44,7 @@ module _ (contents : List ℕ → Option (List ℕ)) where
       (λ coords. then_one _ _ (script_one (ScriptKind.Near searching.dims) contents searching.script) (λ lines. gives_one _))
   reads_one (replay replaying) = then_one _ _ (script_one ScriptKind.Replay contents replaying.script) (history_one replaying)
   reads_one (drill drilling) = gives_one _
+  reads_one (save building) = then_one (reads_index (Some contents) building) _ (index_one building) (λ keys. gives_one _)
+  reads_one (check checking) = then_one (reads_keys (not checking.narrow) (Some contents) checking.file) _
+      (numbers_one (of_keys (key_width (not checking.narrow))) contents checking.file)
+      (λ keys. then_one (reads_saved (Some contents) checking.index) _ (saved_one contents checking.index) (λ saved. judges_one keys saved))

@@ -13,12 +13,16 @@ use Rattle.pgm_script.specs.Scripts.{IsLineOf, ReadsAs as ReadsScript}
 use Rattle.log_levels.specs.declared.update.Update.{Update}
 use Rattle.log_levels.specs.Accepted.{entries_of}
 use Rattle.command_line.specs.Requests.{Building, Drilling, Replaying, Request}
-use Rattle.command_line.specs.Requests.Request.{build, explain, query, relax, box, near, replay, drill}
+use Rattle.command_line.specs.Requests.Request.{build, explain, query, relax, box, near, replay, drill, save, check}
 use Rattle.pgmtool.specs.declared.refusal.Refusal.{Refusal}
-use Rattle.pgmtool.specs.declared.refusal.Refusal.TheVariants.{ReadFault, TooLong, Script, Full}
+use Rattle.pgmtool.specs.declared.refusal.Refusal.TheVariants.{ReadFault, TooLong, Script, Full, IndexWrong}
 use Rattle.pgmtool.specs.declared.inputs.TheConstants.{SCRIPT_LIMIT}
 use Rattle.pgmtool.specs.Files.{Files, HoldsOfFile, IsFaultOf, IsMissing, IsReadable}
-use Rattle.pgmtool.specs.Refusals.{refusal_of}
+use Rattle.pgmtool.specs.Refusals.{refusal_of, refusal_of_index}
+use Rattle.pgmtool.specs.RightIndexes.{IsRightIndex, IsWrongIndex}
+use Rattle.index_file.specs.declared.fault.IndexFault.{IndexFault}
+use Rattle.index_file.specs.Spelling.{SavedIndex, IsSpelling, run_count}
+use Rattle.index_file.specs.Faults.{FailsAs}
 use Rattle.map_replay.specs.declared.question.Question.{Question}
 use Rattle.commands.specs.declared.task.Centre.{Centre}
 use Rattle.commands.specs.Tasks.{Bounds}
@@ -107,6 +111,18 @@ reads_history replaying lines (Ok task) = (length (entries_of (updates_in lines)
 reads_history replaying lines (Err (Full asked room)) = (asked ≡ length (entries_of (updates_in lines))) × (room ≡ room_of replaying.levels) × (room < asked)
 reads_history replaying lines (Err refusal) = ⊥
 
+-- the saved index of the file of this name, or why it has none: it isn't there, or its bytes have a fault
+abbrev pub reads_saved : Files → List ℕ → Reading SavedIndex
+reads_saved files name (Ok saved) = HoldsOfFile files name (IsSpelling saved)
+reads_saved files name (Err ReadFault) = IsMissing files name
+reads_saved files name (Err refusal) = (fault : IndexFault) × (refusal_of_index fault ≡ Some refusal) × HoldsOfFile files name (λ bytes. FailsAs bytes fault)
+
+-- what is told of a saved index that is the one index of the keys, or the lowest level that isn't that index's
+abbrev pub judges : List ℕ → SavedIndex → Reading tasks.Task
+judges keys saved (Ok task) = IsRightIndex keys saved × (task ≡ tasks.Task.check (length saved.levels) (run_count saved))
+judges keys saved (Err (IndexWrong level)) = IsWrongIndex keys saved level
+judges keys saved (Err refusal) = ⊥
+
 -- one input, and then what goes on with it: the first refusal is that of both
 abbrev pub then : {A B : Type 0} → Reading A → (A → Reading B) → Reading B
 then first next (Ok y) = (x : _) × first (Ok x) × next x (Ok y)
@@ -145,3 +161,6 @@ reads files (near searching) = then (reads_points searching.dims files searching
     gives (tasks.Task.near searching.dims coords (centres_in lines))))
 reads files (replay replaying) = then (reads_script ScriptKind.Replay files replaying.script) (reads_history replaying)
 reads files (drill drilling) = gives (drill_of drilling)
+reads files (save building) = then (reads_index files building) (λ keys. gives (tasks.Task.save keys (bounds_in building)))
+reads files (check checking) = then (reads_keys (not checking.narrow) files checking.file) (λ keys.
+    then (reads_saved files checking.index) (λ saved. judges keys saved))

@@ -7,7 +7,9 @@ use Rattle.pgmtool.specs.declared.refusal.Refusal.TheVariants.{ReadFault}
 use Rattle.pgmtool.specs.declared.refusal.Stopped.{Stopped}
 use Rattle.pgmtool.specs.declared.refusal.Stopped.TheVariants.{NoMemory, Refused}
 use Rattle.pgm_script.specs.declared.fault.ScriptFault.{ScriptFault}
-use Rattle.pgmtool.specs.Refusals.{refusal_of, refusal_of_script}
+use Rattle.index_file.specs.declared.fault.IndexFault.{IndexFault}
+use Rattle.index_file.specs.declared.fault.CheckFault.{CheckFault}
+use Rattle.pgmtool.specs.Refusals.{refusal_of, refusal_of_script, refusal_of_index, refusal_of_check}
 use Rattle.pgmtool.specs.Inputs.{Reading}
 
 -- want of memory, or the refusal that tells the fault
@@ -20,6 +22,12 @@ IsStopOf fault stopped = stopped ≡ stop_of_refusal (refusal_of fault)
 
 abbrev pub IsStopOfScript : ScriptFault → Stopped → Type 0
 IsStopOfScript fault stopped = stopped ≡ stop_of_refusal (refusal_of_script fault)
+
+abbrev pub IsStopOfIndex : IndexFault → Stopped → Type 0
+IsStopOfIndex fault stopped = stopped ≡ stop_of_refusal (refusal_of_index fault)
+
+abbrev pub IsStopOfCheck : CheckFault → Stopped → Type 0
+IsStopOfCheck fault stopped = stopped ≡ stop_of_refusal (refusal_of_check fault)
 
 -- why a call stopped: want of memory is free, ReadFault comes where the count rose, and else the files define it
 abbrev pub IsStopped : {A : Type 0} → Reading A → (before after : ℕ) → Stopped → Type 0

@@ -11,6 +11,7 @@ ghost use Rattle.pgmtool.specs.Inputs.{centres_in, drill_of, reads_points, regio
 ghost use Rattle.pgmtool.specs.Stops.{Answers};
 
 use crate::history::history_in;
+use crate::judging::{judged, saved_index};
 use crate::refusal::{Refusal, Stopped};
 use command_line::{Building, Drilling, Request};
 use commands::{
@@ -140,6 +141,21 @@ pub fn read<F: Shelf>(alloc: Global, files: &mut F, request: Request<'_>) -> Res
             Ok(Task::Replay { history })
         }
         Request::Drill { drilling } => Ok(drill_in(drilling)),
+        Request::Save { building } => {
+            let keys = index_keys(alloc, files, building)?;
+            let bounds = bounds_in(building);
+            let workers = workers_in(building);
+            Ok(Task::Save {
+                keys,
+                bounds,
+                workers,
+            })
+        }
+        Request::Check { checking } => {
+            let keys = sorted_keys(alloc, files, checking.file, !checking.narrow)?;
+            let saved = saved_index(alloc, files, checking.index)?;
+            judged(alloc, keys, &saved)
+        }
     }
 }
 

@@ -4,9 +4,10 @@
 //! `pgmtool explain FILE` each segment too, with three places that show why it ends,
 //! `pgmtool query FILE SCRIPT` how many keys are below each question of the script, `pgmtool relax
 //! FILE SCRIPT` both, of an index whose pieces aren't joined, `pgmtool box FILE SCRIPT` the points
-//! in each box of the script, `pgmtool near FILE SCRIPT` those nearest to each centre, and
-//! `pgmtool replay SCRIPT` what a map says after the updates of the script. Of the keys 0, 1, 2,
-//! 10, `explain` writes with both bounds 0:
+//! in each box of the script, `pgmtool near FILE SCRIPT` those nearest to each centre,
+//! `pgmtool replay SCRIPT` what a map says after the updates of the script, `pgmtool save FILE` the
+//! index as bytes, and `pgmtool check FILE INDEX` whether such bytes are the index of the keys. Of
+//! the keys 0, 1, 2, 10, `explain` writes with both bounds 0:
 //!
 //! ```text
 //! keys 4 distinct 4 levels 2
@@ -23,6 +24,7 @@
 
 mod history;
 mod inputs;
+mod judging;
 mod refusal;
 mod run;
 mod status;

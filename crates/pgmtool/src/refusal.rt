@@ -6,6 +6,7 @@ ghost use Rattle.pgmtool.specs.Refusals.{refusal_line, status_of, why_word};
 
 use crate::Status;
 use edge::Sink;
+use index_file::{CheckFault, IndexFault};
 use pgm_script::{ScriptFault, Why};
 use sosd_reader::KeyFault;
 use std::alloc::AllocError;
@@ -34,6 +35,18 @@ pub enum Refusal {
     Script { line: u64, why: Why },
     /// The updates of a script have more entries than the map can accept.
     Full { asked: u64, room: u64 },
+    /// A saved index ends before its last level does.
+    IndexShort { got: u64 },
+    /// One of the first eight bytes of a saved index isn't as it has to be.
+    IndexMagic { at: u64 },
+    /// An error bound of a saved index is too great.
+    IndexEpsilon { value: u32 },
+    /// A byte of a saved index says no side.
+    IndexSide { at: u64, byte: u8 },
+    /// A byte follows the last level of a saved index.
+    IndexTrailing { byte: u8 },
+    /// A level of a saved index isn't that of the index of the keys.
+    IndexWrong { level: u32 },
 }
 
 /// Why a request's inputs weren't read.
@@ -60,6 +73,12 @@ impl Refusal {
             | Refusal::Wide { .. } => Status::BadKeys,
             Refusal::TooLong | Refusal::Script { .. } => Status::BadScript,
             Refusal::Full { .. } => Status::Full,
+            Refusal::IndexShort { .. }
+            | Refusal::IndexMagic { .. }
+            | Refusal::IndexEpsilon { .. }
+            | Refusal::IndexSide { .. }
+            | Refusal::IndexTrailing { .. }
+            | Refusal::IndexWrong { .. } => Status::BadIndex,
         }
     }
 }
@@ -104,6 +123,15 @@ fn fill_line(line: &mut TextLine, refusal: Refusal)
             push_kind(line, b" full", asked);
             line.push_number(room);
         }
+        Refusal::IndexShort { got } => push_kind(line, b" index short", got),
+        Refusal::IndexMagic { at } => push_kind(line, b" index magic", at),
+        Refusal::IndexEpsilon { value } => push_kind(line, b" index epsilon", u64::from(value)),
+        Refusal::IndexSide { at, byte } => {
+            push_kind(line, b" index side", at);
+            line.push_number(byte);
+        }
+        Refusal::IndexTrailing { byte } => push_kind(line, b" index trailing", u64::from(byte)),
+        Refusal::IndexWrong { level } => push_kind(line, b" index wrong", u64::from(level)),
     }
     line.push(b"\n");
 }
@@ -164,6 +192,37 @@ impl From<ScriptFault> for Stopped {
             ScriptFault::ReadFault => Stopped::Refused(Refusal::ReadFault),
             ScriptFault::TooLong { .. } => Stopped::Refused(Refusal::TooLong),
             ScriptFault::At { line, why } => Stopped::Refused(Refusal::Script { line, why }),
+        }
+    }
+}
+
+impl From<IndexFault> for Stopped {
+    ghost use Rattle.pgmtool.specs.Stops.{IsStopOfIndex};
+
+    ghost from_gives = { IsStopOfIndex };
+
+    fn from(fault: IndexFault) -> Self {
+        match fault {
+            IndexFault::NoMemory => Stopped::NoMemory,
+            IndexFault::ReadFault => Stopped::Refused(Refusal::ReadFault),
+            IndexFault::Short { got } => Stopped::Refused(Refusal::IndexShort { got }),
+            IndexFault::Magic { at } => Stopped::Refused(Refusal::IndexMagic { at }),
+            IndexFault::Epsilon { value } => Stopped::Refused(Refusal::IndexEpsilon { value }),
+            IndexFault::Side { at, byte } => Stopped::Refused(Refusal::IndexSide { at, byte }),
+            IndexFault::Trailing { byte } => Stopped::Refused(Refusal::IndexTrailing { byte }),
+        }
+    }
+}
+
+impl From<CheckFault> for Stopped {
+    ghost use Rattle.pgmtool.specs.Stops.{IsStopOfCheck};
+
+    ghost from_gives = { IsStopOfCheck };
+
+    fn from(fault: CheckFault) -> Self {
+        match fault {
+            CheckFault::NoMemory => Stopped::NoMemory,
+            CheckFault::Wrong { level } => Stopped::Refused(Refusal::IndexWrong { level }),
         }
     }
 }

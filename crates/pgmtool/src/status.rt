@@ -21,6 +21,8 @@ pub enum Status {
     BadScript = 6,
     /// The updates of a script have more entries than the map can accept.
     Full = 7,
+    /// A file that was read is no saved index, or isn't that of the keys.
+    BadIndex = 8,
 }
 
 impl Status {

@@ -20,6 +20,7 @@ mod refusals;
 mod regions;
 mod relax;
 mod replay;
+mod saved;
 mod workers;
 
 // A device of the tests: the call that fails, 0 for none, and the most bytes that one call moves.

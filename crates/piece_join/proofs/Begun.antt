@@ -10,7 +10,7 @@ use Rattle.exact_cross.specs.Covers.{run_end, CutsInto, IsLongest}
 use Rattle.exact_cross.specs.Segments.{starts_of, EachRun, IsSteepSegment}
 use Rattle.exact_cross.specs.Cuts.{HasItsCut}
 use Rattle.exact_cross.proofs.CallerLemmas.{CutsInto-rises, CutsInto-push, EachRun-push, run_end-push, starts_of-push}
-use Rattle.segmenter.specs.Segmentation.{IsSegmentation}
+use Rattle.exact_cross.specs.Segmentation.{IsSegmentation}
 use Rattle.piece_join.specs.Joined.{IsBegun}
 
 -- one run more
@@ -103,9 +103,6 @@ IsBegun-front p eps from end to front last within piece =
 -- and at the end of all points, all
 pub IsBegun-whole : (p : Points) (eps from to : ℕ) (segments : List Segment) → IsSegmentation p eps from to segments → IsBegun p eps from to to segments
 IsBegun-whole p eps from to segments whole = record { greedy = whole.greedy; steep = whole.steep; cuts = whole.cuts }
-
-pub IsSegmentation-from_begun : (p : Points) (eps from to : ℕ) (segments : List Segment) → IsBegun p eps from to to segments → IsSegmentation p eps from to segments
-IsSegmentation-from_begun p eps from to segments begun = record { greedy = begun.greedy; steep = begun.steep; cuts = begun.cuts }
 
 -- the segments from number i on are those from its start on
 IsSegmentation-drop : (p : Points) (eps end from i : ℕ) (segments : List Segment) (d : Segment) → i < length segments → IsSegmentation p eps from end segments →

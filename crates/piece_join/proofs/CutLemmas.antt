@@ -109,13 +109,6 @@ AreCutsAt-with_cut m n place cuts some rises within so_far = elim (cases_lt (las
   | inr below ↦ rw (le-ltb (last_of cuts) (place n) below) (AreCutsAt-same m n place cuts rises below so_far)
 ]
 
--- no value yet
-pub AreCutsAt-none : (m : ℕ) (place : ℕ → ℕ) → AreCutsAt m 1 place []
-AreCutsAt-none m place = record {
-  are = record { rise = λ k inside. absurd (omega (arith, inside)); inside = All-nil (λ cut. (0 < cut) × (cut < m)) };
-  each = λ x. ((λ found. absurd (omega (arith, found.1))), (λ value. absurd (omega (arith, value.2.1, value.2.2))));
-}
-
 -- at most one cut more
 pub length-with_cut : (cuts : List ℕ) (cut : ℕ) → length (with_cut cuts cut) ≤ length cuts + 1
 length-with_cut cuts cut = elim (cases_lt (last_of cuts) cut) [

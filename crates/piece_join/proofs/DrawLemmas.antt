@@ -4,18 +4,6 @@ use Rattle.std.proofs.lemmas.Bool.{cases_lt, cases_Bool}
 use Rattle.std.proofs.lemmas.List.{length_push, get_or_push}
 use Rattle.claims.specs.Claims.{Drawn, IsDraw}
 
--- after a None the seat has ended
-pub IsDraw-none : (before after : Drawn) → IsDraw before None after → (after.drawn ≡ before.drawn) × (after.ended ≡ true)
-IsDraw-none before after draw = elim (cases_Bool before.ended) [
-  | inl over ↦ let same = (draw.spent over).1 in (ap (λ (d : Drawn). d.drawn) same, ap (λ (d : Drawn). d.ended) same ∙ over)
-  | inr live ↦
-      let step = draw.live live in
-      elim (cases_lt step.0 before.origin.pieces) [
-        | inl below ↦ let is : None ≡ Some step.0 = (step.1.some below).0 in absurd (cc)
-        | inr from ↦ let is = (step.1.none from).1 in (ap (λ (d : Drawn). d.drawn) is, ap (λ (d : Drawn). d.ended) is)
-      ]
-]
-
 -- after a number it has drawn one number more
 pub IsDraw-some : (before after : Drawn) (n : ℕ) → IsDraw before (Some n) after → after.drawn ≡ before.drawn ++ n ∷ []
 IsDraw-some before after n draw = elim (cases_Bool before.ended) [
@@ -34,9 +22,6 @@ IsDraw-some before after n draw = elim (cases_Bool before.ended) [
 -- so many different numbers are below no lesser bound
 pub record AreFew (drawn : List ℕ) : Type 0 where
   pub few : (n : ℕ) → All (λ m. m < n) drawn → length drawn ≤ n
-
-pub AreFew-none : AreFew []
-AreFew-none = record { few = λ n below. omega arith }
 
 pub AreFew-more : (drawn : List ℕ) (w : ℕ) → AreFew drawn → All (λ m. m < w) drawn → AreFew (drawn ++ w ∷ [])
 AreFew-more drawn w are above = record {

@@ -16,8 +16,8 @@ use Rattle.exact_cross.specs.Witnesses.{IsWitness}
 use Rattle.exact_cross.specs.Cuts.{HasItsCut}
 use Rattle.exact_cross.specs.Checked.{IsInRange, StartsRise, IsCutIfAny, AreShown, uncut}
 use Rattle.exact_cross.proofs.CallerLemmas.{slice_index-rises, CutsInto-rises, StartsRise-from_cuts, IsWitness-from_cut, IsInRange-from_steep, IsFitted-from_steep, IsCover-from_greedy}
-use Rattle.segmenter.specs.Segmentation.{IsSegmentation}
-use Rattle.segmenter.proofs.Unique.{IsSegmentation-unique}
+use Rattle.exact_cross.specs.Segmentation.{IsSegmentation}
+use Rattle.exact_cross.proofs.Unique.{IsSegmentation-unique}
 use Rattle.piece_join.specs.declared.work.Work.{Work}
 use Rattle.piece_join.specs.Cuttings.{AreCuts}
 use Rattle.piece_join.specs.Pieces.{edge_of, IsPart}

@@ -2,7 +2,7 @@
 use Rattle.std.specs.Prelude.{ℕ, ◌+◌, ◌≤◌, List, [], ◌∷◌, ◌++◌, length, slice_index}
 use Rattle.exact_cross.specs.declared.segment.Segment.{Segment}
 use Rattle.exact_cross.specs.Points.{points_of}
-use Rattle.segmenter.specs.Segmentation.{IsSegmentation}
+use Rattle.exact_cross.specs.Segmentation.{IsSegmentation}
 use Rattle.piece_join.specs.declared.work.Work.{Work}
 
 -- where piece i of m points begins, counted from 0, and where all of them end

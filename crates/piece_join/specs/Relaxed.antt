@@ -2,7 +2,7 @@
 use Rattle.std.specs.Prelude.{◌≡◌, ℕ, List, [], ◌∷◌, ◌++◌}
 use Rattle.exact_cross.specs.declared.segment.Segment.{Segment}
 use Rattle.exact_cross.specs.Points.{Points}
-use Rattle.segmenter.specs.Segmentation.{IsSegmentation}
+use Rattle.exact_cross.specs.Segmentation.{IsSegmentation}
 
 -- the segmentation of each piece by itself, in order: of from..to, or up to the first cut and then of the pieces from there on
 abbrev pub IsRelaxed : Points → ℕ → ℕ → ℕ → List ℕ → List Segment → Type 0

@@ -3,7 +3,7 @@ ghost use Rattle.std.specs.List.Sorted.{IsStrictlyIncreasing, IsNonDecreasing};
 ghost use Rattle.std.specs.Prelude.{◌≡◌, ℕ, ◌+◌, ◌<◌, ◌≤◌, ◌^◌, List, length, IfOk};
 ghost use Rattle.exact_cross.specs.declared.segment.Segment.{Segment};
 ghost use Rattle.exact_cross.specs.Points.{points_of};
-ghost use Rattle.segmenter.specs.Segmentation.{IsSegmentation};
+ghost use Rattle.exact_cross.specs.Segmentation.{IsSegmentation};
 ghost use Rattle.hulls.specs.Hulls.{room_of, bound_of};
 ghost use Rattle.piece_join.specs.Joined.{IsBegun};
 

@@ -4,7 +4,7 @@ ghost use Rattle.std.specs.Prelude.{◌≡◌, ℕ, ◌+◌, ◌*◌, ◌<◌, �
 ghost use Rattle.std.specs.Prelude.{All, IfOk};
 ghost use Rattle.exact_cross.specs.declared.segment.Segment.{Segment};
 ghost use Rattle.exact_cross.specs.Points.{points_of};
-ghost use Rattle.segmenter.specs.Segmentation.{IsSegmentation};
+ghost use Rattle.exact_cross.specs.Segmentation.{IsSegmentation};
 ghost use Rattle.claims.specs.Claims.{IsFresh, times};
 ghost use Rattle.piece_join.specs.Cuttings.{AreCuts};
 ghost use Rattle.piece_join.specs.declared.work.Work.{Work};

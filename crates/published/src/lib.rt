@@ -48,6 +48,3 @@ pub use history::Batch;
 pub use reader::{Look, Note, Reader};
 pub use slot::{MapName, Slot};
 pub use writer::{Writer, start_map};
-
-#[cfg(test)]
-mod tests;

@@ -21,6 +21,12 @@ const FEW: u32 = 8;
 /// How many of a list of rising numbers stand before each of many steps. Seen as a record of how
 /// the steps are cut, and the entries.
 ///
+/// ```text
+/// numbers   0     4                 16
+/// steps     | 0 1 2 3 | 4 .. 7 | 8 .. 11 | 12 .. 15 | 16 .. |
+/// entries   0         1        2         2          2       3        numbers before each step
+/// ```
+///
 /// Source: Kipf et al., RadixSpline, aiDM 2020.
 #[derive(Drop)]
 pub struct RadixTable {

@@ -1,4 +1,3 @@
 pub mod Runs
-pub mod Unique
 pub mod SegmentsExist
 pub mod WholeLemmas

@@ -17,7 +17,7 @@ use Rattle.exact_cross.specs.Segments.{starts_of, IsSteepSegment}
 use Rattle.exact_cross.specs.Cuts.{IsCutOf, HasItsCut}
 use Rattle.exact_cross.proofs.CallerLemmas.{IsAtMost-decided, IsSteepPair-some, IsFlatPair-some, IsFollowed, IsOver-in, IsUnder-in, IsOver-no_line, IsUnder-no_line, sides_exclude}
 use Rattle.exact_cross.proofs.CallerLemmas.{some_line-one_place, some_line-two_places, some_line-longer, run_end-first}
-use Rattle.segmenter.specs.Segmentation.{IsSegmentation}
+use Rattle.exact_cross.specs.Segmentation.{IsSegmentation}
 
 -- the run s..e ends: its cut, and no line fits it with the place e
 record Ends (p : Points) (eps s e : ℕ) : Type 0 where

@@ -2,7 +2,7 @@
 ghost use Rattle.std.specs.Prelude.{ℕ, ◌≤◌, List};
 ghost use Rattle.exact_cross.specs.declared.segment.Segment.{Segment};
 ghost use Rattle.exact_cross.specs.Points.{Points, IsAscending};
-ghost use Rattle.segmenter.specs.Segmentation.{IsSegmentation};
+ghost use Rattle.exact_cross.specs.Segmentation.{IsSegmentation};
 
 /// Each range of points has a segmentation, whatever the error bound: there is a list of segments
 /// that are greedy, steep and have their cuts.

@@ -17,7 +17,7 @@ ghost use Rattle.exact_cross.specs.Covers.{IsGreedy};
 ghost use Rattle.exact_cross.specs.Segments.{starts_of, EachRun, IsSteepSegment, IsFitted};
 ghost use Rattle.exact_cross.specs.Cuts.{HasItsCut};
 ghost use Rattle.exact_cross.specs.Checked.{IsLeastCover, AreChecked};
-ghost use Rattle.segmenter.specs.Segmentation.{IsSegmentation};
+ghost use Rattle.exact_cross.specs.Segmentation.{IsSegmentation};
 
 mod laws;
 pub mod run;
@@ -185,6 +185,3 @@ pub fn one_segmentation()
     ensures { (p : Points) (eps from to : ℕ) (one two : List Segment) → IsAscending p → to ≤ p.count
         → IsSegmentation p eps from to one → IsSegmentation p eps from to two → one ≡ two }
 {}
-
-#[cfg(test)]
-mod tests;

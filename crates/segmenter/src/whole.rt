@@ -37,8 +37,8 @@ const PART: u32 = 4;
 /// lower one, and none lower than its upper one. So all places are looked at beside a pair's line,
 /// and those that lie highest and lowest are the next pair, whose slope is less, until they are the
 /// pair itself. Of points that rise none lies higher than the first x of theirs with the last y, so
-/// most are passed in blocks. `None` tells nothing. It takes at most two steps for each place, which
-/// are tests of a point against a line and comparisons of two slopes, and no memory.
+/// most are passed in blocks. `None` tells nothing. It takes at most two steps for each place,
+/// which are tests of a point against a line and comparisons of two slopes, and no memory.
 ///
 /// Source: Dinkelbach, Management Science 13(7), 1967.
 pub fn whole_run<L: Ledger>(
@@ -93,8 +93,8 @@ pub fn whole_run<L: Ledger>(
 }
 
 /// Whether three places between the ends lie so near to the line through the ends that one line may
-/// fit all places. It decides nothing. It takes six steps at most: each of the three is tested against
-/// two lines.
+/// fit all places. It decides nothing. It takes six steps at most: each of the three is tested
+/// against two lines.
 fn may_fit<L: Ledger>(
     xs: &[u64],
     ys: &[u32],
@@ -428,7 +428,8 @@ impl Extremes {
         highest < self.top_height && self.bottom_height < lowest
     }
 
-    /// Looks at the next place: whether it lies above the highest one, and whether below the lowest.
+    /// Looks at the next place: whether it lies above the highest one, and whether below the
+    /// lowest.
     #[inline(always)]
     fn look_at<L: Ledger>(&mut self, xs: &[u64], ys: &[u32], place: u32, steps: &mut Steps<L>)
         requires same_length { length ys.now ≡ length xs.now }

@@ -222,8 +222,8 @@ impl Inbox {
     /// Takes the update at the front of the queue, behind its sender's number.
     ///
     /// It may wait for a thread that is in the way. It is one step on the queue, whatever the
-    /// senders send meanwhile. `None` only where the queue was empty at a step of this call, as far as
-    /// the inbox can know: nothing that was known to wait is left.
+    /// senders send meanwhile. `None` only where the queue was empty at a step of this call, as far
+    /// as the inbox can know: nothing that was known to wait is left.
     pub fn take<R: Wait>(&mut self, rt: &R) -> Option<(u32, Update)>
         ensures took { IfSome result (λ item. self.new.taken ≡ self.old.taken ++ item ∷ []) }
         ensures number { IfSome result (λ item. item.0 < self.old.origin.senders) }

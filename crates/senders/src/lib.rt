@@ -16,6 +16,3 @@ mod ends;
 mod views;
 
 pub use ends::{Inbox, Sender, start_senders};
-
-#[cfg(test)]
-mod tests;

@@ -130,19 +130,6 @@ kept_none : (deepest : Bool) → kept deepest None ≡ None
 kept_none true = refl
 kept_none false = refl
 
--- the merge of what two lists have between two edges
-pub merge_between_edges : (low high : Option ℕ) (deepest : Bool) (newer older newer_part older_part merged : List Entry) → IsBetween low high (entry_at newer) newer_part → IsBetween low high (entry_at older) older_part
-    → IsAscending merged → ((key : ℕ) → entry_at merged key ≡ kept deepest (winner_at newer_part older_part key)) → IsBetween low high (merged_at newer older deepest) merged
-merge_between_edges low high deepest newer older newer_part older_part merged new old ascending winners =
-    let at = λ (key : ℕ) (x y : Option Entry) (is_new : entry_at newer_part key ≡ x) (is_old : entry_at older_part key ≡ y).
-    winners key ∙ ap (λ a. kept deepest (option_or a (entry_at older_part key))) is_new ∙ ap (λ b. kept deepest (option_or x b)) is_old in
-    record {
-      ascending = ascending;
-      inside = λ key from below. at key (entry_at newer key) (entry_at older key) (new.inside key from below) (old.inside key from below);
-      before = λ key below. at key None None (new.before key below) (old.before key below) ∙ kept_none deepest;
-      behind = λ key from. at key None None (new.behind key from) (old.behind key from) ∙ kept_none deepest;
-    }
-
 -- a part has an entry of the longer list or more
 step_positive : (n parts : ℕ) → 0 < parts → parts ≤ n → 0 < n / parts
 step_positive n parts some few = elim (cases_lt 0 (n / parts)) [

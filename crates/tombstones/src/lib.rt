@@ -136,6 +136,3 @@ fn push_kept(merged: &mut Vec<Entry>, entry: Entry, deepest: bool)
         merged.push_reserved(entry);
     }
 }
-
-#[cfg(test)]
-mod tests;

@@ -51,7 +51,7 @@ pub fn merge_in_pieces<R: Threads + Sync>(
 }
 
 /// The merge in `most` parts, but in no more than the longer list has entries.
-pub(crate) fn merge_parts<R: Threads + Sync>(
+fn merge_parts<R: Threads + Sync>(
     rt: &R,
     alloc: Global,
     newer: &[Entry],

@@ -1,7 +1,8 @@
 -- The text of `drill`.
 use Rattle.std.specs.Prelude.{◌≡◌, ℕ, List, [], ◌∷◌, length, map, sum, codes, decimal}
 use Rattle.exact_cross.specs.declared.segment.Segment.{Segment}
-use Rattle.levels.specs.Indexes.{IsIndex, level_at}
+use Rattle.exact_cross.specs.IndexLevels.{level_at}
+use Rattle.levels.specs.Indexes.{IsIndex}
 use Rattle.key_points.specs.KeyPoints.{distinct_of}
 use Rattle.window_search.specs.Searches.{lb}
 use Rattle.boxes.specs.PointCodes.{AreSortedCodes}

@@ -10,7 +10,8 @@ use Rattle.exact_cross.specs.Points.{Points}
 use Rattle.exact_cross.specs.Covers.{run_end}
 use Rattle.exact_cross.specs.Segments.{starts_of}
 use Rattle.exact_cross.specs.Checked.{AreChecked, IsLeastCover}
-use Rattle.levels.specs.Indexes.{IsIndex, level_at, xs_at, points_at, eps_at}
+use Rattle.exact_cross.specs.IndexLevels.{level_at, eps_at}
+use Rattle.levels.specs.Indexes.{IsIndex, xs_at, points_at}
 use Rattle.written.specs.TextLines.{text_line}
 use Rattle.commands.specs.Tasks.{Bounds}
 use Rattle.commands.specs.Texts.Indexing.{level_line_of, tells_levels}

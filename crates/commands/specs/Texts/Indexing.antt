@@ -3,7 +3,8 @@ use Rattle.std.specs.Prelude.{◌==◌, if◌then◌else◌, ℕ, List, [], ◌�
 use Rattle.std.specs.List.{flat_map, join_with_byte}
 use Rattle.exact_cross.specs.declared.segment.Segment.{Segment}
 use Rattle.exact_cross.specs.Points.{places}
-use Rattle.levels.specs.Indexes.{level_at, xs_at, eps_at}
+use Rattle.exact_cross.specs.IndexLevels.{level_at, eps_at}
+use Rattle.levels.specs.Indexes.{xs_at}
 use Rattle.key_points.specs.KeyPoints.{distinct_of}
 use Rattle.written.specs.TextLines.{text_line}
 use Rattle.commands.specs.Tasks.{Bounds}

@@ -6,7 +6,8 @@ use Rattle.exact_cross.specs.Segments.{starts_of}
 use Rattle.exact_cross.specs.Checked.{IsCoverWithin}
 use Rattle.key_points.specs.KeyPoints.{xs_of, ys_of}
 use Rattle.piece_join.specs.Cuttings.{AreCutsAt, even_place}
-use Rattle.levels.specs.Indexes.{IsRelaxedIndex, level_at}
+use Rattle.exact_cross.specs.IndexLevels.{level_at}
+use Rattle.levels.specs.Indexes.{IsRelaxedIndex}
 use Rattle.commands.specs.Tasks.{Bounds}
 use Rattle.commands.specs.Texts.Indexing.{tells_levels}
 use Rattle.commands.specs.Texts.Build.{built_level}

@@ -1,5 +1,5 @@
 -- The greedy starts are one list, and each run has one pair and one cut.
-use Rattle.segmenter.proofs.Unique.{IsSegmentation-unique}
+use Rattle.exact_cross.proofs.Unique.{IsSegmentation-unique}
 use Rattle.segmenter.proofs.one_segmentation.Goals as goal
 
 pub returns : goal.returns

@@ -1,6 +1,6 @@
 use Rattle.std.proofs.Common.{sym}
 use Rattle.clap.specs.Words.{found_of, rows_of}
-use Rattle.command_line.proofs.TakenWords.{is_met, has_build, has_explain, has_query, has_relax, has_box, has_near, has_replay, has_drill}
+use Rattle.command_line.proofs.TakenWords.{is_met, has_build, has_explain, has_query, has_relax, has_box, has_near, has_replay, has_drill, has_save, has_check}
 use Rattle.command_line.proofs.words.request_in.Goals as goal
 
 pub building_in-building-requires : goal.building_in-building-requires
@@ -52,3 +52,13 @@ pub drilling_in-drilling-requires : goal.drilling_in-drilling-requires
 drilling_in-drilling-requires c =
     has_drill (c.in_ok-name.name.now, rows_of (found_of c.in_ok-name.found.now)) (is_met c.args.matches.now _ _ c.in_ok-name.ensures.name c.in_ok-name.ensures.rows
     c.requires.0 c.requires.1 c.requires.2) (sym c.if-eq-8.ensures)
+
+pub building_in-building-requires-then-eq-9 : goal.building_in-building-requires-then-eq-9
+building_in-building-requires-then-eq-9 c =
+    has_save (c.in_ok-name.name.now, rows_of (found_of c.in_ok-name.found.now)) (is_met c.args.matches.now _ _ c.in_ok-name.ensures.name c.in_ok-name.ensures.rows
+    c.requires.0 c.requires.1 c.requires.2) (sym c.if-eq-9.ensures)
+
+pub checking_in-checking-requires : goal.checking_in-checking-requires
+checking_in-checking-requires c =
+    has_check (c.in_ok-name.name.now, rows_of (found_of c.in_ok-name.found.now)) (is_met c.args.matches.now _ _ c.in_ok-name.ensures.name c.in_ok-name.ensures.rows
+    c.requires.0 c.requires.1 c.requires.2) (sym c.if-eq-10.ensures)

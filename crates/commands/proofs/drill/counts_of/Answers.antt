@@ -23,7 +23,7 @@ returns g c =
     let updates = c.deref-3.ensures.value ∙ drawn.updates in
     let found = c.in_ok-found.ensures in
     record {
-      distinct = ap length (c.distinct.ensures ∙ ap distinct_of (c.keys.ensures ∙ keys));
+      distinct = c.distinct_count.ensures ∙ ap (λ (k : List ℕ). length (distinct_of k)) (c.keys.ensures ∙ keys);
       levels = levels;
       index = subst (λ (k : List ℕ). IsIndex k c.args.bounds.eps c.args.bounds.eps_rec levels) drawn.keys c.in_ok-index.ensures.index;
       level_count = c.levels.ensures.count;

@@ -2,7 +2,8 @@ use Rattle.std.proofs.Common.{◌∷◌, [], length, ◌∙◌, ap, ap₂, subst
 use Rattle.std.specs.Prelude.{OnOk, OnErr}
 use Rattle.written.specs.Writing.{Writes, BreaksOff}
 use Rattle.levels.proofs.CallerLemmas.{ascends}
-use Rattle.levels.specs.Indexes.{level_at, xs_at}
+use Rattle.exact_cross.specs.IndexLevels.{level_at}
+use Rattle.levels.specs.Indexes.{xs_at}
 use Rattle.commands.specs.Tasks.{bounds_of}
 use Rattle.commands.specs.Texts.Indexing.{level_line_of}
 use Rattle.commands.specs.Texts.Explain.{run_lines}

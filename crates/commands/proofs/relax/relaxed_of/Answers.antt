@@ -5,7 +5,8 @@ use Rattle.exact_cross.specs.Segments.{starts_of}
 use Rattle.key_points.specs.KeyPoints.{xs_of, ys_of}
 use Rattle.key_points.proofs.CallerLemmas.{xs-few}
 use Rattle.piece_join.specs.Cuttings.{AreCutsAt, even_place}
-use Rattle.levels.specs.Indexes.{PgmIndex, IsRelaxedIndex, level_at}
+use Rattle.exact_cross.specs.IndexLevels.{level_at}
+use Rattle.levels.specs.Indexes.{PgmIndex, IsRelaxedIndex}
 use Rattle.commands.specs.Finders.{IsRelaxedOf}
 use Rattle.commands.specs.Tasks.{Bounds, bounds_of}
 use Rattle.commands.proofs.relax.relaxed_of.Goals as goal

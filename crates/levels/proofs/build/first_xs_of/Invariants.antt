@@ -1,6 +1,6 @@
 -- The first x of the runs so far.
 use Rattle.std.proofs.Common.{◌≡◌, take}
-use Rattle.levels.specs.Indexes.{first_xs}
+use Rattle.exact_cross.specs.IndexLevels.{first_xs}
 use Rattle.levels.proofs.build.first_xs_of.Given as goal
 
 abbrev pub invariant-loop-segment : goal.invariant-loop-segment

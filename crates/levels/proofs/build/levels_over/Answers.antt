@@ -5,7 +5,8 @@ use Rattle.exact_cross.specs.declared.segment.Segment.{Segment}
 use Rattle.std.proofs.lemmas.List.{length-append}
 use Rattle.std.proofs.lemmas.Bool.Decides.{nat_tests}
 use Rattle.piece_join.proofs.RelaxedLemmas.{IsLaid-from_piece}
-use Rattle.levels.specs.Indexes.{xs_at, points_at, eps_at, places_below}
+use Rattle.exact_cross.specs.IndexLevels.{eps_at}
+use Rattle.levels.specs.Indexes.{xs_at, points_at, places_below}
 use Rattle.levels.specs.Stored.{segments_of}
 use Rattle.levels.proofs.StoredLemmas.{AreLevels-base, AreLevels-push, AreStored-in, fewer_above, places_below-base, places_below-push, level_at-pushed, level_at-before}
 use Rattle.levels.proofs.build.levels_over.Goals as goal

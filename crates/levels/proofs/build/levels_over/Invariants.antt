@@ -1,7 +1,8 @@
 -- The levels so far, and how many runs the last one has.
 use Rattle.std.proofs.Common.{◌≡◌, ℕ, ◌+◌, ◌*◌, ◌<◌, ◌≤◌, length}
 use Rattle.key_points.specs.KeyPoints.{xs_of}
-use Rattle.levels.specs.Indexes.{level_at, places_below}
+use Rattle.exact_cross.specs.IndexLevels.{level_at}
+use Rattle.levels.specs.Indexes.{places_below}
 use Rattle.levels.specs.Stored.{AreLevels, segments_of}
 use Rattle.levels.proofs.build.levels_over.Given as goal
 

@@ -1,12 +1,12 @@
-use Rattle.std.proofs.Common.{◌≡◌, ◌∙◌, ◌*◌, ◌<◌, ℕ, Bool, List, [], ◌∷◌, map, Vec, Global, Ok, Err, ap, sym, subst, refl, arith}
+use Rattle.std.proofs.Common.{◌≡◌, ◌∙◌, ◌*◌, ◌<◌, ℕ, Bool, not, List, [], ◌∷◌, map, Vec, Global, Ok, Err, ap, sym, subst, refl, arith}
 use Rattle.zorder.specs.declared.regions.Region.{Region}
 use Rattle.zorder.specs.Codes.{IsDimension}
 use Rattle.pgm_script.specs.declared.script.ScriptKind.{ScriptKind}
 use Rattle.pgm_script.specs.declared.script.ScriptLine.{ScriptLine}
 use Rattle.pgm_script.specs.declared.script.ScriptLine.TheVariants.{Find}
 use Rattle.pgm_script.specs.declared.list.Finds.{Finds}
-use Rattle.command_line.specs.Requests.{Building, Searching, built_of, searched_of, replayed_of}
-use Rattle.command_line.specs.Requests.Request.{box as search, near, query, relax, replay}
+use Rattle.command_line.specs.Requests.{Building, Searching, built_of, searched_of, replayed_of, checked_of}
+use Rattle.command_line.specs.Requests.Request.{box as search, near, query, relax, replay, check}
 use Rattle.commands.specs.declared.task.Centre.{Centre}
 use Rattle.commands.specs.declared.task.History.{History}
 use Rattle.commands.specs.declared.task.Task.TheVariants as declared_task
@@ -15,9 +15,10 @@ use Rattle.commands.specs.Tasks.{task_of}
 use Rattle.commands.specs.Tasks as tasks
 use Rattle.commands.specs.Tasks.Task.{box, near as neighbours}
 use Rattle.commands.proofs.SearchLemmas.{count_is}
+use Rattle.index_file.specs.Spelling.{SavedIndex}
 use Rattle.pgmtool.specs.Files.{Files}
 use Rattle.pgmtool.specs.Stops.{Answers}
-use Rattle.pgmtool.specs.Inputs.{reads, reads_index, reads_points, reads_script, reads_history, centres_in, regions_in, questions_in, bounds_in, gives}
+use Rattle.pgmtool.specs.Inputs.{reads, reads_index, reads_keys, reads_saved, judges, then, reads_points, reads_script, reads_history, centres_in, regions_in, questions_in, bounds_in, gives}
 use Rattle.pgmtool.proofs.InputLemmas.{then_goes_on, second_stops, stopped_alike, handed_on}
 use Rattle.pgmtool.proofs.inputs.read.Goals as goal
 
@@ -265,3 +266,36 @@ returns-in_ok-history-in-Replay-clause-answer g c =
     (then_goes_on (reads_script ScriptKind.Replay files replaying.script) (reads_history replaying) (λ (lines : Vec ScriptLine Global). lines.items) task_of
     before after after c.in_ok-lines-in-Replay.lines (Ok (declared_task.Replay history)) c.in_ok-lines-in-Replay.ensures.answer
     (record { ok = two.ok; unfaulted = two.unfaulted; stopped = tt; faulted = λ rose. absurd (omega (arith, rose)); never_falls = two.never_falls }))
+
+-- a saved index, judged over the keys
+pub returns-in_ok-saved-in-Check-clause-answer : goal.returns-in_ok-saved-in-Check-clause-answer
+returns-in_ok-saved-in-Check-clause-answer g c =
+    let before = g.F.Shelf.faults c.args.files.now in
+    let middle = g.F.Shelf.faults c.sorted_keys.new.files in
+    let after = g.F.Shelf.faults c.saved_index.new.files in
+    let files = g.F.Shelf.files c.args.files.now in
+    let checking = checked_of c.in-Check.checking in
+    let keys = c.in_ok-keys-in-Check.keys in
+    let saved = c.in_ok-saved-in-Check.saved in
+    let one = c.in_ok-keys-in-Check.ensures in
+    let two = subst (λ (f : Files). Answers {B = SavedIndex} (reads_saved f checking.index) (λ read. read) middle after (Ok saved)) one.files c.in_ok-saved-in-Check.ensures.answer in
+    rw c.in-Check.is
+    (then_goes_on (reads_keys (not checking.narrow) files checking.file) (λ numbers. then (reads_saved files checking.index) (λ read. judges numbers read))
+    (λ sorted. sorted.keys.items) task_of before after middle keys c.judged.result one.answer
+    (then_goes_on (reads_saved files checking.index) (λ read. judges keys.keys.items read) (λ read. read) task_of middle after after saved c.judged.result two (c.judged.ensures after)))
+
+pub returns-in_err-saved-in-Check-clause-answer : goal.returns-in_err-saved-in-Check-clause-answer
+returns-in_err-saved-in-Check-clause-answer g c =
+    let before = g.F.Shelf.faults c.args.files.now in
+    let middle = g.F.Shelf.faults c.sorted_keys.new.files in
+    let after = g.F.Shelf.faults c.saved_index.new.files in
+    let files = g.F.Shelf.files c.args.files.now in
+    let checking = checked_of c.in-Check.checking in
+    let stopped = c.in_err-saved-in-Check.field-0.0 in
+    let one = c.in_ok-keys-in-Check.ensures in
+    let two = subst (λ (f : Files). Answers {B = SavedIndex} (reads_saved f checking.index) (λ read. read) middle after (Err stopped)) one.files c.in_err-saved-in-Check.ensures.answer in
+    rw c.in-Check.is (subst (Answers (reads files (check checking)) task_of before after)
+    (sym (handed_on _ stopped c.from_residual-in_err-saved-in-Check.ensures.1))
+    (second_stops (reads_keys (not checking.narrow) files checking.file) (λ numbers. reads_saved files checking.index)
+    (λ numbers read. judges numbers read) (λ sorted. sorted.keys.items)
+    (λ (read : SavedIndex). read) task_of before middle after c.in_ok-keys-in-Check.keys stopped one.answer two))

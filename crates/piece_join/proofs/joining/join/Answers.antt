@@ -2,8 +2,8 @@
 use Rattle.std.proofs.Common.{subst}
 use Rattle.std.proofs.lemmas.Result.{IfOk-weaker}
 use Rattle.exact_cross.specs.Points.{points_of}
-use Rattle.segmenter.specs.Segmentation.{IsSegmentation}
-use Rattle.segmenter.proofs.Unique.{IsSegmentation-unique}
+use Rattle.exact_cross.specs.Segmentation.{IsSegmentation}
+use Rattle.exact_cross.proofs.Unique.{IsSegmentation-unique}
 use Rattle.piece_join.proofs.joining.join.Goals as goal
 
 pub returns-then-edge-to-clause-one_list : goal.returns-then-edge-to-clause-one_list

@@ -1,7 +1,7 @@
 -- On the left all runs but the last are those of all places.
 use Rattle.std.proofs.Common.{subst, arith}
 use Rattle.exact_cross.specs.Points.{points_of}
-use Rattle.segmenter.specs.Segmentation.{IsSegmentation}
+use Rattle.exact_cross.specs.Segmentation.{IsSegmentation}
 use Rattle.piece_join.proofs.Begun.{IsBegun-front, start_below}
 use Rattle.piece_join.proofs.joining.join_from.Goals as goal
 

@@ -2,7 +2,7 @@
 use Rattle.std.proofs.Common.{◌-◌, ℕ, length, subst, arith}
 use Rattle.exact_cross.specs.Points.{points_of}
 use Rattle.hulls.specs.Hulls.{bound_of}
-use Rattle.segmenter.specs.Segmentation.{IsSegmentation}
+use Rattle.exact_cross.specs.Segmentation.{IsSegmentation}
 use Rattle.piece_join.proofs.Begun.{IsBegun-append, IsBegun-whole, rest_below, rest_begun}
 use Rattle.piece_join.proofs.joining.take_rest.Goals as goal
 

@@ -2,7 +2,7 @@
 use Rattle.std.proofs.Common.{length}
 use Rattle.std.proofs.lemmas.Result.{IfOk-weaker}
 use Rattle.exact_cross.specs.Points.{points_of}
-use Rattle.segmenter.proofs.Unique.{IsSegmentation-unique}
+use Rattle.exact_cross.proofs.Unique.{IsSegmentation-unique}
 use Rattle.piece_join.proofs.pieces.segment_in_pieces.Goals as goal
 
 pub returns-clause-one_list : goal.returns-clause-one_list

@@ -25,16 +25,16 @@ loop-left-preserved g c =
     let order = order_of index value c.index-index.ensures (first_x-order value.keys value.eps value.eps_rec value.levels runs.never_falls runs.index) in
     let inv = c.loop-left.invariant in
     let middle = c.loop-left.begun + c.loop-left.left / 2 in
-    let read : c.read_first.result ≡ slice_index (xs_at index.keys index.levels 1) middle = c.read_first.ensures.key ∙ ap (λ (i : PgmIndex). slice_index (xs_at i.keys i.levels 1) middle) c.index-index.ensures in
+    let read : c.first_x.result ≡ slice_index (xs_at index.keys index.levels 1) middle = c.first_x.ensures ∙ ap (λ (i : PgmIndex). slice_index (xs_at i.keys i.levels 1) middle) c.index-index.ensures in
     record {
       within = omega (arith, inv.within);
       before = inv.before;
-      from = λ k past inside. omega (arith, read, c.if-read_first-q.false, order middle k 0 past inside);
-      halved = rw c.read_first.ensures.cost (halved_to c.args.steps.now c.loop-left.steps (runs_beside index c.args.self.now.bits c.args.q + 1) c.loop-left.left (c.loop-left.left / 2) c.loop-left-test.true (omega arith) inv.halved);
+      from = λ k past inside. omega (arith, read, c.if-first_x-q.false, order middle k 0 past inside);
+      halved = rw c.tick.ensures (halved_to c.args.steps.now c.loop-left.steps (runs_beside index c.args.self.now.bits c.args.q + 1) c.loop-left.left (c.loop-left.left / 2) c.loop-left-test.true (omega arith) inv.halved);
     }
 
-pub loop-left-preserved-then-read_first-q : goal.loop-left-preserved-then-read_first-q
-loop-left-preserved-then-read_first-q g c =
+pub loop-left-preserved-then-first_x-q : goal.loop-left-preserved-then-first_x-q
+loop-left-preserved-then-first_x-q g c =
     let index = c.args.self.now.index in
     let value = c.index-index.result.now in
     let runs = c.runs-runs.ensures in
@@ -42,12 +42,12 @@ loop-left-preserved-then-read_first-q g c =
     let inv = c.loop-left.invariant in
     let left = c.loop-left.left in
     let middle = c.loop-left.begun + left / 2 in
-    let read : c.read_first.result ≡ slice_index (xs_at index.keys index.levels 1) middle = c.read_first.ensures.key ∙ ap (λ (i : PgmIndex). slice_index (xs_at i.keys i.levels 1) middle) c.index-index.ensures in
+    let read : c.first_x.result ≡ slice_index (xs_at index.keys index.levels 1) middle = c.first_x.ensures ∙ ap (λ (i : PgmIndex). slice_index (xs_at i.keys i.levels 1) middle) c.index-index.ensures in
     record {
       within = omega (arith, inv.within, c.loop-left-test.true);
-      before = λ k less. omega (arith, read, c.if-read_first-q.true, order k middle 0 (omega arith) (omega (arith, inv.within, c.loop-left-test.true)));
+      before = λ k less. omega (arith, read, c.if-first_x-q.true, order k middle 0 (omega arith) (omega (arith, inv.within, c.loop-left-test.true)));
       from = λ k past inside. inv.from k (omega (arith, c.loop-left-test.true)) inside;
-      halved = rw c.read_first.ensures.cost (halved_to c.args.steps.now c.loop-left.steps (runs_beside index c.args.self.now.bits c.args.q + 1) left (left - (left / 2 + 1)) c.loop-left-test.true (omega (arith, c.loop-left-test.true)) inv.halved);
+      halved = rw c.tick.ensures (halved_to c.args.steps.now c.loop-left.steps (runs_beside index c.args.self.now.bits c.args.q + 1) left (left - (left / 2 + 1)) c.loop-left-test.true (omega (arith, c.loop-left-test.true)) inv.halved);
     }
 
 pub returns-clause-runs : goal.returns-clause-runs

@@ -44,8 +44,8 @@ loop-lane-preserved c =
           (holds_more xs c.run_among-low.result.1 c.max-count.result c.max-q.result c.run_among-low.result.0 (omega (arith, c.max-count.ensures)) (record { holds = here.holds }));
     }
 
-pub runs_in_step-requires-clause-near : goal.runs_in_step-requires-clause-near
-runs_in_step-requires-clause-near c =
+pub lower_bounds_among-requires-clause-near : goal.lower_bounds_among-requires-clause-near
+lower_bounds_among-requires-clause-near c =
     let inv = c.loop-lane.invariant in
     let near : AreNear (xs_at c.args.self.now.index.keys c.args.self.now.index.levels 1) c.loop-lane.asked c.loop-lane.lows c.loop-lane.count = record {
       some = inv.some;
@@ -58,11 +58,11 @@ pub returns-clause-positions : goal.returns-clause-positions
 returns-clause-positions c =
     let keys = c.args.self.now.index.keys in
     let inv = c.loop-place.invariant in
-    let places = c.lower_bounds_in.new.runs in
+    let places = c.lower_bounds_among.new.places in
     let file : c.file.result.now ≡ keys = c.file.ensures.keys ∙ c.keys.ensures ∙ ap (λ (i : PgmIndex). i.keys) c.index-index.ensures in
     let order : IsNonDecreasing keys = subst IsNonDecreasing file c.file.ensures.never_falls in
-    let all = take_all c.loop-place.place-index places (omega (arith, c.lower_bounds_in.ensures.lanes, c.loop-place-test.false)) in
-    let found = block_positions keys c.args.qs.now c.loop-lane.asked places (slice_index c.file.result.now 0) order (ap (λ (l : List ℕ). slice_index l 0) file) c.requires.sixteen c.lower_bounds_in.ensures.lanes
+    let all = take_all c.loop-place.place-index places (omega (arith, c.lower_bounds_among.ensures.lanes, c.loop-place-test.false)) in
+    let found = block_positions keys c.args.qs.now c.loop-lane.asked places (slice_index c.file.result.now 0) order (ap (λ (l : List ℕ). slice_index l 0) file) c.requires.sixteen c.lower_bounds_among.ensures.lanes
     (λ k inside. c.loop-lane.invariant.done k (omega (arith, c.loop-lane-test.false)))
-    (λ k inside. c.lower_bounds_in.ensures.found k inside ∙ ap (λ (i : PgmIndex). lb i.keys (slice_index c.loop-lane.asked k)) c.index-index.ensures) in
+    (λ k inside. c.lower_bounds_among.ensures.found k inside ∙ ap (λ (i : PgmIndex). lb i.keys (slice_index c.loop-lane.asked k)) c.index-index.ensures) in
     inv.places ∙ ap (λ (l : List ℕ). c.args.into.now.items ++ l) (all ∙ found)

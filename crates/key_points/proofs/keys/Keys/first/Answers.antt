@@ -4,9 +4,9 @@ use Rattle.key_points.specs.KeyPoints.{distinct_of}
 use Rattle.key_points.proofs.AloneLemmas.{first_of-alone}
 use Rattle.key_points.proofs.keys.Keys.first.Goals as goal
 
-pub returns-then-not-self : goal.returns-then-not-self
-returns-then-not-self c =
+pub returns-then-self-len : goal.returns-then-self-len
+returns-then-self-len c =
     let file = c.self.inside.file.items in
-    let alone = (c.self.invariant.alone c.if-not-self.true).0 in
+    let alone = (c.self.invariant.alone (omega (arith, c.if-self-len.true, c.len.ensures, c.self.inside.file.ok.0))).0 in
     let within : c.args.j ≤ length (distinct_of file) = rw (← c.self.view_is) at c.requires in
     rw (← c.self.view_is) (sym (first_of-alone file c.args.j c.self.invariant.never_falls alone (omega (arith, within, ap length alone))))

@@ -1,6 +1,7 @@
 -- The model of a run begins at the run's first x.
 use Rattle.std.proofs.Common.{ℕ, List, length, slice_index, sym, ap, ◌∙◌}
-use Rattle.levels.specs.Indexes.{level_at, xs_at}
+use Rattle.exact_cross.specs.IndexLevels.{level_at}
+use Rattle.levels.specs.Indexes.{xs_at}
 use Rattle.levels.proofs.LevelLemmas.{xs_at-above}
 use Rattle.levels.proofs.LookupLemmas.{no_segment}
 use Rattle.levels.proofs.SegmentLemmas.{end_at, first_x_at}

@@ -1,7 +1,7 @@
 -- A level is laid, and where it is greedy it is least.
 use Rattle.std.proofs.Common.{◌≡◌, ◌<◌, ◌∙◌, sym, ap, length, arith}
 use Rattle.levels.specs.declared.level.Level.{Level}
-use Rattle.levels.specs.Indexes.{level_at}
+use Rattle.exact_cross.specs.IndexLevels.{level_at}
 use Rattle.levels.specs.Stored.{segments_of}
 use Rattle.levels.proofs.StoredLemmas.{level_at-kept, segments_of-count}
 use Rattle.levels.proofs.IndexLemmas.{IsLevel-least, laid-shown, laid-checked}

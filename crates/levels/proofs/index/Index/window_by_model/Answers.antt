@@ -1,7 +1,8 @@
 -- The model of the run says what its line does, or one less.
 use Rattle.std.proofs.Common.{length, arith}
 use Rattle.std.proofs.lemmas.Int.{clamps}
-use Rattle.levels.specs.Indexes.{level_at, xs_at}
+use Rattle.exact_cross.specs.IndexLevels.{level_at}
+use Rattle.levels.specs.Indexes.{xs_at}
 use Rattle.levels.proofs.SegmentLemmas.{end_at}
 use Rattle.levels.proofs.LookupLemmas.{no_segment, ascends}
 use Rattle.levels.proofs.ModelLookup.{run_there, run_ends, model_window}

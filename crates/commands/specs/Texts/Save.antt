@@ -1,0 +1,29 @@
+-- The text of `save`: a saved index, as bytes.
+use Rattle.std.specs.Prelude.{◌≡◌, ℕ, ◌<◌, List, ◌∷◌, length, map}
+use Rattle.std.specs.List.{concat}
+use Rattle.exact_cross.specs.declared.segment.Segment.{Segment}
+use Rattle.exact_cross.specs.Checked.{IsLeastCover}
+use Rattle.exact_cross.specs.Segments.{starts_of}
+use Rattle.exact_cross.specs.IndexLevels.{level_at, eps_at}
+use Rattle.levels.specs.Indexes.{IsIndex, points_at, xs_at}
+use Rattle.index_file.specs.Spelling.{head_bytes, level_bytes, IsSpelling}
+use Rattle.index_file.specs.Spelled.{saved_run}
+use Rattle.index_file.specs.Checks.{saved_levels}
+use Rattle.commands.specs.Tasks.{Bounds}
+
+-- each level as one piece
+abbrev pub level_pieces : List (List Segment) → List (List ℕ)
+level_pieces levels = map (λ segments. level_bytes (map saved_run segments)) levels
+
+-- the head, and then the levels
+abbrev pub saved_pieces : Bounds → List (List Segment) → List (List ℕ)
+saved_pieces bounds levels = head_bytes bounds.eps bounds.eps_rec (length levels) ∷ level_pieces levels
+
+-- the one index of the keys, each of whose levels is a least cover: the pieces together are its spelling
+pub record IsSaved (keys : List ℕ) (bounds : Bounds) (pieces : List (List ℕ)) : Type 0 where
+  pub levels : List (List Segment)
+  pub index : IsIndex keys bounds.eps bounds.eps_rec levels
+  pub least : (i : ℕ) → i < length levels →
+      IsLeastCover (points_at keys levels i) (eps_at bounds.eps bounds.eps_rec i) 0 (length (xs_at keys levels i)) (starts_of (level_at levels i))
+  pub told : pieces ≡ saved_pieces bounds levels
+  pub spelled : IsSpelling (record { eps = bounds.eps; eps_rec = bounds.eps_rec; levels = saved_levels levels }) (concat pieces)

@@ -1,0 +1,17 @@
+//! The examples that READMEs quote, and worked rows of the inputs that are drawn, by public calls
+//! alone.
+//!
+//! What a contract says isn't tested again. Expected values were worked out by hand or by a program
+//! in another language.
+#![tactic(auto)]
+
+#[cfg(test)]
+mod drill_inputs_rows;
+#[cfg(test)]
+mod published_rows;
+#[cfg(test)]
+mod readme_examples;
+#[cfg(test)]
+mod senders_rows;
+#[cfg(test)]
+mod tombstones_rows;

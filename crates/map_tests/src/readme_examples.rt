@@ -1,0 +1,72 @@
+//! The examples that the READMEs of the crates quote, word for word.
+ghost use Rattle.std.specs.Prelude.{◌≡◌};
+
+use boxes::Boxes;
+use cut_witness::check_cover;
+use levels::{Index, Keys, OpenGate};
+use log_levels::{LogMap, Update};
+use published::{PlainDoor, start_map};
+use segmenter::segment;
+use std::test::Fail;
+use zorder::Region;
+
+#[test]
+fn levels_example(rt: HostRuntime) -> Result<(), Fail> {
+    let list = vec![in rt.alloc(); 1, 4, 9, 9, 16]?;
+    let keys = Keys::tested(rt.alloc(), list)?;
+    let index = Index::of(rt.alloc(), keys, 64, 4)?;
+    assert_eq!(rt; index.position(9), 2);
+    assert_eq!(rt; index.position(10), 4);
+    Ok(())
+}
+
+#[test]
+fn boxes_example(rt: HostRuntime) -> Result<(), Fail> {
+    let boxes = Boxes::build(&rt, rt.alloc(), 2, &[2, 0, 1, 3])?;
+    let low = [1, 0, 0, 0];
+    let high = [2, 3, 0, 0];
+    let found = boxes.search(rt.alloc(), &Region { d: 2, low, high })?;
+    assert_eq!(rt; found.codes(), [4, 11].as_slice());
+    assert_eq!(rt; found.looked(), 2);
+    Ok(())
+}
+
+#[test]
+fn log_levels_example(rt: HostRuntime) -> Result<(), Fail> {
+    let mut map = LogMap::new(rt.alloc(), 20)?;
+    map.put(rt.alloc(), 5, 50)?;
+    let updates = [Update::Put(7, 70), Update::Del(5), Update::Sweep(8, 90)];
+    map.apply_here(rt.alloc(), &updates)?;
+    assert_eq!(rt; map.get(5), None);
+    assert_eq!(rt; map.next(0), Some((7, 70)));
+    assert_eq!(rt; map.count(0, 100), 1);
+    Ok(())
+}
+
+#[test]
+fn published_example(rt: HostRuntime) -> Result<(), Fail> {
+    let (mut writer, mut readers) = start_map(&rt, rt.alloc(), 20, 1)?;
+    let updates = [Update::Put(1, 10), Update::Put(2, 20)];
+    let staged = writer.stage(&rt, rt.alloc(), &updates, 1, &OpenGate);
+    let published = writer.publish(&rt);
+    let mut value = None;
+    if let Some(mut reader) = readers.pop() {
+        reader.learn(writer.tell());
+        if let Ok(look) = reader.look(&mut PlainDoor::new()) {
+            value = look.get(1);
+            let _reader = look.leave();
+        }
+    }
+    writer.close(&rt);
+    assert_eq!(rt; (staged, published, value), (Ok(()), Ok(2), Some(10)));
+    Ok(())
+}
+
+#[test]
+fn cut_witness_example(rt: HostRuntime) -> Result<(), Fail> {
+    let (xs, ys) = ([0, 1, 2, 10], [0, 1, 2, 3]);
+    let segments = segment(rt.alloc(), &xs, &ys, 0, 0, 4)?;
+    assert_eq!(rt; segments.len(), 2);
+    assert!(rt; check_cover(&xs, &ys, 0, &segments));
+    Ok(())
+}

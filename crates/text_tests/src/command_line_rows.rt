@@ -1,0 +1,391 @@
+// What no clause says: command lines and what they ask for, and that requests come at all.
+use command_line::{Building, NoRequest, Request, requested};
+use std::process::Abort;
+use std::test::Fail;
+
+// Command lines, with a space between two words, and what they ask for: a command, its one or two
+// names, and its numbers, with 1 for a flag that is given. The numbers of an index are its two
+// error bounds, its workers, and whether its keys are narrow.
+const TAKEN: [(&str, &str); 38] = [
+    // All defaults, and another command.
+    ("pgmtool explain keys", "explain keys, [64, 4, 4, 0, 0, 0]"),
+    ("pgmtool build keys", "build keys, [64, 4, 4, 0, 0, 0]"),
+    // An option and its number apart and joined.
+    (
+        "pgmtool explain keys --eps 3",
+        "explain keys, [3, 4, 4, 0, 0, 0]",
+    ),
+    (
+        "pgmtool explain keys --eps=3",
+        "explain keys, [3, 4, 4, 0, 0, 0]",
+    ),
+    // Options before the file.
+    (
+        "pgmtool explain --rec=0 --narrow keys",
+        "explain keys, [64, 0, 4, 1, 0, 0]",
+    ),
+    // Leading zeros, and a plus.
+    (
+        "pgmtool explain keys --eps 0000000003",
+        "explain keys, [3, 4, 4, 0, 0, 0]",
+    ),
+    (
+        "pgmtool explain keys --eps +3",
+        "explain keys, [3, 4, 4, 0, 0, 0]",
+    ),
+    // The least and the greatest bound, and number of workers.
+    (
+        "pgmtool explain keys --eps 0 --rec 1048576",
+        "explain keys, [0, 1048576, 4, 0, 0, 0]",
+    ),
+    (
+        "pgmtool build keys --workers=1",
+        "build keys, [64, 4, 1, 0, 0, 0]",
+    ),
+    (
+        "pgmtool explain keys --workers 64",
+        "explain keys, [64, 4, 64, 0, 0, 0]",
+    ),
+    // Only names behind two hyphens.
+    (
+        "pgmtool explain --eps 1 -- keys",
+        "explain keys, [1, 4, 4, 0, 0, 0]",
+    ),
+    // Of the keys `-`, by the script of no name: whether windows are told, and the bits of a table.
+    ("pgmtool query -  --windows", "query -, [64, 4, 4, 0, 1, 0]"),
+    (
+        "pgmtool query - --buckets 1 --windows ",
+        "query -, [64, 4, 4, 0, 1, 1]",
+    ),
+    (
+        "pgmtool query --buckets=20 -  --windows",
+        "query -, [64, 4, 4, 0, 1, 20]",
+    ),
+    // The pieces of a relaxed index.
+    (
+        "pgmtool relax keys script",
+        "relax keys,script [64, 4, 4, 0, 4, 0]",
+    ),
+    (
+        "pgmtool relax keys --pieces=65536 script --eps 0 --narrow",
+        "relax keys,script [0, 4, 4, 1, 65536, 0]",
+    ),
+    (
+        "pgmtool relax --pieces +01 --workers 64 --rec 0 -- keys script",
+        "relax keys,script [64, 0, 64, 0, 1, 0]",
+    ),
+    // An index that is saved, and one that is checked.
+    ("pgmtool save keys", "save keys, [64, 4, 4, 0, 0, 0]"),
+    (
+        "pgmtool save --narrow keys --eps=0 --rec 1048576 --workers 64",
+        "save keys, [0, 1048576, 64, 1, 0, 0]",
+    ),
+    (
+        "pgmtool check keys index",
+        "check keys,index [0, 0, 0, 0, 0, 0]",
+    ),
+    (
+        "pgmtool check --narrow keys index",
+        "check keys,index [1, 0, 0, 0, 0, 0]",
+    ),
+    // How many coordinates a point has.
+    (
+        "pgmtool box points script",
+        "box points,script [2, 0, 0, 0, 0, 0]",
+    ),
+    (
+        "pgmtool box points script --dims=2",
+        "box points,script [2, 0, 0, 0, 0, 0]",
+    ),
+    (
+        "pgmtool box --dims 3 points script",
+        "box points,script [3, 0, 0, 0, 0, 0]",
+    ),
+    (
+        "pgmtool box points --dims +04 -- script",
+        "box points,script [4, 0, 0, 0, 0, 0]",
+    ),
+    (
+        "pgmtool near points script",
+        "near points,script [2, 0, 0, 0, 0, 0]",
+    ),
+    (
+        "pgmtool near points --dims=03 script",
+        "near points,script [3, 0, 0, 0, 0, 0]",
+    ),
+    (
+        "pgmtool near --dims 4 -- points script",
+        "near points,script [4, 0, 0, 0, 0, 0]",
+    ),
+    // Levels, batch, readers and workers.
+    (
+        "pgmtool replay script",
+        "replay ,script [20, 16, 0, 4, 0, 0]",
+    ),
+    (
+        "pgmtool replay script --levels=1",
+        "replay ,script [1, 16, 0, 4, 0, 0]",
+    ),
+    (
+        "pgmtool replay --readers=16 script",
+        "replay ,script [20, 16, 16, 4, 0, 0]",
+    ),
+    (
+        "pgmtool replay --batch 65536 script --levels 26",
+        "replay ,script [26, 65536, 0, 4, 0, 0]",
+    ),
+    (
+        "pgmtool replay --batch=1 --workers 64 -- script",
+        "replay ,script [20, 1, 0, 64, 0, 0]",
+    ),
+    // How many inputs, the seed, the two error bounds and the workers.
+    ("pgmtool drill 2 1", "drill , [2, 1, 64, 4, 4, 0]"),
+    (
+        "pgmtool drill 1 0 --eps 0 --rec 0",
+        "drill , [1, 0, 0, 0, 4, 0]",
+    ),
+    (
+        "pgmtool drill --workers=64 1000000 2147483647",
+        "drill , [1000000, 2147483647, 64, 4, 64, 0]",
+    ),
+    (
+        "pgmtool drill +07 --rec=1048576 -- 009",
+        "drill , [7, 9, 64, 1048576, 4, 0]",
+    ),
+    (
+        "pgmtool drill 1000 7 --eps=1048576 --workers 1",
+        "drill , [1000, 7, 1048576, 4, 1, 0]",
+    ),
+];
+
+// Command lines that are no command, though each is near one.
+const REFUSED: [(&str, &str); 66] = [
+    ("no command", "pgmtool"),
+    ("a command that isn't there", "pgmtool nothing keys"),
+    ("a command's name abbreviated", "pgmtool expl keys"),
+    ("no file", "pgmtool explain"),
+    ("no script", "pgmtool query keys"),
+    ("a file too many", "pgmtool explain keys more"),
+    (
+        "an option before the command",
+        "pgmtool --eps 3 explain keys",
+    ),
+    (
+        "a bound past its range",
+        "pgmtool explain keys --eps 1048577",
+    ),
+    ("a bound below its range", "pgmtool explain keys --eps=-1"),
+    ("a bound that is no number", "pgmtool explain keys --eps 3x"),
+    ("an option without its number", "pgmtool explain keys --eps"),
+    ("an empty number", "pgmtool explain keys --eps="),
+    (
+        "a hyphen word for a number",
+        "pgmtool explain keys --eps -1",
+    ),
+    ("no worker", "pgmtool explain keys --workers 0"),
+    ("too many workers", "pgmtool explain keys --workers 65"),
+    ("an option twice", "pgmtool explain keys --eps 3 --eps 3"),
+    ("a flag twice", "pgmtool explain keys --narrow --narrow"),
+    ("a flag with a value", "pgmtool explain keys --narrow=1"),
+    ("an option abbreviated", "pgmtool explain keys --ep 3"),
+    ("a short option", "pgmtool explain keys -e 3"),
+    (
+        "an option of another command",
+        "pgmtool explain keys --windows",
+    ),
+    ("a relaxed index without its script", "pgmtool relax keys"),
+    ("no piece", "pgmtool relax keys script --pieces 0"),
+    (
+        "a piece too many",
+        "pgmtool relax keys script --pieces 65537",
+    ),
+    (
+        "windows of a relaxed index",
+        "pgmtool relax keys script --windows",
+    ),
+    ("pieces of a query", "pgmtool query keys script --pieces 4"),
+    ("points without boxes", "pgmtool box points"),
+    ("one coordinate", "pgmtool box points script --dims 1"),
+    ("five coordinates", "pgmtool box points script --dims 5"),
+    (
+        "an error bound of boxes",
+        "pgmtool box points script --eps 3",
+    ),
+    ("coordinates of a key file", "pgmtool build keys --dims 2"),
+    (
+        "coordinates told twice",
+        "pgmtool box points script --dims 2 --dims 2",
+    ),
+    ("points without centres", "pgmtool near points"),
+    (
+        "one coordinate of centres",
+        "pgmtool near points script --dims 1",
+    ),
+    (
+        "five coordinates of centres",
+        "pgmtool near points script --dims 5",
+    ),
+    (
+        "how many points as an option",
+        "pgmtool near points script --k 3",
+    ),
+    ("a script of centres too many", "pgmtool near points a b"),
+    ("a replay without its script", "pgmtool replay"),
+    ("a replay of two scripts", "pgmtool replay script script"),
+    ("no level", "pgmtool replay script --levels 0"),
+    ("a level too many", "pgmtool replay script --levels 27"),
+    ("empty batches", "pgmtool replay script --batch 0"),
+    (
+        "batches past their range",
+        "pgmtool replay script --batch 65537",
+    ),
+    (
+        "more readers than there are seats",
+        "pgmtool replay script --readers 17",
+    ),
+    (
+        "a number of readers below 0",
+        "pgmtool replay script --readers=-1",
+    ),
+    (
+        "an error bound of a replay",
+        "pgmtool replay script --eps 4",
+    ),
+    (
+        "a table of too many bits",
+        "pgmtool query keys script --buckets 21",
+    ),
+    ("a table to build", "pgmtool build keys --buckets 4"),
+    ("a drill of no number", "pgmtool drill"),
+    ("a drill without a seed", "pgmtool drill 2"),
+    ("a drill of nothing", "pgmtool drill 0 1"),
+    ("a drill of too many", "pgmtool drill 1000001 1"),
+    ("a seed past its range", "pgmtool drill 2 2147483648"),
+    ("a seed below its range", "pgmtool drill 2 -1"),
+    ("a seed that is no number", "pgmtool drill 2 one"),
+    ("a drill of a file", "pgmtool drill 2 1 keys"),
+    ("narrow keys that are drawn", "pgmtool drill 2 1 --narrow"),
+    ("help as a command", "pgmtool help"),
+    ("help as a command, for another", "pgmtool help explain"),
+    ("help as a flag", "pgmtool --help"),
+    ("help as a short flag", "pgmtool -h"),
+    ("help of a command", "pgmtool explain --help"),
+    ("the short help of a command", "pgmtool explain -h"),
+    ("the version", "pgmtool --version"),
+    ("the version by a short flag", "pgmtool -V"),
+    ("the version of a command", "pgmtool explain --version"),
+];
+
+// The words as a program gets them.
+fn words_of<R: AllocGlobal>(rt: &R, line: &str) -> Result<Vec<String>, Fail> {
+    let mut words = Vec::new(rt.alloc());
+    for word in line.split(' ') {
+        words.push(String::from_str(rt.alloc(), word)?)?;
+    }
+    Ok(words)
+}
+
+// What a request asks for, beside its numbers: its command and its names.
+fn names_of<'a>(request: Request<'a>) -> (&'a str, &'a str, &'a str) {
+    match request {
+        Request::Build { building } => ("build", building.file, ""),
+        Request::Explain { building } => ("explain", building.file, ""),
+        Request::Query {
+            building,
+            script,
+            ..
+        } => ("query", building.file, script),
+        Request::Relax {
+            building,
+            script,
+            ..
+        } => ("relax", building.file, script),
+        Request::Box { searching } => ("box", searching.file, searching.script),
+        Request::Near { searching } => ("near", searching.file, searching.script),
+        Request::Replay { replaying } => ("replay", "", replaying.script),
+        Request::Drill { .. } => ("drill", "", ""),
+        Request::Save { building } => ("save", building.file, ""),
+        Request::Check { checking } => ("check", checking.file, checking.index),
+    }
+}
+
+// Those of an index, and two more.
+fn index_numbers(asked: Building<'_>, more: u32, last: u32) -> [u32; 6] {
+    let narrow = u32::from(asked.narrow);
+    [asked.eps, asked.eps_rec, asked.workers, narrow, more, last]
+}
+
+fn numbers_of(request: Request<'_>) -> [u32; 6] {
+    match request {
+        Request::Build { building } | Request::Explain { building } | Request::Save { building } =>
+            index_numbers(building, 0, 0),
+        Request::Query {
+            building,
+            windows,
+            table,
+            ..
+        } => index_numbers(building, u32::from(windows), table.bits),
+        Request::Relax {
+            building,
+            pieces,
+            ..
+        } => index_numbers(building, pieces.count, 0),
+        Request::Box { searching } | Request::Near { searching } => {
+            [searching.dims, 0, 0, 0, 0, 0]
+        }
+        Request::Replay { replaying: asked } => {
+            [
+                asked.levels,
+                asked.batch,
+                asked.readers,
+                asked.workers,
+                0,
+                0,
+            ]
+        }
+        Request::Drill { drilling: asked } => {
+            [
+                asked.number,
+                asked.seed,
+                asked.eps,
+                asked.eps_rec,
+                asked.workers,
+                0,
+            ]
+        }
+        Request::Check { checking } => [u32::from(checking.narrow), 0, 0, 0, 0, 0],
+    }
+}
+
+fn check_taken<R: AllocGlobal + Abort>(rt: &R, line: &str, asked: &str) -> Result<(), Fail> {
+    let words = words_of(rt, line)?;
+    let request = requested(rt.alloc(), &words)?;
+    let (command, file, script) = names_of(request);
+    let numbers = numbers_of(request);
+    let told = format!(in rt.alloc(); "{command} {file},{script} {numbers:?}")?;
+    assert_eq!(rt; told.as_str(), asked, "{line}");
+    Ok(())
+}
+
+fn check_refused<R: AllocGlobal + Abort>(rt: &R, name: &str, line: &str) -> Result<(), Fail> {
+    let words = words_of(rt, line)?;
+    let refused = requested(rt.alloc(), &words).err();
+    assert_eq!(rt; refused, Some(NoRequest::Usage), "{name}");
+    Ok(())
+}
+
+#[test]
+fn lines_ask_for_their_command(rt: HostRuntime) -> Result<(), Fail> {
+    for (line, asked) in &TAKEN {
+        check_taken(&rt, line, asked)?;
+    }
+    Ok(())
+}
+
+#[test]
+fn other_lines_are_no_command(rt: HostRuntime) -> Result<(), Fail> {
+    for (name, line) in &REFUSED {
+        check_refused(&rt, name, line)?;
+    }
+    Ok(())
+}
