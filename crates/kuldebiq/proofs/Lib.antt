@@ -1,0 +1,5 @@
+pub mod Values
+pub mod Crossing
+pub mod IndexHandles
+pub mod MapHandles
+pub mod Blocks

@@ -1,0 +1,20 @@
+-- How a call answers.
+use Rattle.std.specs.Prelude.{◌≡◌, ℕ, Option, Some, None}
+use Rattle.kuldebiq.specs.declared.answer.Answer.{Answer}
+
+-- the call was done, and this is its number
+abbrev pub gives : ℕ → Answer
+gives number = record { status = 0; number = number }
+
+-- the call was refused, and this number tells why
+abbrev pub refuses : ℕ → ℕ → Answer
+refuses status number = record { status = status; number = number }
+
+-- the call was done
+abbrev pub IsDone : Answer → Type 0
+IsDone answer = answer.status ≡ 0
+
+-- the value that was found, or that there is none
+abbrev pub found : Option ℕ → Answer
+found None = refuses 3 0
+found (Some value) = gives value

@@ -1,0 +1,50 @@
+-- Which keys and error bounds have an index, and how others are refused.
+use Rattle.std.specs.Prelude.{◌≡◌, ◌⊎◌, ℕ, ◌^◌, ◌<◌, ◌≤◌, List, length, Option}
+use Rattle.std.specs.Option.{MatchOption}
+use Rattle.std.specs.List.Sorted.{IsNonDecreasing}
+use Rattle.key_points.specs.Falls.{IsFirstFall}
+use Rattle.key_points.specs.declared.fault.KeysFault.{KeysFault}
+use Rattle.key_points.specs.declared.fault.KeysFault.TheVariants.{TooMany, Falls, NoMemory}
+use Rattle.levels.specs.Indexes.{PgmIndex, IsIndex}
+use Rattle.kuldebiq.specs.declared.answer.Answer.{Answer}
+use Rattle.kuldebiq.specs.Answers.{refuses}
+
+-- keys and error bounds that have an index
+pub record CanBeIndexed (keys : List ℕ) (eps eps_rec : ℕ) : Type 0 where
+  pub never_falls : IsNonDecreasing keys
+  pub few : length keys < 2 ^ 32
+  pub bounded : eps ≤ 1048576
+  pub bounded_rec : eps_rec ≤ 1048576
+
+-- an error bound that is too great, with the bound
+abbrev pub RefusesBound : ℕ → ℕ → Answer → Type 0
+RefusesBound eps eps_rec answer = (answer.status ≡ 6) × (1048576 < answer.number) × ((answer.number ≡ eps) ⊎ (answer.number ≡ eps_rec))
+
+-- too many keys, with their number
+abbrev pub RefusesCount : List ℕ → Answer → Type 0
+RefusesCount keys answer = (answer.status ≡ 5) × (answer.number ≡ length keys) × (2 ^ 32 ≤ length keys)
+
+-- keys that fall, with the first place whose key is below the key before it
+abbrev pub RefusesOrder : List ℕ → Answer → Type 0
+RefusesOrder keys answer = (answer.status ≡ 4) × IsFirstFall keys answer.number
+
+-- why keys and error bounds have no index
+abbrev pub RefusesKeys : List ℕ → ℕ → ℕ → Answer → Type 0
+RefusesKeys keys eps eps_rec answer = RefusesBound eps eps_rec answer ⊎ (RefusesCount keys answer ⊎ RefusesOrder keys answer)
+
+-- a fault of keys as an answer
+abbrev pub refused_as : KeysFault → Answer
+refused_as (TooMany count) = refuses 5 count
+refused_as (Falls place) = refuses 4 place
+refused_as NoMemory = refuses 1 0
+
+-- the one index of keys and error bounds
+pub record IsIndexOf (keys : List ℕ) (eps eps_rec : ℕ) (index : PgmIndex) : Type 0 where
+  pub keys_are : index.keys ≡ keys
+  pub eps_is : index.eps ≡ eps
+  pub eps_rec_is : index.eps_rec ≡ eps_rec
+  pub one : IsIndex keys eps eps_rec index.levels
+
+-- the handle holds the index of keys and error bounds
+abbrev pub HoldsIndexOf : List ℕ → ℕ → ℕ → Option PgmIndex → Type 0
+HoldsIndexOf keys eps eps_rec held = MatchOption held ⊥ (IsIndexOf keys eps eps_rec)

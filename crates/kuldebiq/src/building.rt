@@ -1,0 +1,74 @@
+// An index from keys that C hands over.
+ghost use Rattle.std.specs.Prelude.{◌≡◌, ◌≤◌, ◌⊎◌, IfOk, IfErr};
+ghost use Rattle.kuldebiq.specs.Answers.{refuses};
+ghost use Rattle.kuldebiq.specs.Building.{CanBeIndexed, IsIndexOf, refused_as};
+ghost use Rattle.kuldebiq.specs.Building.{RefusesKeys, RefusesCount, RefusesOrder};
+
+use crate::answer::{Answer, EPSILON_TOO_GREAT, NO_MEMORY, TOO_MANY_KEYS, UNSORTED, refused};
+use crate::kept_index::KeptIndex;
+use budget::NoMemory;
+use exact_cross::MAX_EPSILON;
+use levels::{Index, Keys, KeysFault};
+use std::alloc::Global;
+
+/// The index of keys, which are copied, in a box. Or how they are refused: where an error bound is
+/// too great, where there are too many keys, where they fall, or where memory isn't found.
+pub(crate) fn boxed_index(
+    alloc: Global,
+    keys: &[u64],
+    eps: u32,
+    eps_rec: u32,
+) -> Result<Box<KeptIndex>, Answer>
+    ensures index { IfOk result (λ kept. IsIndexOf keys.now eps eps_rec kept.value) }
+    ensures judged { IfOk result (λ _. CanBeIndexed keys.now eps eps_rec) }
+    ensures refused { IfErr result (λ answer.
+        (answer ≡ refuses NO_MEMORY 0) ⊎ RefusesKeys keys.now eps eps_rec answer) }
+{
+    let greater = eps.max(eps_rec);
+    if greater > MAX_EPSILON {
+        return Err(refused(EPSILON_TOO_GREAT, u64::from(greater)));
+    }
+    match tested_keys(alloc, keys) {
+        Ok(tested) => match index_of(alloc, tested, eps, eps_rec) {
+            Ok(kept) => Ok(kept),
+            Err(_) => Err(refused(NO_MEMORY, 0)),
+        },
+        Err(fault) => Err(answer_of(fault)),
+    }
+}
+
+/// The keys, copied.
+fn tested_keys(alloc: Global, keys: &[u64]) -> Result<Keys, KeysFault>
+    ensures keys { IfOk result (λ tested. tested ≡ keys.now) }
+    ensures refused { IfErr result (λ fault. (refused_as fault ≡ refuses NO_MEMORY 0) ⊎
+        (RefusesCount keys.now (refused_as fault) ⊎ RefusesOrder keys.now (refused_as fault))) }
+{
+    Keys::tested(alloc, Vec::from_slice(alloc, keys)?)
+}
+
+fn answer_of(fault: KeysFault) -> Answer
+    ensures { result ≡ refused_as fault }
+{
+    match fault {
+        KeysFault::TooMany { count } => refused(TOO_MANY_KEYS, count as u64),
+        KeysFault::Falls { place } => refused(UNSORTED, place as u64),
+        KeysFault::NoMemory => refused(NO_MEMORY, 0),
+    }
+}
+
+/// The index of keys, in a box.
+///
+/// # Errors
+///
+/// `NoMemory` alone.
+fn index_of(alloc: Global, keys: Keys, eps: u32, eps_rec: u32) -> Result<Box<KeptIndex>, NoMemory>
+    requires bounded { eps ≤ MAX_EPSILON }
+    requires bounded_rec { eps_rec ≤ MAX_EPSILON }
+    ensures index { IfOk result (λ kept. IsIndexOf keys eps eps_rec kept.value) }
+    ensures judged { CanBeIndexed keys eps eps_rec }
+{
+    let _sorted = keys.file();
+    let index = Index::of(alloc, keys, eps, eps_rec)?;
+    let kept = KeptIndex::of(alloc, index)?;
+    Ok(Box::new(alloc, kept)?)
+}

@@ -1,0 +1,33 @@
+//! The index and the map for C and C++.
+//!
+//! Each call is named `kuldebiq_..` and is declared in `include/kuldebiq.h`, which says for each
+//! what C owes. A handle is a pointer in C's memory, null where it holds nothing, and each call is
+//! passed the handle's place. A call answers a status and a number ([`Answer`]): what a test can
+//! tell is tested, and refused with a number that says why.
+//!
+//! Main clauses: `done`, `judged` and `refused` of [`kuldebiq_index_build`], `answer` of
+//! [`kuldebiq_position`], `done` of [`kuldebiq_positions`] and of each call that updates a map, and
+//! `answer` of each that asks one. The words of the clauses are in `specs/`.
+#![tactic(auto)]
+
+mod answer;
+mod building;
+mod index_calls;
+mod index_handle;
+mod kept_index;
+mod loose;
+mod many;
+mod map_calls;
+mod map_handle;
+mod segment_parts;
+
+use index_handle::IndexHandle;
+use map_handle::MapHandle;
+
+/// Handles may go to another thread: this is checked only where both are [`Send`]. It runs nothing.
+pub fn handles_may_move() {
+    moves::<IndexHandle>();
+    moves::<MapHandle>();
+}
+
+fn moves<T: Send>() {}

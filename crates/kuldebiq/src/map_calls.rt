@@ -1,0 +1,305 @@
+// The calls over a map.
+ghost use Rattle.std.specs.Prelude.{◌≡◌, ◌≢◌, ◌⊎◌, ◌+◌, ◌<◌, ◌≤◌, ◌∷◌};
+ghost use Rattle.std.specs.Prelude.{◌++◌, [], ℕ, ⊤, List, length};
+ghost use Rattle.std.specs.Option.{MatchOption};
+ghost use Rattle.std.specs.declared.option.Option.TheVariants.{None, Some};
+ghost use Rattle.log_levels.specs.declared.update.Update.{Update};
+ghost use Rattle.log_levels.specs.declared.update.Update.TheVariants.{Put, Del, Sweep};
+ghost use Rattle.log_levels.specs.Accepted.{entries_of};
+ghost use Rattle.log_levels.specs.Maps.{map_after, value_at, next_from, count_between};
+ghost use Rattle.log_levels.specs.Shapes.{Held, StandsFor, capacity_of};
+ghost use Rattle.kuldebiq.specs.Answers.{gives, refuses, found, IsDone};
+ghost use Rattle.kuldebiq.specs.Changes.{HoldsEmpty, HasAdded, ended_as};
+
+use crate::answer::{
+    ABSENT, Answer, FULL, LEVELS_OUT_OF_RANGE, NO_MEMORY, NOTHING_HELD, found_or_absent, given,
+    refused,
+};
+use crate::map_handle::MapHandle;
+use log_levels::{LogMap, MapFault};
+use std::alloc::Global;
+
+/// A key with its value.
+#[repr(C)]
+#[derive(Clone, Copy)]
+pub struct Pair {
+    /// The key.
+    pub key: u64,
+    /// Its value.
+    pub value: u64,
+}
+
+/// Makes the empty map with so many levels, 1 to 26, and has the handle hold it. The number is how
+/// many entries it can accept, `64 * 2^levels - 1`.
+///
+/// What the handle held is let go. A refusal is `LEVELS_OUT_OF_RANGE` or `NO_MEMORY`, and then the
+/// handle holds what it held.
+#[unsafe(no_mangle)]
+pub extern "C" fn kuldebiq_map_new(alloc: Global, handle: &mut MapHandle, levels: u32) -> Answer
+    ensures done { IsDone result → HoldsEmpty levels handle.new.map }
+    ensures number { (map : Held) → handle.new.map ≡ Some map → IsDone result →
+        result.number ≡ capacity_of map }
+    ensures outside { (levels ≡ 0) ⊎ (26 < levels) → result ≡ refuses LEVELS_OUT_OF_RANGE levels }
+    ensures inside { 1 ≤ levels → levels ≤ 26 →
+        IsDone result ⊎ (result ≡ refuses NO_MEMORY 0) }
+    ensures unchanged { result.status ≢ 0 → handle.new.map ≡ handle.old.map }
+{
+    if levels == 0 || levels > 26 {
+        return refused(LEVELS_OUT_OF_RANGE, u64::from(levels));
+    }
+    match boxed_map(alloc, levels) {
+        Some(map) => {
+            let capacity = map.capacity();
+            handle.put(map);
+            given(capacity)
+        }
+        None => refused(NO_MEMORY, 0),
+    }
+}
+
+/// An empty map in a box, where memory is found.
+fn boxed_map(alloc: Global, levels: u32) -> Option<Box<LogMap>>
+    requires some { 1 ≤ levels }
+    requires few { levels ≤ 26 }
+    ensures { MatchOption result ⊤
+        (λ map. StandsFor map.value [] × (length map.value.levels ≡ levels)) }
+{
+    match LogMap::new(alloc, levels) {
+        Ok(map) => match Box::new(alloc, map) {
+            Ok(map) => Some(map),
+            Err(_) => None,
+        },
+        Err(_) => None,
+    }
+}
+
+/// Lets go of the map. The handle holds nothing then, and may be let go again.
+#[unsafe(no_mangle)]
+pub extern "C" fn kuldebiq_map_free(alloc: Global, handle: &mut MapHandle)
+    ensures { handle.new.map ≡ None }
+{
+    drop(handle.take(alloc));
+}
+
+/// Puts a value at a key. It is an entry, whatever was at the key. The number is 0.
+///
+/// A refusal is `NOTHING_HELD`, `FULL` or `NO_MEMORY`, judged in this order, and then the map is as
+/// it was.
+#[unsafe(no_mangle)]
+pub extern "C" fn kuldebiq_map_put(
+    alloc: Global,
+    handle: &mut MapHandle,
+    key: u64,
+    value: u64,
+) -> Answer
+    ensures done { IsDone result → HasAdded (Put key value) handle.old.map handle.new.map }
+    ensures none { handle.old.map ≡ None → result ≡ refuses NOTHING_HELD 0 }
+    ensures full { (map : Held) → handle.old.map ≡ Some map →
+        capacity_of map < map.accepted + 1 → result ≡ refuses FULL map.accepted }
+    ensures room { (map : Held) → handle.old.map ≡ Some map →
+        map.accepted + 1 ≤ capacity_of map → (result ≡ gives 0) ⊎ (result ≡ refuses NO_MEMORY 0) }
+    ensures unchanged { result.status ≢ 0 → handle.new.map ≡ handle.old.map }
+{
+    match handle.take(alloc) {
+        Some(map) => {
+            let mut map = map;
+            let answer = answer_of(map.put(alloc, key, value));
+            handle.put(map);
+            answer
+        }
+        None => refused(NOTHING_HELD, 0),
+    }
+}
+
+/// Takes a key out of the map. It is an entry, whether or not the key was there. The number is 0.
+///
+/// A refusal is `NOTHING_HELD`, `FULL` or `NO_MEMORY`, judged in this order, and then the map is as
+/// it was.
+#[unsafe(no_mangle)]
+pub extern "C" fn kuldebiq_map_del(alloc: Global, handle: &mut MapHandle, key: u64) -> Answer
+    ensures done { IsDone result → HasAdded (Del key) handle.old.map handle.new.map }
+    ensures none { handle.old.map ≡ None → result ≡ refuses NOTHING_HELD 0 }
+    ensures full { (map : Held) → handle.old.map ≡ Some map →
+        capacity_of map < map.accepted + 1 → result ≡ refuses FULL map.accepted }
+    ensures room { (map : Held) → handle.old.map ≡ Some map →
+        map.accepted + 1 ≤ capacity_of map → (result ≡ gives 0) ⊎ (result ≡ refuses NO_MEMORY 0) }
+    ensures unchanged { result.status ≢ 0 → handle.new.map ≡ handle.old.map }
+{
+    match handle.take(alloc) {
+        Some(map) => {
+            let mut map = map;
+            let answer = answer_of(map.del(alloc, key));
+            handle.put(map);
+            answer
+        }
+        None => refused(NOTHING_HELD, 0),
+    }
+}
+
+/// How an update ended.
+fn answer_of(ended: Result<(), MapFault>) -> Answer
+    ensures { result ≡ ended_as ended }
+{
+    match ended {
+        Ok(()) => given(0),
+        Err(MapFault::Full { accepted }) => refused(FULL, accepted),
+        Err(MapFault::NoMemory) => refused(NO_MEMORY, 0),
+    }
+}
+
+/// Takes the keys from `low` to `high`, both included, out of the map. The number is how many they
+/// were; none where `low` is above `high`. Each is an entry.
+///
+/// A refusal is `NOTHING_HELD`, `FULL` or `NO_MEMORY`, judged in this order, and then the map is as
+/// it was.
+#[unsafe(no_mangle)]
+pub extern "C" fn kuldebiq_map_sweep(
+    alloc: Global,
+    handle: &mut MapHandle,
+    low: u64,
+    high: u64,
+) -> Answer
+    ensures done { IsDone result → HasAdded (Sweep low high) handle.old.map handle.new.map }
+    ensures number { (map : Held) (updates : List Update) → handle.old.map ≡ Some map →
+        StandsFor map updates → IsDone result →
+        result.number ≡ count_between (map_after updates) low high }
+    ensures none { handle.old.map ≡ None → result ≡ refuses NOTHING_HELD 0 }
+    ensures full { (map : Held) (updates : List Update) → handle.old.map ≡ Some map →
+        StandsFor map updates →
+        capacity_of map < length (entries_of (updates ++ Sweep low high ∷ [])) →
+        result ≡ refuses FULL map.accepted }
+    ensures room { (map : Held) (updates : List Update) → handle.old.map ≡ Some map →
+        StandsFor map updates →
+        length (entries_of (updates ++ Sweep low high ∷ [])) ≤ capacity_of map →
+        IsDone result ⊎ (result ≡ refuses NO_MEMORY 0) }
+    ensures unchanged { result.status ≢ 0 → handle.new.map ≡ handle.old.map }
+{
+    match handle.take(alloc) {
+        Some(map) => {
+            let mut map = map;
+            let answer = match map.sweep(alloc, low, high) {
+                Ok(count) => given(count),
+                Err(fault) => answer_of(Err(fault)),
+            };
+            handle.put(map);
+            answer
+        }
+        None => refused(NOTHING_HELD, 0),
+    }
+}
+
+/// The value at a key.
+///
+/// A refusal is `NOTHING_HELD`, or `ABSENT` where the map doesn't have the key.
+#[unsafe(no_mangle)]
+pub extern "C" fn kuldebiq_map_get(alloc: Global, handle: &mut MapHandle, key: u64) -> Answer
+    ensures answer { MatchOption handle.old.map (result ≡ refuses NOTHING_HELD 0)
+        (λ map. (updates : List Update) → StandsFor map updates →
+        result ≡ found (value_at (map_after updates) key)) }
+    ensures unchanged { handle.new.map ≡ handle.old.map }
+{
+    match handle.take(alloc) {
+        Some(map) => {
+            let value = map.get(key);
+            handle.put(map);
+            found_or_absent(value)
+        }
+        None => refused(NOTHING_HELD, 0),
+    }
+}
+
+/// Writes the least key from `from` on that the map has, with its value. The number is 0.
+///
+/// A refusal is `NOTHING_HELD`, or `ABSENT` where there is no such key. Then nothing is written.
+#[unsafe(no_mangle)]
+pub extern "C" fn kuldebiq_map_next(
+    alloc: Global,
+    handle: &mut MapHandle,
+    from: u64,
+    pair: &mut Pair,
+) -> Answer
+    ensures answer { MatchOption handle.old.map (result ≡ refuses NOTHING_HELD 0)
+        (λ map. (updates : List Update) → StandsFor map updates →
+        MatchOption (next_from (map_after updates) from) (result ≡ refuses ABSENT 0)
+        (λ next. (result ≡ gives 0) × (pair.new.key ≡ next.0) × (pair.new.value ≡ next.1))) }
+    ensures refused { result.status ≢ 0 → pair.new ≡ pair.old }
+    ensures unchanged { handle.new.map ≡ handle.old.map }
+{
+    match handle.take(alloc) {
+        Some(map) => {
+            let next = map.next(from);
+            handle.put(map);
+            match next {
+                Some((key, value)) => {
+                    *pair = Pair { key, value };
+                    given(0)
+                }
+                None => refused(ABSENT, 0),
+            }
+        }
+        None => refused(NOTHING_HELD, 0),
+    }
+}
+
+/// How many keys from `low` to `high` the map has, both included; none where `low` is above `high`.
+///
+/// A refusal is `NOTHING_HELD`.
+#[unsafe(no_mangle)]
+pub extern "C" fn kuldebiq_map_count(
+    alloc: Global,
+    handle: &mut MapHandle,
+    low: u64,
+    high: u64,
+) -> Answer
+    ensures answer { MatchOption handle.old.map (result ≡ refuses NOTHING_HELD 0)
+        (λ map. (updates : List Update) → StandsFor map updates →
+        result ≡ gives (count_between (map_after updates) low high)) }
+    ensures unchanged { handle.new.map ≡ handle.old.map }
+{
+    match handle.take(alloc) {
+        Some(map) => {
+            let count = map.count(low, high);
+            handle.put(map);
+            given(count)
+        }
+        None => refused(NOTHING_HELD, 0),
+    }
+}
+
+/// How many entries were accepted: each put, each deletion and each key that a sweep took is one.
+///
+/// A refusal is `NOTHING_HELD`.
+#[unsafe(no_mangle)]
+pub extern "C" fn kuldebiq_map_accepted(alloc: Global, handle: &mut MapHandle) -> Answer
+    ensures answer { MatchOption handle.old.map (result ≡ refuses NOTHING_HELD 0)
+        (λ map. result ≡ gives map.accepted) }
+    ensures unchanged { handle.new.map ≡ handle.old.map }
+{
+    match handle.take(alloc) {
+        Some(map) => {
+            let accepted = map.accepted();
+            handle.put(map);
+            given(accepted)
+        }
+        None => refused(NOTHING_HELD, 0),
+    }
+}
+
+/// How many entries can be accepted: `64 * 2^levels - 1`.
+///
+/// A refusal is `NOTHING_HELD`.
+#[unsafe(no_mangle)]
+pub extern "C" fn kuldebiq_map_capacity(alloc: Global, handle: &mut MapHandle) -> Answer
+    ensures answer { MatchOption handle.old.map (result ≡ refuses NOTHING_HELD 0)
+        (λ map. result ≡ gives (capacity_of map)) }
+    ensures unchanged { handle.new.map ≡ handle.old.map }
+{
+    match handle.take(alloc) {
+        Some(map) => {
+            let capacity = map.capacity();
+            handle.put(map);
+            given(capacity)
+        }
+        None => refused(NOTHING_HELD, 0),
+    }
+}

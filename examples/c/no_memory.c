@@ -1,0 +1,96 @@
+/* Each allocation of a call fails in turn: the call is refused, and what its handle held it holds. The
+ * three functions below stand for those of the kit's archive. */
+#include "kuldebiq.h"
+
+#include <stdbool.h>
+#include <stdio.h>
+#include <stdlib.h>
+
+typedef struct tried {
+    bool ok;
+    void *at;
+} tried;
+
+/* How many allocations are still granted, and how many blocks there are. */
+static long granted;
+static long blocks;
+
+tried rattle_alloc(size_t size, size_t align);
+tried rattle_realloc(void *at, size_t kept, size_t size, size_t align);
+void rattle_dealloc(void *at);
+
+static tried of(void *at, void *other) { return (tried){at != NULL, at != NULL ? at : other}; }
+
+tried rattle_alloc(size_t size, size_t align) {
+    if (granted-- <= 0) return of(NULL, &granted);
+    blocks++;
+    return of(malloc(size > 0 ? size : align), &granted);
+}
+
+tried rattle_realloc(void *at, size_t kept, size_t size, size_t align) {
+    (void)kept, (void)align;
+    return granted-- <= 0 ? of(NULL, at) : of(realloc(at, size), at);
+}
+
+void rattle_dealloc(void *at) {
+    blocks--;
+    free(at);
+}
+
+static void expect(bool holds, const char *what) {
+    if (!holds) {
+        printf("differs: %s\n", what);
+        exit(1);
+    }
+}
+
+static bool is(kuldebiq_answer answer, uint32_t status, uint64_t number) {
+    return answer.status == status && answer.number == number;
+}
+
+int main(void) {
+    enum { COUNT = 5000 };
+    static uint64_t keys[COUNT];
+    for (uint64_t i = 0; i < COUNT; i++) keys[i] = i * i;
+    kuldebiq_index index = KULDEBIQ_NOTHING, other = KULDEBIQ_NOTHING;
+    granted = 1000;
+    expect(is(kuldebiq_index_build(&index, keys, 10, 0, 0), KULDEBIQ_DONE, 10), "the first index");
+    long tries = -1;
+    kuldebiq_answer answer;
+    do {
+        granted = ++tries;
+        answer = kuldebiq_index_build(&index, keys, COUNT, 2, 1);
+        if (answer.status == KULDEBIQ_DONE) break;
+        expect(is(answer, KULDEBIQ_NO_MEMORY, 0), "a build");
+        expect(is(kuldebiq_position(&index, 50), KULDEBIQ_DONE, 8), "that the first index stands");
+    } while (true);
+    expect(is(answer, KULDEBIQ_DONE, COUNT), "the build in the end");
+    printf("a build asked for memory %s\n", tries > 3 ? "several times" : "hardly");
+    /* Positions come without memory too. */
+    uint32_t positions[3];
+    granted = 0;
+    expect(is(kuldebiq_positions(&index, keys + 100, 3, positions, 3), KULDEBIQ_DONE, 3) &&
+               positions[0] == 100 && positions[2] == 102,
+           "positions without memory");
+    expect(is(kuldebiq_index_share(&index, &other), KULDEBIQ_NO_MEMORY, 0), "a share");
+    kuldebiq_map map = KULDEBIQ_NOTHING;
+    expect(is(kuldebiq_map_new(&map, 4), KULDEBIQ_NO_MEMORY, 0), "a map");
+    granted = 1000;
+    expect(is(kuldebiq_map_new(&map, 4), KULDEBIQ_DONE, 1023), "a map in the end");
+    for (uint64_t key = 0; key < 1000; key++) {
+        for (tries = 0;; tries++) {
+            granted = tries;
+            answer = kuldebiq_map_put(&map, key, key + 7);
+            if (answer.status == KULDEBIQ_DONE) break;
+            expect(is(answer, KULDEBIQ_NO_MEMORY, 0), "a put");
+            expect(is(kuldebiq_map_get(&map, key), KULDEBIQ_ABSENT, 0), "that the map stands");
+            expect(is(kuldebiq_map_count(&map, 0, 9999), KULDEBIQ_DONE, key), "that all keys stand");
+        }
+    }
+    kuldebiq_map_free(&map);
+    kuldebiq_index_free(&index);
+    kuldebiq_index_free(&other);
+    expect(blocks == 0, "that all memory is given back");
+    puts("what stood stands");
+    return 0;
+}

@@ -1,0 +1,256 @@
+// The calls beside std::lower_bound and std::map, on as many random keys and updates as the first
+// word says, a million where there is none. Says what differs, and ends with 1 then.
+#include "kuldebiq.h"
+
+#include <algorithm>
+#include <cstdint>
+#include <cstdlib>
+#include <iostream>
+#include <iterator>
+#include <map>
+#include <random>
+#include <thread>
+#include <utility>
+#include <vector>
+
+namespace {
+
+using Keys = std::vector<std::uint64_t>;
+
+constexpr std::uint32_t EPSILON = 64;
+constexpr std::uint32_t EPSILON_ABOVE = 4;
+
+void expect(bool holds, const char *what) {
+    if (!holds) {
+        std::cerr << "differs: " << what << '\n';
+        std::exit(1);
+    }
+}
+
+bool is(kuldebiq_answer answer, std::uint32_t status, std::uint64_t number) {
+    return answer.status == status && answer.number == number;
+}
+
+bool gives(kuldebiq_answer answer, std::uint64_t number) {
+    return is(answer, KULDEBIQ_DONE, number);
+}
+
+std::uint64_t below(const Keys &keys, std::uint64_t question) {
+    return std::uint64_t(std::lower_bound(keys.begin(), keys.end(), question) - keys.begin());
+}
+
+// Half of them scattered, half of them near to one another, with repetitions.
+Keys random_keys(std::mt19937_64 &random, std::size_t count) {
+    Keys keys;
+    for (std::size_t i = 0; i < count; i++) {
+        keys.push_back(i % 2 == 0 ? random() : (std::uint64_t(1) << 40) + random() % count);
+    }
+    keys.push_back(UINT64_MAX);
+    std::sort(keys.begin(), keys.end());
+    return keys;
+}
+
+Keys random_questions(std::mt19937_64 &random, const Keys &keys) {
+    Keys questions{0, UINT64_MAX};
+    for (std::size_t i = 0; i < keys.size(); i++) {
+        const std::uint64_t key = keys[random() % keys.size()];
+        questions.push_back(i % 4 == 0 ? random() : key + i % 4 - 2);
+    }
+    return questions;
+}
+
+void compare_positions(kuldebiq_index &index, const Keys &keys, const Keys &questions) {
+    std::vector<std::uint32_t> positions(questions.size());
+    expect(gives(kuldebiq_positions(&index, questions.data(), questions.size(), positions.data(),
+                                    positions.size()),
+                 questions.size()),
+           "how many positions");
+    for (std::size_t i = 0; i < questions.size(); i++) {
+        const std::uint64_t want = below(keys, questions[i]);
+        expect(positions[i] == want, "one of many positions");
+        expect(gives(kuldebiq_position(&index, questions[i]), want), "a position");
+    }
+}
+
+// Two threads, each with a handle of its own to the same index.
+void compare_in_threads(kuldebiq_index &index, const Keys &keys, const Keys &questions) {
+    kuldebiq_index other = KULDEBIQ_NOTHING;
+    expect(gives(kuldebiq_index_share(&index, &other), 0), "share");
+    std::thread thread([&] {
+        for (const std::uint64_t question : questions) {
+            expect(gives(kuldebiq_position(&other, question), below(keys, question)),
+                   "a position in another thread");
+        }
+        kuldebiq_index_free(&other);
+    });
+    for (const std::uint64_t question : questions) {
+        expect(gives(kuldebiq_position(&index, question), below(keys, question)),
+               "a position beside another thread");
+    }
+    thread.join();
+}
+
+// The points of level 0, as the header says.
+std::vector<std::pair<std::uint64_t, std::uint64_t>> points_of(const Keys &keys) {
+    std::vector<std::pair<std::uint64_t, std::uint64_t>> points;
+    for (std::size_t from = 0, to = 0; from < keys.size(); from = to) {
+        while (to < keys.size() && keys[to] == keys[from]) to++;
+        points.emplace_back(keys[from], from);
+        const std::uint64_t next = keys[from] + 1;
+        if (to - from > 1 && next != 0 && (to == keys.size() || keys[to] != next)) {
+            points.emplace_back(next, to);
+        }
+    }
+    return points;
+}
+
+// Each point is within the bound of the line of its run.
+void compare_lines(kuldebiq_index &index, const Keys &keys) {
+    const auto points = points_of(keys);
+    const std::uint64_t count = kuldebiq_index_segments(&index, 0).number;
+    kuldebiq_segment one{}, next{};
+    for (std::uint64_t i = 0; i < count; i++) {
+        expect(gives(kuldebiq_index_segment(&index, 0, i, &one), 0), "a segment");
+        std::size_t end = points.size();
+        if (i + 1 < count) {
+            expect(gives(kuldebiq_index_segment(&index, 0, i + 1, &next), 0), "the next one");
+            end = next.start;
+        }
+        expect((one.side == 0) == (i + 1 == count), "which segment has no witness");
+        for (std::size_t j = one.start; j < end; j++) {
+            const __int128 off = (__int128(one.y0) - __int128(points[j].second)) * one.run +
+                                 (__int128(points[j].first) - __int128(one.x0)) * one.rise;
+            const __int128 bound = __int128(EPSILON) * one.run;
+            expect(-bound <= off && off <= bound, "a line");
+        }
+    }
+    expect(is(kuldebiq_index_segment(&index, 0, count, &one), KULDEBIQ_NO_SUCH_SEGMENT, count),
+           "a segment past the last one");
+}
+
+// What is refused, with its number, and that the index stands then.
+void compare_refusals(kuldebiq_index &index, const Keys &keys) {
+    const Keys falling{1, 4, 4, 3, 2};
+    std::uint32_t room[2];
+    kuldebiq_index none = KULDEBIQ_NOTHING;
+    const auto build = [&](std::uint32_t epsilon, std::uint32_t above) {
+        return kuldebiq_index_build(&index, falling.data(), falling.size(), epsilon, above);
+    };
+    expect(is(build(EPSILON, EPSILON_ABOVE), KULDEBIQ_UNSORTED, 3), "where keys fall");
+    expect(is(build(1048577, 0), KULDEBIQ_EPSILON_TOO_GREAT, 1048577), "a great bound");
+    expect(is(build(0, 1048577), KULDEBIQ_EPSILON_TOO_GREAT, 1048577), "a great bound above");
+    expect(is(kuldebiq_positions(&index, keys.data(), 3, room, 2), KULDEBIQ_UNEQUAL_LENGTHS, 2),
+           "room for too few");
+    expect(is(kuldebiq_position(&none, 5), KULDEBIQ_NOTHING_HELD, 0), "nothing held");
+    expect(is(kuldebiq_index_share(&none, &index), KULDEBIQ_NOTHING_HELD, 0), "nothing to share");
+    kuldebiq_index_free(&none);
+    const std::uint64_t levels = kuldebiq_index_levels(&index).number;
+    expect(is(kuldebiq_index_segments(&index, std::uint32_t(levels)), KULDEBIQ_NO_SUCH_LEVEL, levels),
+           "a level past the last one");
+    expect(gives(kuldebiq_index_segments(&index, std::uint32_t(levels - 1)), 1), "the last level");
+    expect(gives(kuldebiq_index_keys(&index), keys.size()), "that the index stands");
+}
+
+void compare_index(std::mt19937_64 &random, std::size_t count) {
+    const Keys keys = random_keys(random, count);
+    kuldebiq_index index = KULDEBIQ_NOTHING;
+    expect(gives(kuldebiq_index_build(&index, keys.data(), keys.size(), EPSILON, EPSILON_ABOVE),
+                 keys.size()),
+           "build");
+    const Keys questions = random_questions(random, keys);
+    compare_positions(index, keys, questions);
+    compare_in_threads(index, keys, questions);
+    compare_lines(index, keys);
+    compare_refusals(index, keys);
+    expect(gives(kuldebiq_index_build(&index, keys.data(), 0, EPSILON, EPSILON_ABOVE), 0), "no keys");
+    expect(gives(kuldebiq_position(&index, 5), 0), "a position among no keys");
+    kuldebiq_index_free(&index);
+    kuldebiq_index_free(&index);
+}
+
+using Wanted = std::map<std::uint64_t, std::uint64_t>;
+
+// One update of each kind, by a number.
+std::uint64_t update(kuldebiq_map &map, Wanted &wanted, std::uint64_t number, std::uint64_t key) {
+    if (number % 1000 == 0) {
+        const auto from = wanted.lower_bound(key), to = wanted.upper_bound(key + 100);
+        const auto count = std::uint64_t(std::distance(from, to));
+        wanted.erase(from, to);
+        expect(gives(kuldebiq_map_sweep(&map, key, key + 100), count), "a sweep");
+        return count;
+    }
+    if (number % 3 == 0) {
+        wanted.erase(key);
+        expect(gives(kuldebiq_map_del(&map, key), 0), "a deletion");
+    } else {
+        wanted[key] = number;
+        expect(gives(kuldebiq_map_put(&map, key, number), 0), "a put");
+    }
+    return 1;
+}
+
+void ask(kuldebiq_map &map, const Wanted &wanted, std::uint64_t key) {
+    const auto at = wanted.find(key);
+    const kuldebiq_answer got = kuldebiq_map_get(&map, key);
+    expect(at == wanted.end() ? is(got, KULDEBIQ_ABSENT, 0) : gives(got, at->second), "a value");
+    const auto after = wanted.lower_bound(key);
+    kuldebiq_pair pair{7, 7};
+    const kuldebiq_answer next = kuldebiq_map_next(&map, key, &pair);
+    if (after == wanted.end()) {
+        expect(is(next, KULDEBIQ_ABSENT, 0) && pair.key == 7 && pair.value == 7, "no next key");
+    } else {
+        expect(gives(next, 0) && pair.key == after->first && pair.value == after->second,
+               "the next key");
+    }
+}
+
+void compare_map(std::mt19937_64 &random, std::size_t count) {
+    kuldebiq_map map = KULDEBIQ_NOTHING;
+    expect(is(kuldebiq_map_new(&map, 27), KULDEBIQ_LEVELS_OUT_OF_RANGE, 27), "too many levels");
+    expect(is(kuldebiq_map_put(&map, 1, 1), KULDEBIQ_NOTHING_HELD, 0), "no map");
+    expect(gives(kuldebiq_map_new(&map, 16), 64 * 65536 - 1), "new");
+    Wanted wanted;
+    std::uint64_t accepted = 0;
+    const std::uint64_t top = count / 3 + 1;
+    for (std::uint64_t number = 0; number < count; number++) {
+        accepted += update(map, wanted, number, random() % top);
+        ask(map, wanted, random() % top);
+    }
+    expect(gives(kuldebiq_map_accepted(&map), accepted), "how many were accepted");
+    expect(gives(kuldebiq_map_count(&map, 0, UINT64_MAX), wanted.size()), "how many keys");
+    std::uint64_t from = 0;
+    kuldebiq_pair pair{};
+    for (const auto &want : wanted) {
+        expect(gives(kuldebiq_map_next(&map, from, &pair), 0) && pair.key == want.first &&
+                   pair.value == want.second,
+               "a walk");
+        from = pair.key + 1;
+    }
+    kuldebiq_map_free(&map);
+}
+
+// A map of one level accepts 127 entries, and stands where it is full.
+void compare_full() {
+    kuldebiq_map map = KULDEBIQ_NOTHING;
+    expect(gives(kuldebiq_map_new(&map, 1), 127), "a small map");
+    for (std::uint64_t key = 0; key < 126; key++) {
+        expect(gives(kuldebiq_map_put(&map, key, key), 0), "a put in a small map");
+    }
+    expect(is(kuldebiq_map_sweep(&map, 3, 4), KULDEBIQ_FULL, 126), "no room for a sweep");
+    expect(gives(kuldebiq_map_del(&map, 3), 0), "the last entry");
+    expect(is(kuldebiq_map_put(&map, 3, 3), KULDEBIQ_FULL, 127), "no room for a put");
+    expect(gives(kuldebiq_map_count(&map, 0, 200), 125), "that the map stands");
+    kuldebiq_map_free(&map);
+}
+
+} // namespace
+
+int main(int words, char **word) {
+    const std::size_t count = words > 1 ? std::strtoull(word[1], nullptr, 10) : 1000000;
+    std::mt19937_64 random(20260801);
+    compare_index(random, count);
+    compare_map(random, count);
+    compare_full();
+    std::cout << "no difference\n";
+    return 0;
+}

@@ -1,0 +1,76 @@
+#!/usr/bin/env bash
+# Builds the archive, and builds and runs the examples over it: as they are, and once more with the
+# sanitizers for addresses and for undefined behaviour. A part whose compiler isn't there is skipped.
+set -eu
+cd "$(dirname "$0")/.."
+
+have() { command -v "$1" >/dev/null 2>&1; }
+cc=${CC:-cc}
+cxx=${CXX:-c++}
+if ! have "$cc"; then
+    echo "examples: no C compiler, so none is run"
+    exit 0
+fi
+
+log=$(mktemp)
+made=$(mktemp -d)
+trap 'rm -rf "$log" "$made"' EXIT
+if ! (cd crates/kuldebiq && rt lib) >"$log" 2>&1; then
+    tail -n 20 "$log"
+    echo "examples: the archive wasn't built"
+    exit 1
+fi
+archive=(crates/kuldebiq/out/libkuldebiq.a "$(dirname "$(rt doc)")/c/liblibc_c.a")
+flags=(-Wall -Wextra -Werror -O2 -Iinclude)
+
+# Whether the compiler makes programs with sanitizers here.
+sanitizes() {
+    echo 'int main(void) { return 0; }' >"$made/try.c"
+    "$1" -fsanitize=address,undefined "$made/try.c" -o "$made/try" >/dev/null 2>&1 && "$made/try"
+}
+
+# Builds a program and runs it: its compiler, its source, its own words, and what else the compiler
+# is told.
+try() {
+    local compiler=$1 source=$2 words=$3 name
+    shift 3
+    name=$(basename "$source")
+    "$compiler" "${flags[@]}" "$@" "$source" "${archive[@]}" -o "$made/program"
+    # The words are separate ones.
+    # shellcheck disable=SC2086
+    if ! "$made/program" $words >"$made/output"; then
+        cat "$made/output"
+        echo "examples: $name failed ($*)"
+        exit 1
+    fi
+    if [ -f "${source%.*}.out" ] && ! diff "${source%.*}.out" "$made/output"; then
+        echo "examples: $name printed something else ($*)"
+        exit 1
+    fi
+}
+
+# The same plainly, and with sanitizers on fewer numbers.
+both() {
+    local compiler=$1 source=$2 few=$3
+    shift 3
+    try "$compiler" "$source" "" "$@"
+    if sanitizes "$compiler"; then
+        try "$compiler" "$source" "$few" "$@" -g -fsanitize=address,undefined -fno-sanitize-recover=all
+    fi
+}
+
+both "$cc" examples/c/walk.c "" -std=c11
+both "$cc" examples/c/no_memory.c "" -std=c11
+ran="C"
+if have "$cxx"; then
+    both "$cxx" examples/cpp/walk.cpp "" -std=c++17
+    both "$cxx" examples/cpp/compare.cpp 50000 -std=gnu++17 -pthread
+    ran="$ran, C++"
+fi
+if have python3; then
+    "$cc" -shared -o "$made/libkuldebiq.so" -Wl,--whole-archive "${archive[@]}" -Wl,--no-whole-archive
+    PYTHONDONTWRITEBYTECODE=1 KULDEBIQ="$made/libkuldebiq.so" python3 examples/python/walk.py >"$made/output"
+    diff examples/python/walk.out "$made/output"
+    ran="$ran, Python"
+fi
+echo "examples: $ran ran"
