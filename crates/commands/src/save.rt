@@ -81,7 +81,8 @@ fn push_level(
 
 // Hands each piece over.
 fn write_pieces<S: Sink>(out: &mut S, pieces: &[Vec<u8>]) -> Result<(), Failed>
-    ensures ok { OnOk result (Writes S.Sink out.old out.new (map (λ piece. piece.items) pieces.now)) }
+    ensures ok { OnOk result (Writes S.Sink out.old out.new
+        (map (λ piece. piece.items) pieces.now)) }
     ensures err { OnErr result
         (BreaksOff S.Sink out.old out.new (map (λ piece. piece.items) pieces.now)) }
 {

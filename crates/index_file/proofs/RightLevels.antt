@@ -325,30 +325,6 @@ places-from_above ys eps eps_rec i list runs above level =
     subst (λ (n : ℕ). IsSavedSegmentation (points_of list (places (length list))) n runs) (eps_at-above eps eps_rec i above)
     (subst (λ (l : List ℕ). IsSavedSegmentation (points_of list l) (eps_at eps eps_rec i) runs) (heights-above ys i list above) level)
 
--- ---- no points
-
-pub IsSavedIndexOf-empty : (xs ys : List ℕ) (saved : SavedIndex) → length xs ≡ 0 → length saved.levels ≡ 0 → IsSavedIndexOf xs ys saved
-IsSavedIndexOf-empty xs ys saved empty none = record {
-  levels = [];
-  index = record {
-    none = λ _. refl;
-    some = λ some. absurd (omega arith);
-    each = λ i inside. absurd (omega arith);
-    last = λ i at_end. absurd (omega arith);
-    others = λ i inside. absurd (omega arith);
-  };
-  same = ext_slice_get saved.levels [] (λ k. slice_get_past saved.levels k (omega arith));
-}
-
-pub IsWrongAt-empty : (xs ys : List ℕ) (saved : SavedIndex) → length xs ≡ 0 → 0 < length saved.levels → IsWrongAt xs ys saved 0
-IsWrongAt-empty xs ys saved empty some = λ levels index. record {
-  same = λ k less. absurd (omega arith);
-  differs = λ equal.
-      let there = slice_get-get_or saved.levels 0 [] some in
-      let missing = saved_past levels 0 (omega (arith, index.none empty)) in
-      absurd (cc (there, missing, equal));
-}
-
 -- ---- the other way
 
 pub IsFirstDifference-unique : (one two : List (List SavedRun)) (i j : ℕ) → IsFirstDifference one two i → IsFirstDifference one two j → i ≡ j

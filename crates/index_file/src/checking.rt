@@ -21,9 +21,9 @@ use std::alloc::Global;
 /// of the index is built: each saved one is judged by what defines it, over the first x of the runs
 /// below it, from its last run back. So at most two looks at each point of a level are taken, one
 /// for the steep pair of its run and one for the flat pair, and a few steps for each run. A level
-/// is looked at where those below it are right, so all levels together have less than twice as many
-/// points as the lowest. Memory is taken for the points of one level above, at 12 bytes each,
-/// beside those of the level below it.
+/// is looked at where those below it are right, and then has about half of their points at most.
+/// Memory is taken for the points of one level above, at 12 bytes each, beside those of the level
+/// below it.
 ///
 /// # Errors
 ///

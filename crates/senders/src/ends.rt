@@ -227,7 +227,8 @@ impl Inbox {
     pub fn take<R: Wait>(&mut self, rt: &R) -> Option<(u32, Update)>
         ensures took { IfSome result (λ item. self.new.taken ≡ self.old.taken ++ item ∷ []) }
         ensures number { IfSome result (λ item. item.0 < self.old.origin.senders) }
-        ensures order { IfSome result (λ item. IsPrefix self.old.waiting (item ∷ self.new.waiting)) }
+        ensures order { IfSome result
+            (λ item. IsPrefix self.old.waiting (item ∷ self.new.waiting)) }
         ensures empty { IfNone result (self.old.waiting ≡ []) }
         ensures unchanged { IfNone result (self.new ≡ self.old) }
         ensures own { self.new.origin ≡ self.old.origin }
