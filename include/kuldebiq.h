@@ -125,8 +125,9 @@ typedef struct kuldebiq_pair {
  * places: both are at most 1,048,576. 64 and 4 are good for most keys. The number is how many keys
  * there are. What the handle held before is freed.
  *
- * Refused with KULDEBIQ_EPSILON_TOO_GREAT, KULDEBIQ_TOO_MANY_KEYS or KULDEBIQ_UNSORTED, judged in
- * this order, or with KULDEBIQ_NO_MEMORY. Then the handle holds what it held. */
+ * Refused with KULDEBIQ_EPSILON_TOO_GREAT, KULDEBIQ_TOO_MANY_KEYS, KULDEBIQ_UNSORTED or
+ * KULDEBIQ_NO_MEMORY. Where several hold, it isn't proved which of them is told. Then the handle
+ * holds what it held. */
 kuldebiq_answer kuldebiq_index_build(kuldebiq_index *index, const uint64_t *keys, size_t count,
                                      uint32_t epsilon, uint32_t epsilon_above);
 

@@ -25,8 +25,9 @@ use std::alloc::Global;
 /// many keys there are.
 ///
 /// `epsilon` is the error bound of level 0, in positions, and `epsilon_above` that of the levels
-/// above. What the handle held is let go. A refusal is `EPSILON_TOO_GREAT`, `TOO_MANY_KEYS` or
-/// `UNSORTED`, judged in this order, or `NO_MEMORY`, and then the handle holds what it held.
+/// above. What the handle held is let go. A refusal is `EPSILON_TOO_GREAT`, `TOO_MANY_KEYS`,
+/// `UNSORTED` or `NO_MEMORY`, and then the handle holds what it held; where several hold, no clause
+/// says which of them is told.
 #[unsafe(no_mangle)]
 pub extern "C" fn kuldebiq_index_build(
     alloc: Global,
