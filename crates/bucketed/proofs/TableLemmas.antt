@@ -1,6 +1,5 @@
 -- Entries of a table, by the order of the runs' first x.
 use Rattle.std.proofs.Common.{◌≡◌, ℕ, ◌+◌, ◌-◌, ◌*◌, ◌/◌, ◌^◌, ◌<◌, ◌≤◌, List, map, length, slice_index, sym, ap, ◌∙◌, subst, inl, inr, arith}
-use Rattle.std.specs.Prelude.{max, min}
 use Rattle.std.proofs.lemmas.Bool.{cases_lt}
 use Rattle.std.proofs.lemmas.Nat.{pow-add, le-div}
 use Rattle.std.proofs.Math.Nat.{mul-le-mul_left, mul-le-mul_right, div-mul-le_self}
@@ -34,6 +33,11 @@ buckets-few bits fits =
     let whole : 2 ^ 20 ≡ 2 ^ bits * 2 ^ (20 - bits) = ap (λ (n : ℕ). 2 ^ n) all ∙ pow-add 2 bits (20 - bits) in
     let some : 1 ≤ 2 ^ (20 - bits) = power_some (20 - bits) in
     omega (arith, whole, mul-le-mul_left (2 ^ bits) some)
+
+-- a bucket has an entry, and one behind it
+pub bucket_fits : (bits own q : ℕ) → bits ≡ own → bits ≤ 20 → q < 2 ^ 64 → (q / 2 ^ (64 - bits) < 2 ^ own) × (2 ^ own ≤ 1048576)
+bucket_fits bits own q same fits short =
+    (omega (arith, bucket-few bits q (omega arith) short, ap (λ (b : ℕ). 2 ^ b) same), omega (arith, buckets-few bits fits, ap (λ (b : ℕ). 2 ^ b) same))
 
 -- ---- the table, run by run
 
@@ -77,18 +81,3 @@ IsBetween-bucket bits xs q first last order low high =
 -- the first x of an index's runs never fall, by either name of the index
 pub order_of : (index value : PgmIndex) → value ≡ index → IsNonDecreasing (xs_at value.keys value.levels 1) → IsNonDecreasing (xs_at index.keys index.levels 1)
 order_of index value same order = subst (λ (i : PgmIndex). IsNonDecreasing (xs_at i.keys i.levels 1)) same order
-
--- what two tables say, together
-pub narrowed : (xs : List ℕ) (q low high from to first last : ℕ) → IsBetween xs q low high → IsBetween xs q from to → first ≡ max low from → last ≡ min high to → IsBetween xs q first last
-narrowed xs q low high from to first last one two lower upper = record {
-  begins = omega (arith, lower, one.begins, two.begins);
-  within = omega (arith, upper, one.within, two.within);
-  before = λ k less. elim (cases_lt k low) [
-    | inl under ↦ one.before k under
-    | inr past ↦ two.before k (omega (arith, lower))
-  ];
-  from = λ k past inside. elim (cases_lt k high) [
-    | inl under ↦ two.from k (omega (arith, upper)) inside
-    | inr above ↦ one.from k above inside
-  ];
-}

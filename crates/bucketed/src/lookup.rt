@@ -1,7 +1,6 @@
 // Lookups through the table.
-ghost use Rattle.std.specs.Prelude.{◌≡◌, ◌+◌, ◌-◌, ◌*◌, ◌<◌, ◌≤◌};
-ghost use Rattle.std.specs.Prelude.{◌^◌, ℕ, length, slice_index};
-ghost use Rattle.window_search.specs.Searches.{lb, IsPredecessor};
+ghost use Rattle.std.specs.Prelude.{◌≡◌, ◌-◌};
+ghost use Rattle.window_search.specs.Searches.{lb};
 ghost use Rattle.radix_table.specs.Tables.{IsBetween};
 ghost use Rattle.levels.specs.Costs.{TakesAtMost};
 ghost use Rattle.levels.specs.Indexes.{xs_at};
@@ -34,58 +33,22 @@ impl<'a> Buckets<'a> {
         ensures cost { TakesAtMost (lookup_bound self.now.index self.now.bits q) steps.old
             steps.new }
     {
-        let index = self.index();
-        let _runs = index.runs();
-        let begun = self.begun(q, steps);
-        if begun == 0 {
-            return 0;
-        }
-        index.lower_bound_in(begun - 1, q, steps)
+        let (least, most) = self.begun_between(q);
+        self.index().lower_bound_between(q, least, most, steps)
     }
 
-    /// How many runs of level 0 begin at or before `q`.
+    /// At least and at most how many runs of level 0 begin at or before `q`: those in lower
+    /// buckets, and those in its own too.
     #[inline(always)]
-    fn begun<L: Ledger>(&self, q: u64, steps: &mut Steps<L>) -> u32
-        ensures runs { IsBetween (xs_at self.now.index.keys self.now.index.levels 1) q result
-            result }
-        ensures cost { TakesAtMost (2 * (runs_beside self.now.index self.now.bits q + 1)) steps.old
-            steps.new }
-    {
-        let index = self.index();
-        let _runs = index.runs();
-        let (low, high) = self.begun_between(q);
-        let mut begun = low;
-        let mut left = high.saturating_sub(low);
-        while left > 0 {
-            let half = left / 2;
-            steps.tick();
-            if index.first_x(begun + half) <= q {
-                begun += half + 1;
-                left -= half + 1;
-            } else {
-                left = half;
-            }
-        }
-        begun
-    }
-
-    /// At least and at most how many runs of level 0 begin at or before `q`: by the bucket,
-    /// narrowed by what the table of the index tells.
-    #[inline(always)]
+    #[tactic(auto, using(crate::proofs::TableLemmas::bucket_fits))]
     pub(crate) fn begun_between(&self, q: u64) -> (u32, u32)
         ensures between { IsBetween (xs_at self.now.index.keys self.now.index.levels 1) q result.0
             result.1 }
-        ensures bucket { result.1 - result.0 ≤ runs_beside self.now.index self.now.bits q }
+        ensures bucket { result.1 - result.0 ≡ runs_beside self.now.index self.now.bits q }
     {
-        let index = self.index();
-        let _runs = index.runs();
+        let _runs = self.index().runs();
         let bucket = (q >> (64 - self.bits())) as u32;
-        let (low, high) = (self.entry(bucket), self.entry(bucket + 1));
-        let near = index.begun_near(q);
-        match near {
-            Some((from, to)) => (low.max(from), high.min(to)),
-            None => (low, high),
-        }
+        (self.entry(bucket), self.entry(bucket + 1))
     }
 }
 

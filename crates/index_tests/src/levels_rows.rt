@@ -379,10 +379,10 @@ fn positions_of<R: Abort + AllocGlobal>(
     Ok(found)
 }
 
-// More questions than go in step, of which the last ones go one by one: the numbers 0, 1, 2 and so
-// on, whose positions are counted one key at a time. By an index and without one.
+// More questions than are interleaved, of which the last ones go one by one: the numbers 0, 1, 2
+// and so on, whose positions are counted one key at a time. By an index and without one.
 #[test]
-fn questions_in_step(rt: HostRuntime) -> Result<(), Fail> {
+fn interleaved_questions(rt: HostRuntime) -> Result<(), Fail> {
     expect_ways(&rt, &[0, 1, 4, 9, 16, 25])?;
     expect_ways(&rt, &[3, 5, 5, 5, 9, 9, 10, 20, 20, 30])?;
     expect_ways(&rt, &[])?;

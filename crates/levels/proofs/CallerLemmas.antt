@@ -7,6 +7,5 @@ pub use Rattle.levels.proofs.IndexLemmas.{IsIndex-least, IsIndex-checked, laid-s
 pub use Rattle.levels.proofs.IndexExists.{IsIndex-some}
 pub use Rattle.levels.proofs.HeightLemmas.{long_level, levels_low, levels_low_over_runs}
 pub use Rattle.levels.proofs.RunsApart.{HasRun-each, HasRun-within, HasRun-unique}
-pub use Rattle.levels.proofs.RunLemmas.{first_x-order, first_run, lb-before_runs}
-pub use Rattle.levels.proofs.CostLemmas.{TakesAtMost-more, TakesAtMost-raise}
-pub use Rattle.levels.proofs.LaneLemmas.{block_positions, blocks_more, lane_done}
+pub use Rattle.levels.proofs.RunLemmas.{first_x-order}
+pub use Rattle.levels.proofs.LaneLemmas.{split_more, split_left}

@@ -1,4 +1,4 @@
--- One lane of questions in step, and a write to one lane.
+-- One lane of interleaved searches, and a write to one lane.
 use Rattle.std.proofs.Common.{◌≡◌, ℕ, ◌+◌, ◌-◌, ◌*◌, ◌%◌, ◌<◌, ◌≤◌, Bool, true, false, nat_lt, List, ◌++◌, map, take, drop, append_assoc, length, slice_index, refl, sym, ap, ◌∙◌, subst, inl, inr, arith}
 use Rattle.std.specs.Prelude.{slice_set, max}
 use Rattle.std.proofs.lemmas.Bool.{cases_lt}
@@ -8,7 +8,7 @@ use Rattle.std.proofs.lemmas.List.{get_or-set_same, get_or-set_other, get_or-map
 use Rattle.std.specs.List.Sorted.{IsNonDecreasing}
 use Rattle.window_search.specs.Searches.{lb, IsPredecessor}
 use Rattle.window_search.proofs.LowerBounds.{lb-is, predecessor_from, predecessor_before, lb_after, lb_not_after}
-use Rattle.levels.specs.InStep.{IsAmong, AreAmong, HasBound, AreRuns}
+use Rattle.levels.specs.Interleaved.{IsAmong, AreAmong, HasBound, AreRuns}
 
 -- a list of places, after a write to one lane: the lanes up to it, and those behind
 pub lane_done : (P : ℕ → ℕ → Type 0) (bases : List ℕ) (lane base : ℕ) → lane < length bases → ((k : ℕ) → k < lane → P k (slice_index bases k)) → P lane base →
@@ -129,21 +129,17 @@ AreRuns-from list qs bases among there = record { lanes = among.lanes; each = ea
         let same : place ≡ slice_index bases k = omega (arith, held.0, held.1) in
         subst (IsPredecessor list (slice_index qs k)) same found.1
 
--- a block more
-pub blocks_more : (f : ℕ → ℕ) (qs before rest block later out items more : List ℕ) → qs ≡ before ++ rest → rest ≡ block ++ later → items ≡ out ++ map f before → more ≡ items ++ map f block →
-    (qs ≡ (before ++ block) ++ later) × (more ≡ out ++ map f (before ++ block))
-blocks_more f qs before rest block later out items more all parts so_far next = (
-  all ∙ ap (λ (l : List ℕ). before ++ l) parts ∙ sym (append_assoc before block later),
-  next ∙ ap (λ (l : List ℕ). l ++ map f block) so_far ∙ append_assoc out (map f before) (map f block) ∙ ap (λ (l : List ℕ). out ++ l) (sym (map-append f before block)),
-)
-
--- the same where the block is the front of the rest, and as many are left as fewer are in the list
+-- a block more, which is the front of the rest
 pub split_more : (f : ℕ → ℕ) (at : ℕ) (qs rest block later out items more : List ℕ) → block ≡ take at rest → later ≡ drop at rest → more ≡ items ++ map f block →
     ((before : List ℕ) × (qs ≡ before ++ rest) × (items ≡ out ++ map f before)) → (before : List ℕ) × (qs ≡ before ++ later) × (more ≡ out ++ map f before)
 split_more f at qs rest block later out items more front back next (before, all, so_far) =
-    let both = blocks_more f qs before rest block later out items more all (sym (take-append-drop at rest) ∙ ap (λ (l : List ℕ). l ++ drop at rest) (sym front) ∙ ap (λ (l : List ℕ). block ++ l) (sym back)) so_far next in
-    (before ++ block, both.0, both.1)
+    let parts : rest ≡ block ++ later = sym (take-append-drop at rest) ∙ ap (λ (l : List ℕ). l ++ drop at rest) (sym front) ∙ ap (λ (l : List ℕ). block ++ l) (sym back) in (
+      before ++ block,
+      all ∙ ap (λ (l : List ℕ). before ++ l) parts ∙ sym (append_assoc before block later),
+      next ∙ ap (λ (l : List ℕ). l ++ map f block) so_far ∙ append_assoc out (map f before) (map f block) ∙ ap (λ (l : List ℕ). out ++ l) (sym (map-append f before block)),
+    )
 
+-- as many are left as fewer are in the list
 pub split_left : (f : ℕ → ℕ) (at : ℕ) (rest block later items more : List ℕ) → block ≡ take at rest → later ≡ drop at rest → more ≡ items ++ map f block →
     length more + length later ≡ length items + length rest
 split_left f at rest block later items more front back next = omega (

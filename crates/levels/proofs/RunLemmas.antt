@@ -1,12 +1,14 @@
 -- The runs of level 0, and the first x of each.
-use Rattle.std.proofs.Common.{◌≡◌, ℕ, ◌<◌, ◌≤◌, List, [], ◌∷◌, length, slice_index, sym, inl, inr, arith}
+use Rattle.std.proofs.Common.{◌≡◌, ℕ, ◌+◌, ◌-◌, ◌<◌, ◌≤◌, List, [], ◌∷◌, length, slice_index, sym, inl, inr, arith}
+use Rattle.std.specs.Prelude.{max, min}
 use Rattle.std.proofs.lemmas.Bool.{cases_lt}
-use Rattle.std.specs.List.Sorted.{IsNonDecreasing}
+use Rattle.std.specs.List.Sorted.{IsNonDecreasing, IsStrictlyIncreasing}
 use Rattle.exact_cross.specs.declared.segment.Segment.{Segment}
 use Rattle.exact_cross.specs.IndexLevels.{level_at}
 use Rattle.levels.specs.Indexes.{xs_at, IsLaidIndex}
-use Rattle.window_search.specs.Searches.{lb}
+use Rattle.window_search.specs.Searches.{lb, IsPredecessor}
 use Rattle.window_search.proofs.CallerLemmas.{lb-is}
+use Rattle.radix_table.specs.Tables.{IsBetween}
 use Rattle.levels.proofs.LevelLemmas.{xs_at-length, some_at}
 use Rattle.levels.proofs.LookupLemmas.{no_segment, ascends, first_at, IsNonDecreasing-from_rising}
 
@@ -54,3 +56,16 @@ lb-before_runs keys eps eps_rec levels q order index behind =
   where
     first : 0 < length keys → q ≤ slice_index keys 0
     first some = let run = first_run keys eps eps_rec levels order index some in omega (arith, run.1, behind 0 run.0)
+
+-- ---- how many runs begin at or before a question
+
+-- what two tables say, together
+pub narrowed : (xs : List ℕ) (q low high from to first last : ℕ) → IsBetween xs q low high → IsBetween xs q from to → first ≡ max low from → last ≡ min high to → IsBetween xs q first last
+narrowed xs q low high from to first last one two lower upper = grind arith
+
+-- the run of a question that is raised to the first x is among those from the last one that surely begins up to the last one that may
+pub raised_run : (xs : List ℕ) (q asked low high count place : ℕ) → IsStrictlyIncreasing xs → IsBetween xs q low high → asked ≡ max q (slice_index xs 0) → 1 ≤ count → high - (low - 1) ≤ count → IsPredecessor xs asked place →
+    (low - 1 ≤ place) × (place < low - 1 + count)
+raised_run xs q asked low high count place rises between is some wide found =
+    let order = IsNonDecreasing-from_rising xs rises in
+    grind (arith, rises 0, order 1 place 0, between.before 0, found.last (place + 1), between.before (place + 1), between.from place)

@@ -1,5 +1,5 @@
 -- The windows along a lookup: one more, all of them, and that there is one list of them.
-use Rattle.std.proofs.Common.{◌≡◌, inl, inr, ℕ, ◌+◌, ◌<◌, ◌≤◌, List, [], ◌∷◌, ◌++◌, length, slice_index, slice_index_or, ap, ◌∙◌, arith, Result, Ok, Err, is_ok, IsOk, if◌then◌else◌, ◌-◌, sym}
+use Rattle.std.proofs.Common.{◌≡◌, inl, inr, ℕ, ◌+◌, ◌<◌, ◌≤◌, List, [], ◌∷◌, ◌++◌, length, slice_index, slice_index_or, ap, ◌∙◌, arith, ◌-◌, sym}
 use Rattle.std.proofs.lemmas.Bool.{cases_lt}
 use Rattle.std.proofs.lemmas.List.{length-append, get_or_append_left, ext_get_or}
 use Rattle.std.proofs.lemmas.List.Elements.{All-push}
@@ -16,11 +16,6 @@ use Rattle.levels.specs.Indexes.{IsLaidIndex, xs_at, ys_at, points_at}
 use Rattle.levels.proofs.RunsApart.{HasRun-each, HasRun-within, HasRun-unique}
 use Rattle.levels.proofs.LookupLemmas.{ascends}
 use Rattle.levels.specs.Lookups.{extent_at, IsWindowAt, AreWindows, HoldsAnswers, IsNarrow, HasWindowsTo}
-
--- a push that succeeds
-pub pushed : {X E : Type 0} (r : Result (Unit {0}) E) (items before after : List X) → IsOk r → items ≡ (if is_ok r then after else before) → items ≡ after
-pushed (Ok x) items before after ok is = is
-pushed (Err x) items before after ok is = cc
 
 module _ (keys : List ℕ) (eps eps_rec : ℕ) (levels : List (List Segment)) (q : ℕ) where
   -- no level yet

@@ -4,7 +4,7 @@ pub mod Entries
 pub mod Costs
 pub mod Lookups
 pub mod Models
-pub mod InStep
+pub mod Interleaved
 pub mod Heights
 pub use Rattle.exact_cross.specs.Points
 pub use Rattle.exact_cross.specs.Covers

@@ -116,14 +116,18 @@ impl Index {
         self.table.places(q)
     }
 
-    /// At least and at most how many runs of level 0 begin at or before `q`, where the table of the
-    /// runs' first x tells. No steps are counted. Cannot fail and takes no memory.
+    /// At least and at most how many runs of level 0 begin at or before `q`: the counts that are
+    /// known, narrowed by the table of the runs' first x.
     #[inline(always)]
-    pub fn begun_near(&self, q: u64) -> Option<(u32, u32)>
-        ensures { IfSome result (λ counts.
-            IsBetween (xs_at self.now.keys self.now.levels 1) q counts.0 counts.1) }
+    pub(crate) fn begun_between(&self, q: u64, least: u32, most: u32) -> (u32, u32)
+        requires between { IsBetween (xs_at self.now.keys self.now.levels 1) q least most }
+        ensures between { IsBetween (xs_at self.now.keys self.now.levels 1) q result.0 result.1 }
+        ensures narrower { result.1 - result.0 ≤ most - least }
     {
-        self.table.counts(q)
+        match self.table.counts(q) {
+            Some((from, to)) => (least.max(from), most.min(to)),
+            None => (least, most),
+        }
     }
 
     /// The level at which lookups start that the table doesn't lead.

@@ -1,6 +1,6 @@
-// Where a question's position is, for callers that search the files of several indexes in step.
+// Where a question's position is, for callers that interleave searches of several files.
 ghost use Rattle.std.specs.Prelude.{◌≡◌, ◌+◌, ◌*◌, ◌<◌, min, length};
-ghost use Rattle.levels.specs.InStep.{HasBound};
+ghost use Rattle.levels.specs.Interleaved.{HasBound};
 
 use crate::index::Index;
 use budget::Steps;

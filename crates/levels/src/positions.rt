@@ -5,17 +5,17 @@ ghost use Rattle.std.specs.List.Sorted.{IsNonDecreasing};
 ghost use Rattle.window_search.specs.Searches.{lb, IsPredecessor};
 ghost use Rattle.exact_cross.specs.IndexLevels.{eps_at};
 ghost use Rattle.levels.specs.Indexes.{IsLaidIndex, xs_at};
-ghost use Rattle.levels.specs.InStep.{IsAmong, HasBound, AreNear, AreRuns};
+ghost use Rattle.levels.specs.Interleaved.{IsAmong, HasBound, AreNear, AreRuns};
 
-use crate::in_step::{LANES, bounds_in_step, predecessors_in_step};
 use crate::index::Index;
+use crate::interleaved::{LANES, bounds_interleaved, predecessors_interleaved};
 
 impl Index {
     /// The position of each question in the file, in order, behind what the list has: how many keys
     /// of the file are below the question.
     ///
-    /// The list has room for as many more. Sixteen questions go through the levels in step, so that
-    /// their reads of memory don't wait for one another. No steps are counted. Cannot fail and
+    /// The list has room for as many more. The searches of sixteen questions are interleaved, so
+    /// that their reads of memory don't wait for one another. No steps are counted. Cannot fail and
     /// takes no memory.
     pub fn positions(&self, qs: &[u64], into: &mut Vec<u32>)
         requires room { vec_len into.old + length qs.now ≤ vec_capacity into.old }
@@ -40,11 +40,11 @@ impl Index {
         ensures capacity { vec_capacity into.old ≤ vec_capacity into.new }
     {
         for q in qs {
-            let _ = into.push(self.position(*q));
+            into.push_reserved(self.position(*q));
         }
     }
 
-    /// The positions of sixteen questions, in step.
+    /// The positions of sixteen questions, whose searches are interleaved.
     #[inline(always)]
     fn push_block(&self, qs: &[u64], into: &mut Vec<u32>)
         requires some { 0 < length self.now.keys }
@@ -61,7 +61,7 @@ impl Index {
         let mut places = [0; LANES];
         self.find_block(&asked, &mut places);
         for place in &places {
-            let _ = into.push(*place);
+            into.push_reserved(*place);
         }
     }
 
@@ -82,7 +82,7 @@ impl Index {
         let mut lows = [0; LANES];
         match self.spans_near(qs, &mut lows) {
             Some(count) => self.runs_among(qs, &lows, count, places),
-            None => self.runs_by_levels_in_step(qs, places),
+            None => self.runs_by_levels_interleaved(qs, places),
         }
         self.bounds_below(qs, places);
     }
@@ -139,12 +139,12 @@ impl Index {
         for lane in 0..LANES {
             runs[lane] = lows[lane].min(last);
         }
-        predecessors_in_step(list, qs, runs, count);
+        predecessors_interleaved(list, qs, runs, count);
     }
 
     /// The runs of level 0 by the levels above.
     #[inline(never)]
-    fn runs_by_levels_in_step(&self, qs: &[u64; 16], places: &mut [u32; 16])
+    pub(crate) fn runs_by_levels_interleaved(&self, qs: &[u64; 16], places: &mut [u32; 16])
         requires never_falls { IsNonDecreasing self.now.keys }
         requires few { length self.now.keys < 2 ^ 32 }
         requires index { IsLaidIndex self.now.keys self.now.eps self.now.eps_rec self.now.levels }
@@ -178,7 +178,7 @@ impl Index {
         for lane in 0..LANES {
             runs[lane] = self.start_among(level, runs[lane], qs[lane], count);
         }
-        predecessors_in_step(list, qs, runs, count);
+        predecessors_interleaved(list, qs, runs, count);
     }
 
     /// Where `count` places begin that hold the predecessor in the list of a level.
@@ -215,7 +215,7 @@ impl Index {
         for lane in 0..LANES {
             runs[lane] = self.start_bound(runs[lane], qs[lane], count);
         }
-        bounds_in_step(file, qs, runs, count);
+        bounds_interleaved(file, qs, runs, count);
     }
 
     /// Where `count` places begin that hold the position in the file.

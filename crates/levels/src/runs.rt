@@ -1,12 +1,13 @@
-// Lookups that begin at a run of level 0, for callers that find the run by other means.
-ghost use Rattle.std.specs.Prelude.{◌≡◌, ◌+◌, ◌*◌, ◌<◌, ◌≤◌, ◌^◌, ℕ, length, slice_index};
+// The runs of level 0, and lookups among those that a caller's own table leaves open.
+ghost use Rattle.std.specs.Prelude.{◌≡◌, ◌+◌, ◌-◌, ◌*◌, ◌<◌, ◌≤◌, ◌^◌, ℕ, length, slice_index};
 ghost use Rattle.std.specs.List.Sorted.{IsNonDecreasing};
-ghost use Rattle.window_search.specs.Searches.{lb, IsPredecessor};
+ghost use Rattle.window_search.specs.Searches.{lb};
+ghost use Rattle.radix_table.specs.Tables.{IsBetween};
 ghost use Rattle.levels.specs.Costs.{TakesAtMost};
 ghost use Rattle.levels.specs.Indexes.{IsLaidIndex, xs_at};
-ghost use Rattle.levels.specs.InStep.{AreNear};
 
 use crate::index::Index;
+use crate::interleaved::LANES;
 use budget::Steps;
 use std::sync::ledger::Ledger;
 use window_search::lower_in;
@@ -38,47 +39,103 @@ impl Index {
         self.model_of(0, run).first
     }
 
-    /// The lower bound of `q`, searched in the window of the run of level 0 that is known to begin
-    /// last at or before `q`: how many keys of the file are below `q`.
+    /// The lower bound of `q`, where at least `least` and at most `most` runs of level 0 are known
+    /// to begin at or before it: how many keys of the file are below `q`.
     ///
-    /// A step is a key read; two to their number is at most twice a window's places. Cannot fail
-    /// and takes no memory.
+    /// The last run that begins at or before `q` is searched among those left open, which the
+    /// index's own table narrows, and then the position in its window. A step is a key read; two to
+    /// their number is at most 4 times a window's places, times one more than the runs left open.
+    /// Cannot fail and takes no memory.
     #[inline(always)]
-    pub fn lower_bound_in<L: Ledger>(&self, run: u32, q: u64, steps: &mut Steps<L>) -> u32
-        requires run { IsPredecessor (xs_at self.now.keys self.now.levels 1) q run }
+    pub fn lower_bound_between<L: Ledger>(
+        &self,
+        q: u64,
+        least: u32,
+        most: u32,
+        steps: &mut Steps<L>,
+    ) -> u32
+        requires between { IsBetween (xs_at self.now.keys self.now.levels 1) q least most }
         ensures found { result ≡ lb self.now.keys q }
-        ensures cost { TakesAtMost (2 * (2 * self.now.eps + 3)) steps.old steps.new }
+        ensures cost { TakesAtMost (4 * (most - least + 1) * (2 * self.now.eps + 3)) steps.old
+            steps.new }
     {
         let _runs = self.runs();
         let keys = self.keys().file();
-        let (low, high) = self.window_by_model(0, run, q);
+        let begun = self.begun(q, least, most, steps);
+        if begun == 0 {
+            return 0;
+        }
+        let (low, high) = self.window_by_model(0, begun - 1, q);
         lower_in(keys, low, high, q, steps)
     }
 
-    /// The lower bounds of sixteen questions, in step: how many keys of the file are below each.
-    ///
-    /// No question is below the first key, and the run of level 0 that begins last at or before it
-    /// is known to be among `count` from its low end on. No steps are counted. Cannot fail and takes
-    /// no memory.
+    /// How many runs of level 0 begin at or before `q`.
     #[inline(always)]
-    pub fn lower_bounds_among(
+    fn begun<L: Ledger>(&self, q: u64, least: u32, most: u32, steps: &mut Steps<L>) -> u32
+        requires between { IsBetween (xs_at self.now.keys self.now.levels 1) q least most }
+        ensures runs { IsBetween (xs_at self.now.keys self.now.levels 1) q result result }
+        ensures cost { TakesAtMost (2 * (most - least + 1)) steps.old steps.new }
+    {
+        let _runs = self.runs();
+        let (low, high) = self.begun_between(q, least, most);
+        let mut begun = low;
+        let mut left = high.saturating_sub(low);
+        while left > 0 {
+            let half = left / 2;
+            steps.tick();
+            if self.first_x(begun + half) <= q {
+                begun += half + 1;
+                left -= half + 1;
+            } else {
+                left = half;
+            }
+        }
+        begun
+    }
+
+    /// The lower bounds of sixteen questions, where at least and at most so many runs of level 0
+    /// are known to begin at or before each: how many keys of the file are below each.
+    ///
+    /// They are searched as by [`Index::lower_bound_between`], interleaved, so that their reads of
+    /// memory don't wait for one another. No steps are counted. Cannot fail and takes no memory.
+    #[inline(always)]
+    pub fn lower_bounds_between(
         &self,
         qs: &[u64; 16],
-        lows: &[u32; 16],
-        count: u32,
+        least: &[u32; 16],
+        most: &[u32; 16],
         places: &mut [u32; 16],
     )
-        requires some { 0 < length self.now.keys }
-        requires above { 1 < length self.now.levels }
-        requires from_first { (k : ℕ) → k < 16 →
-            slice_index self.now.keys 0 ≤ slice_index qs.now k }
-        requires near { AreNear (xs_at self.now.keys self.now.levels 1) qs.now lows.now count }
+        requires between { (k : ℕ) → k < 16 → IsBetween (xs_at self.now.keys self.now.levels 1)
+            (slice_index qs.now k) (slice_index least.now k) (slice_index most.now k) }
         ensures lanes { length places.new ≡ 16 }
         ensures found { (k : ℕ) → k < 16 → slice_index places.new k ≡ lb self.now.keys
             (slice_index qs.now k) }
     {
         let _runs = self.runs();
-        self.runs_among(qs, lows, count, places);
-        self.bounds_below(qs, places);
+        *places = [0; LANES];
+        let keys = self.keys();
+        if keys.is_empty() {
+            return;
+        }
+        let first = keys.file()[0];
+        let mut asked = [0; LANES];
+        for lane in 0..LANES {
+            asked[lane] = qs[lane].max(first);
+        }
+        let mut lows = [0; LANES];
+        let mut count: u32 = 1;
+        for lane in 0..LANES {
+            let (low, high) = self.begun_between(qs[lane], least[lane], most[lane]);
+            let run = low.saturating_sub(1);
+            lows[lane] = run;
+            count = count.max(high.saturating_sub(run));
+        }
+        if self.levels() > 1 {
+            self.runs_among(&asked, &lows, count, places);
+        } else {
+            self.runs_by_levels_interleaved(&asked, places);
+        }
+        self.bounds_below(&asked, places);
     }
 }

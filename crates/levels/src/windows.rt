@@ -110,7 +110,7 @@ impl Index {
         ensures holds { HoldsAnswers self.now.keys self.now.levels level q result.0 result.1 }
     {
         let (low, high) = self.window_of(level, run, q);
-        let _ = into.push((level, low, high));
+        into.push_reserved((level, low, high));
         (low, high)
     }
 }

@@ -6,12 +6,14 @@ use Rattle.std.proofs.lemmas.List.{append_assoc, drop-append-le}
 use Rattle.std.proofs.lemmas.Nat.{div-add-mod', mod_below}
 use Rattle.tombstones.specs.declared.entry.Entry.{Entry}
 use Rattle.tombstones.specs.Entries.{IsAscending, entry_at, winner_at, kept}
-use Rattle.log_levels.specs.Shapes.{Held, capacity_of, IsCutOf, IsLevelFor, IsLastOfEach, last_at, level_of, from_bit, block_of}
+use Rattle.map_level.specs.Levels.{IsLastOfEach, last_at}
+use Rattle.log_levels.specs.Shapes.{Held, capacity_of, IsCutOf, IsLevelFor, level_of, from_bit, block_of}
 use Rattle.log_levels.specs.Kept.{IsMergedTo, IsHighestChange}
 use Rattle.log_levels.proofs.BitLemmas.{from_bit-zero, from_bit-le, from_bit-gt, from_bit-antitone, from_bit-clear, from_bit-set, none-left, some-left, some-left-below, same-above}
 use Rattle.log_levels.proofs.CutLemmas.{behind, behind-more, drop-append-ge, block-clear, block-behind, block-before, block-across}
 use Rattle.log_levels.proofs.HeldLemmas.{room_is}
-use Rattle.log_levels.proofs.LastLemmas.{last_at-append, kept-winner}
+use Rattle.map_level.proofs.LastLemmas.{last_at-append}
+use Rattle.log_levels.proofs.KeptLemmas.{kept-winner}
 use Rattle.log_levels.proofs.LengthLemmas.{length-latest}
 
 -- at the start there are the last entries of the buffer and the new entries behind it, kept

@@ -9,9 +9,9 @@ use Rattle.std.proofs.lemmas.Map.Keys.{IsDistinct-from_apart}
 use Rattle.std.proofs.lemmas.Map.Made.{length-le_from_is_member}
 use Rattle.tombstones.specs.declared.entry.Entry.{Entry}
 use Rattle.tombstones.specs.Entries.{entry_at, kept}
-use Rattle.log_levels.specs.Shapes.{IsLastOfEach, last_at, level_keys}
-use Rattle.log_levels.proofs.LastLemmas.{last_at-cons}
-use Rattle.log_levels.proofs.LevelLemmas.{keys-rise, length-level_keys}
+use Rattle.map_level.specs.Levels.{IsLastOfEach, last_at, level_keys}
+use Rattle.map_level.proofs.LastLemmas.{last_at-cons}
+use Rattle.map_level.proofs.LevelLemmas.{keys-rise, length-level_keys}
 
 member-entry_at : (entries : List Entry) (key : ℕ) → is_member eqb (level_keys entries) key ≡ is_some (entry_at entries key)
 member-entry_at [] key = refl

@@ -7,7 +7,8 @@ use Rattle.std.proofs.lemmas.Bool.{cases_lt}
 use Rattle.std.specs.Int.{bit_at, trailing_zeros, w64}
 use Rattle.std.specs.Prelude.{bit_and}
 use Rattle.tombstones.specs.declared.entry.Entry.{Entry}
-use Rattle.log_levels.specs.Shapes.{Held, IsCutOf, IsLevelFor, last_at, level_of, from_bit}
+use Rattle.map_level.specs.Levels.{last_at}
+use Rattle.log_levels.specs.Shapes.{Held, IsCutOf, IsLevelFor, level_of, from_bit}
 use Rattle.log_levels.specs.Kept.{value_of, entry_in}
 use Rattle.log_levels.proofs.SearchLemmas.{search-none, search-in-found, search-in-missed, blocks-few}
 use Rattle.log_levels.proofs.BitLemmas.{from_bit-zero, from_bit-le, from_bit-clear, from_bit-set, power-more}

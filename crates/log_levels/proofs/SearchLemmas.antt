@@ -7,13 +7,14 @@ use Rattle.std.proofs.lemmas.List.{take-append-drop}
 use Rattle.std.proofs.lemmas.Nat.{div_below}
 use Rattle.tombstones.specs.declared.entry.Entry.{Entry}
 use Rattle.tombstones.specs.Entries.{entry_at, kept, with_value}
-use Rattle.log_levels.specs.Shapes.{Held, IsCutOf, IsLevelFor, last_at, level_of, from_bit, block_of}
+use Rattle.map_level.specs.Levels.{last_at}
+use Rattle.log_levels.specs.Shapes.{Held, IsCutOf, IsLevelFor, level_of, from_bit, block_of}
 use Rattle.log_levels.specs.Kept.{value_of, IsAbsent, entry_in}
 use Rattle.tombstones.proofs.CallerLemmas.{Contains-entry_at, key-entry_at}
 use Rattle.log_levels.proofs.LengthLemmas.{some-last_at}
 use Rattle.log_levels.proofs.BitLemmas.{from_bit-zero, from_bit-small}
 use Rattle.log_levels.proofs.CutLemmas.{before, before-more, block-clear}
-use Rattle.log_levels.proofs.LastLemmas.{last_at-append}
+use Rattle.map_level.proofs.LastLemmas.{last_at-append}
 
 -- at the start: no entry in the buffer
 pub search-none : (entries buffer : List Entry) (f key : ℕ) → buffer ≡ drop (64 * f) entries → last_at buffer key ≡ None → last_at entries key ≡ last_at (before entries f 0) key

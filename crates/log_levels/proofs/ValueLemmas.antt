@@ -9,9 +9,9 @@ use Rattle.log_levels.specs.declared.update.Update.{Update}
 use Rattle.log_levels.specs.declared.update.Update.TheVariants.{Put, Del, Sweep}
 use Rattle.log_levels.specs.Maps.{is_between, updated, map_after, value_at}
 use Rattle.log_levels.specs.Accepted.{put_entry, del_entry, keys_between, entries_for, entries_from, entries_of}
-use Rattle.log_levels.specs.Shapes.{last_at}
+use Rattle.map_level.specs.Levels.{last_at}
 use Rattle.log_levels.specs.Kept.{value_of}
-use Rattle.log_levels.proofs.LastLemmas.{last_at-append, last_at-cons}
+use Rattle.map_level.proofs.LastLemmas.{last_at-append, last_at-cons}
 use Rattle.log_levels.proofs.MapLemmas.{RisesFrom, rises-updated, value-here, value-later, value-insert-same, value-insert-other, value-remove-same, value-remove-other, value-filter-kept, value-filter-dropped}
 
 -- of deletions none has a value

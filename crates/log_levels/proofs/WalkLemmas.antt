@@ -9,9 +9,10 @@ use Rattle.log_levels.proofs.UpdateLemmas.{entries_of-sweep}
 use Rattle.std.proofs.lemmas.List.{length-map}
 use Rattle.log_levels.specs.Maps.{map_after, next_from, count_between}
 use Rattle.log_levels.specs.Accepted.{entries_of, entries_for, keys_between, del_entry}
-use Rattle.log_levels.specs.Shapes.{Held, IsCutOf, IsLevelFor, last_at, level_of}
-use Rattle.log_levels.specs.Kept.{IsAbsent, ArePlaces, IsBelow, IsNextLive, value_of}
-use Rattle.log_levels.proofs.LevelLemmas.{place-stays}
+use Rattle.map_level.specs.Levels.{last_at, IsBelow}
+use Rattle.log_levels.specs.Shapes.{Held, IsCutOf, IsLevelFor, level_of}
+use Rattle.log_levels.specs.Kept.{IsAbsent, ArePlaces, IsNextLive, value_of}
+use Rattle.map_level.proofs.LevelLemmas.{place-stays}
 use Rattle.log_levels.proofs.SearchLemmas.{absent-value}
 use Rattle.log_levels.proofs.ValueLemmas.{value-after}
 use Rattle.log_levels.proofs.MapLemmas.{rises-after, next-is, next-none, keys-step, keys-end, count-keys}

@@ -1,4 +1,4 @@
--- How levels and maps are kept. No public clause cites it.
+-- How maps are kept. No public clause cites it.
 use Rattle.std.specs.Prelude.{◌≡◌, ℕ, ◌+◌, ◌*◌, ◌/◌, ◌≤◌, ◌<◌, ◌^◌, ◌==◌, List, ◌++◌, length, map, drop, Option, Some, None, slice_index, ⊤}
 use Rattle.window_search.specs.Searches.{lb}
 use Rattle.std.specs.Int.{bit_at}
@@ -7,22 +7,13 @@ use Rattle.std.specs.declared.sync.Arc.{Arc}
 use Rattle.std.specs.Arc.{arc_value}
 use Rattle.tombstones.specs.declared.entry.Entry.{Entry}
 use Rattle.tombstones.specs.Entries.{IsAscending, entry_at, kept}
-use Rattle.levels.specs.Indexes.{PgmIndex, IsIndex}
 use Rattle.log_levels.specs.declared.fault.MapFault.{MapFault}
 use Rattle.log_levels.specs.declared.fault.MapFault.TheVariants.{Full, NoMemory}
 use Rattle.log_levels.specs.declared.update.Update.{Update}
 use Rattle.log_levels.specs.declared.update.Update.TheVariants.{Put, Del, Sweep}
 use Rattle.log_levels.specs.Accepted.{put_entry, del_entry}
-use Rattle.log_levels.specs.Shapes.{Held, IsCutOf, level_keys, level_of, from_bit, last_at}
-
--- the index is the one of the entries' keys
-pub record IsIndexed (entries : List Entry) (index : PgmIndex) : Type 0 where
-  pub ascending : IsAscending entries
-  pub few : length entries < 2 ^ 32
-  pub keys : index.keys ≡ level_keys entries
-  pub eps : index.eps ≡ 64
-  pub eps_rec : index.eps_rec ≡ 4
-  pub levels : IsIndex index.keys 64 4 index.levels
+use Rattle.map_level.specs.Levels.{level_keys, last_at}
+use Rattle.log_levels.specs.Shapes.{Held, IsCutOf, level_of, from_bit}
 
 -- the entries of shared levels
 abbrev pub levels_of : {Z : Type 0} → List (Option (Arc (List Entry) Z)) → List (Option (List Entry))
@@ -68,11 +59,6 @@ pub record IsAbsent (held : Held) (key : ℕ) : Type 0 where
 pub record ArePlaces (held : Held) (places : List ℕ) (key : ℕ) : Type 0 where
   pub count : length places ≡ 26
   pub each : (i : ℕ) (level : List Entry) → i < length held.levels → level_of held i ≡ Some level → slice_index places i ≡ lb (level_keys level) key
-
--- the key is below the least one, if there is one
-abbrev pub IsBelow : ℕ → Option ℕ → Type 0
-IsBelow key None = ⊤
-IsBelow key (Some least) = key < least
 
 -- what a level has at a key, if it is occupied
 abbrev pub entry_in : Option (List Entry) → ℕ → Option Entry

@@ -1,9 +1,7 @@
 pub mod Maps
 pub mod Accepted
 pub mod Shapes
+pub mod Kept
 pub use Rattle.tombstones.specs.Entries
 pub use Rattle.levels.specs.Indexes
-pub mod Kept
-pub mod Builders
-pub mod Filters
-pub mod Words
+pub use Rattle.map_level.specs.Levels

@@ -1,9 +1,9 @@
 -- The shape of the logarithmic form: a cut of one list of entries by the bits of a number.
 -- Source: J. L. Bentley and J. B. Saxe, Decomposable searching problems, J. Algorithms 1(4), 1980.
-use Rattle.std.specs.Prelude.{◌≡◌, ℕ, ◌+◌, ◌-◌, ◌*◌, ◌/◌, ◌^◌, ◌<◌, ◌==◌, Bool, List, length, take, drop, reverse, map, Option, Some, None, slice_index_or}
+use Rattle.std.specs.Prelude.{◌≡◌, ℕ, ◌+◌, ◌-◌, ◌*◌, ◌/◌, ◌^◌, ◌<◌, ◌==◌, List, length, take, drop, Option, Some, None, slice_index_or}
 use Rattle.std.specs.Int.{bit_at}
 use Rattle.tombstones.specs.declared.entry.Entry.{Entry}
-use Rattle.tombstones.specs.Entries.{IsAscending, entry_at, kept}
+use Rattle.map_level.specs.Levels.{IsLastOfEach}
 use Rattle.log_levels.specs.declared.update.Update.{Update}
 use Rattle.log_levels.specs.Accepted.{entries_of}
 
@@ -21,10 +21,6 @@ capacity_of held = 64 * 2 ^ length held.levels - 1
 abbrev pub level_of : Held → ℕ → Option (List Entry)
 level_of held i = slice_index_or held.levels i None
 
--- the keys of a level, rising
-abbrev pub level_keys : List Entry → List ℕ
-level_keys entries = map (λ entry. entry.key) entries
-
 -- the number without its bits below bit i
 abbrev pub from_bit : ℕ → ℕ → ℕ
 from_bit i f = f / 2 ^ i * 2 ^ i
@@ -32,15 +28,6 @@ from_bit i f = f / 2 ^ i * 2 ^ i
 -- the block of level i, where f blocks of 64 entries are cut from the highest bit of f down: behind the blocks of the bits above i as many as bit i says
 abbrev pub block_of : List Entry → ℕ → ℕ → List Entry
 block_of entries f i = take (64 * (bit_at f i * 2 ^ i)) (drop (64 * from_bit (i + 1) f) entries)
-
--- the last of the entries with a key, if there is one
-abbrev pub last_at : List Entry → ℕ → Option Entry
-last_at entries key = entry_at (reverse entries) key
-
--- the last entry of each key, by rising key; in the deepest level those with a value alone
-pub record IsLastOfEach (deepest : Bool) (entries level : List Entry) : Type 0 where
-  pub ascending : IsAscending level
-  pub lasts : (key : ℕ) → entry_at level key ≡ kept deepest (last_at entries key)
 
 -- bit i of f says whether level i is occupied, and an occupied level has its block; the deepest one is that of the highest bit
 abbrev pub IsLevelFor : List Entry → ℕ → ℕ → Option (List Entry) → Type 0

@@ -10,15 +10,14 @@ ghost use Rattle.std.specs.Int.{bit_at};
 ghost use Rattle.std.specs.Arc.{arc_value};
 ghost use Rattle.tombstones.specs.declared.entry.Entry.{Entry};
 ghost use Rattle.tombstones.specs.Entries.{IsAscending, entry_at, kept};
-ghost use Rattle.log_levels.specs.Shapes.{IsCutOf, IsLastOfEach, IsLevelFor};
+ghost use Rattle.map_level.specs.Levels.{IsLastOfEach};
+ghost use Rattle.log_levels.specs.Shapes.{IsCutOf, IsLevelFor};
 ghost use Rattle.log_levels.specs.Shapes.{capacity_of, level_of, from_bit};
 ghost use Rattle.log_levels.specs.Kept.{IsMergedTo, IsHighestChange, shared_of, levels_of};
 
-use crate::builder::Builder;
-use crate::latest::latest_of;
-use crate::level::Level;
 use crate::log_map::{BLOCK, LogMap};
 use budget::NoMemory;
+use map_level::{Builder, Level, latest_of};
 use std::alloc::Global;
 use std::cmp::Ordering;
 use std::sync::Arc;

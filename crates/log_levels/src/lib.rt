@@ -13,13 +13,8 @@
 #![tactic(auto)]
 
 mod apply;
-mod builder;
 mod fault;
-mod filter;
-mod grid;
 mod growth;
-mod latest;
-mod level;
 mod log_map;
 mod questions;
 mod update;
@@ -30,6 +25,3 @@ pub use fault::MapFault;
 pub use log_map::{LogMap, one_map};
 pub use tombstones::Entry;
 pub use update::Update;
-
-#[cfg(test)]
-mod tests;

@@ -9,13 +9,14 @@ ghost use Rattle.tombstones.specs.Entries.{IsAscending};
 ghost use Rattle.levels.specs.Indexes.{IsIndex};
 ghost use Rattle.log_levels.specs.declared.update.Update.{Update};
 ghost use Rattle.log_levels.specs.Shapes.{Held, StandsFor, capacity_of};
-ghost use Rattle.log_levels.specs.Shapes.{level_of, level_keys, from_bit};
+ghost use Rattle.map_level.specs.Levels.{level_keys};
+ghost use Rattle.log_levels.specs.Shapes.{level_of, from_bit};
 ghost use Rattle.log_levels.specs.Maps.{map_after};
 ghost use Rattle.log_levels.specs.Accepted.{entries_of};
 
-use crate::level::{EPS, EPS_REC, Level};
 use budget::NoMemory;
 use levels::Index;
+use map_level::{EPS, EPS_REC, Level};
 use std::alloc::Global;
 use std::marker::Model;
 use std::sync::Arc;

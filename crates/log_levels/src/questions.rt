@@ -6,11 +6,12 @@ ghost use Rattle.std.specs.Option.{option_copied};
 ghost use Rattle.tombstones.specs.declared.entry.Entry.{Entry};
 ghost use Rattle.log_levels.specs.declared.update.Update.{Update};
 ghost use Rattle.log_levels.specs.Maps.{map_after, value_at, next_from, count_between};
-ghost use Rattle.log_levels.specs.Shapes.{IsCutOf, StandsFor, last_at};
+ghost use Rattle.map_level.specs.Levels.{last_at};
+ghost use Rattle.log_levels.specs.Shapes.{IsCutOf, StandsFor};
 ghost use Rattle.log_levels.specs.Kept.{value_of};
 
-use crate::filter::{bits, hash};
 use crate::log_map::{LogMap, lowest_and_rest};
+use map_level::HashedKey;
 use tombstones::Entry;
 
 impl LogMap {
@@ -73,12 +74,11 @@ impl LogMap {
         ensures { (entries : List Entry) → IsCutOf self.now entries →
             result ≡ value_of (last_at entries key) }
     {
-        let hash = hash(key);
-        let bits = bits(hash);
+        let hashed = HashedKey::of(key);
         let mut rest = self.occupied();
         while rest != 0 {
             let (i, behind) = lowest_and_rest(rest);
-            if let Some(entry) = self.occupied_level(i).entry(key, hash, bits) {
+            if let Some(entry) = self.occupied_level(i).entry(&hashed) {
                 return entry.value;
             }
             rest = behind;

@@ -10,10 +10,10 @@ ghost use Rattle.log_levels.specs.Shapes.{IsCutOf, StandsFor, capacity_of};
 ghost use Rattle.log_levels.specs.Maps.{map_after, count_between};
 ghost use Rattle.log_levels.specs.Accepted.{entries_of, entries_for};
 
-use crate::builder::{Builder, Here};
 use crate::fault::MapFault;
 use crate::log_map::LogMap;
 use budget::NoMemory;
+use map_level::{Builder, Here};
 use std::alloc::Global;
 use tombstones::Entry;
 

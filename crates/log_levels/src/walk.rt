@@ -4,10 +4,11 @@ ghost use Rattle.std.specs.Prelude.{◌++◌, ℕ, List, length, All};
 ghost use Rattle.std.specs.Prelude.{Option, Some, None, IfSome, MatchOption, slice_index};
 ghost use Rattle.std.specs.Option.{option_copied};
 ghost use Rattle.tombstones.specs.declared.entry.Entry.{Entry};
-ghost use Rattle.log_levels.specs.Shapes.{IsCutOf, last_at, level_of, level_keys};
+ghost use Rattle.map_level.specs.Levels.{last_at, level_keys, IsBelow};
+ghost use Rattle.log_levels.specs.Shapes.{IsCutOf, level_of};
 ghost use Rattle.window_search.specs.Searches.{lb};
 ghost use Rattle.tombstones.specs.Entries.{entry_at};
-ghost use Rattle.log_levels.specs.Kept.{ArePlaces, IsAbsent, IsBelow};
+ghost use Rattle.log_levels.specs.Kept.{ArePlaces, IsAbsent};
 ghost use Rattle.log_levels.specs.Kept.{IsNextLive, entry_in, value_of};
 
 use crate::log_map::{LogMap, lowest_and_rest};
@@ -20,7 +21,8 @@ pub type Places = [usize; 26];
 impl LogMap {
     /// The places of a key.
     ///
-    /// All levels are searched in step, so that their reads of memory don't wait for one another.
+    /// The searches of all levels are interleaved, so that their reads of memory don't wait for one
+    /// another.
     pub(crate) fn places(&self, key: u64) -> Places
         ensures { ArePlaces self.now result key }
     {

@@ -1,5 +1,5 @@
-//! The examples that READMEs quote, and worked rows of the inputs that are drawn, by public calls
-//! alone.
+//! The examples that READMEs quote, and worked rows of merges, of the map and its versions, of
+//! senders and of the inputs that are drawn, by public calls alone.
 //!
 //! What a contract says isn't tested again. Expected values were worked out by hand or by a program
 //! in another language.
@@ -7,6 +7,10 @@
 
 #[cfg(test)]
 mod drill_inputs_rows;
+#[cfg(test)]
+mod log_levels_draws;
+#[cfg(test)]
+mod log_levels_rows;
 #[cfg(test)]
 mod published_rows;
 #[cfg(test)]

@@ -1,10 +1,12 @@
 //! The examples that the READMEs of the crates quote, word for word.
 ghost use Rattle.std.specs.Prelude.{◌≡◌};
 
+use crate::tombstones_rows::{del, put};
 use boxes::Boxes;
 use cut_witness::check_cover;
 use levels::{Index, Keys, OpenGate};
 use log_levels::{LogMap, Update};
+use map_level::{Here, HashedKey, Level, latest_of};
 use published::{PlainDoor, start_map};
 use segmenter::segment;
 use std::test::Fail;
@@ -28,6 +30,19 @@ fn boxes_example(rt: HostRuntime) -> Result<(), Fail> {
     let found = boxes.search(rt.alloc(), &Region { d: 2, low, high })?;
     assert_eq!(rt; found.codes(), [4, 11].as_slice());
     assert_eq!(rt; found.looked(), 2);
+    Ok(())
+}
+
+#[test]
+fn map_level_example(rt: HostRuntime) -> Result<(), Fail> {
+    let here = Here { alloc: rt.alloc() };
+    let puts = [put(9, 90), put(3, 30), del(8), put(3, 31)];
+    let entries = latest_of(&here, rt.alloc(), &puts)?;
+    assert!(rt; entries.len() <= 4);
+    let level = Level::of(&here, rt.alloc(), entries)?;
+    assert_eq!(rt; level.entries(), [put(3, 31), del(8), put(9, 90)].as_slice());
+    assert_eq!(rt; level.entry(&HashedKey::of(8)).copied(), Some(del(8)));
+    assert_eq!(rt; level.place(level.start(5), 5), 1);
     Ok(())
 }
 

@@ -17,14 +17,16 @@ struct Row<'a> {
     deepest: &'a [Entry],
 }
 
-fn put(key: u64, value: u64) -> Entry {
+/// An entry that puts a value at a key.
+pub(crate) fn put(key: u64, value: u64) -> Entry {
     Entry {
         key,
         value: Some(value),
     }
 }
 
-fn del(key: u64) -> Entry {
+/// An entry that deletes a key.
+pub(crate) fn del(key: u64) -> Entry {
     Entry { key, value: None }
 }
 

@@ -8,8 +8,8 @@ pub returns-clause-positions : goal.returns-clause-positions
 returns-clause-positions c =
     let keys = c.args.keys.now in
     let asked = c.loop-lane.asked in
-    let places = c.bounds_in_step.new.bases in
-    let bounds = c.bounds_in_step.ensures in
+    let places = c.bounds_interleaved.new.bases in
+    let bounds = c.bounds_interleaved.ensures in
     let found : (k : ℕ) → k < 16 → slice_index places k ≡ lb keys (slice_index asked k) = λ k inside. let here = bounds.each k inside in omega (arith, here.from, here.to) in
     c.loop-lane-2.invariant.places
     ∙ ap (λ (l : List ℕ). c.args.into.now.items ++ l)

@@ -2,7 +2,7 @@
 use Rattle.std.proofs.Common.{◌≡◌, ◌+◌, ◌*◌, ℕ, List, length, slice_index, ap, subst, ◌∙◌, arith}
 use Rattle.std.specs.Prelude.{min, max}
 use Rattle.std.specs.List.Sorted.{IsNonDecreasing}
-use Rattle.levels.specs.InStep.{HasBound}
+use Rattle.levels.specs.Interleaved.{HasBound}
 use Rattle.levels.proofs.LaneLemmas.{HasBound-raised}
 use Rattle.levels.proofs.near.start_from.Goals as goal
 

@@ -1,7 +1,7 @@
 use Rattle.std.proofs.Common.{◌≡◌, Bool, List, All, IsSome, refl, sym, subst}
 use Rattle.tombstones.specs.declared.entry.Entry.{Entry}
 use Rattle.tombstones.specs.Entries.{entry_at, kept}
-use Rattle.log_levels.proofs.LevelLemmas.{kept-values}
+use Rattle.log_levels.proofs.KeptLemmas.{kept-values}
 use Rattle.log_levels.proofs.growth.kept_of.Goals as goal
 
 pub returns-then-have_values-clause-keeps : goal.returns-then-have_values-clause-keeps

@@ -2,8 +2,8 @@ use Rattle.std.proofs.Common.{◌≡◌, ◌<◌, ◌≤◌, length, IfSome, sli
 use Rattle.std.proofs.lemmas.Bool.{cases_lt}
 use Rattle.std.proofs.lemmas.List.{get_or_default}
 use Rattle.tombstones.specs.declared.entry.Entry.{Entry}
-use Rattle.log_levels.specs.Kept.{IsBelow}
-use Rattle.log_levels.proofs.LevelLemmas.{no_entry}
+use Rattle.map_level.specs.Levels.{IsBelow}
+use Rattle.map_level.proofs.LevelLemmas.{no_entry}
 use Rattle.log_levels.proofs.SearchLemmas.{last-absent}
 use Rattle.log_levels.proofs.walk.least_from.Goals as goal
 

@@ -1,6 +1,6 @@
 use Rattle.std.proofs.Common.{◌≡◌, ◌<◌, ◌≤◌, ℕ, IfSome, slice_index_or}
 use Rattle.tombstones.specs.declared.entry.Entry.{Entry}
-use Rattle.log_levels.specs.Kept.{IsBelow}
+use Rattle.map_level.specs.Levels.{IsBelow}
 use Rattle.log_levels.proofs.walk.least_from.Given as goal
 
 abbrev pub invariant-loop-entry : goal.invariant-loop-entry

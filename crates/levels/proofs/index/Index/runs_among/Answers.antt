@@ -2,7 +2,7 @@
 use Rattle.std.proofs.Common.{ℕ, List, length, slice_index, sym, ap, subst, arith}
 use Rattle.std.specs.List.Sorted.{IsNonDecreasing}
 use Rattle.levels.specs.Indexes.{xs_at}
-use Rattle.levels.specs.InStep.{AreAmong}
+use Rattle.levels.specs.Interleaved.{AreAmong}
 use Rattle.levels.proofs.LookupLemmas.{ascends}
 use Rattle.levels.proofs.RunLemmas.{first_x-order}
 use Rattle.levels.proofs.EntryLemmas.{predecessor_at}
@@ -15,13 +15,13 @@ overflow_cast-last c =
     let here = ascends value.keys value.eps value.eps_rec value.levels c.requires.never_falls c.requires.index 1 (omega (arith, c.requires.above)) in
     omega (arith, ap length c.list-list.ensures, here.few, c.requires.few)
 
-pub predecessors_in_step-requires-clause-order : goal.predecessors_in_step-requires-clause-order
-predecessors_in_step-requires-clause-order c =
+pub predecessors_interleaved-requires-clause-order : goal.predecessors_interleaved-requires-clause-order
+predecessors_interleaved-requires-clause-order c =
     let value = c.args.self.now in
     subst IsNonDecreasing (sym c.list-list.ensures) (first_x-order value.keys value.eps value.eps_rec value.levels c.requires.never_falls c.requires.index)
 
-pub predecessors_in_step-requires-clause-few : goal.predecessors_in_step-requires-clause-few
-predecessors_in_step-requires-clause-few c =
+pub predecessors_interleaved-requires-clause-few : goal.predecessors_interleaved-requires-clause-few
+predecessors_interleaved-requires-clause-few c =
     let value = c.args.self.now in
     let here = ascends value.keys value.eps value.eps_rec value.levels c.requires.never_falls c.requires.index 1 (omega (arith, c.requires.above)) in
     omega (arith, ap length c.list-list.ensures, here.few, c.requires.few)
@@ -29,8 +29,8 @@ predecessors_in_step-requires-clause-few c =
 pub returns : goal.returns
 returns c =
     let value = c.args.self.now in
-    let among : AreAmong (xs_at value.keys value.levels 1) c.args.qs.now c.predecessors_in_step.new.bases 1 =
-    subst (λ (list : List ℕ). AreAmong list c.args.qs.now c.predecessors_in_step.new.bases 1) c.list-list.ensures c.predecessors_in_step.ensures in
-    AreRuns-from (xs_at value.keys value.levels 1) c.args.qs.now c.predecessors_in_step.new.bases among
+    let among : AreAmong (xs_at value.keys value.levels 1) c.args.qs.now c.predecessors_interleaved.new.bases 1 =
+    subst (λ (list : List ℕ). AreAmong list c.args.qs.now c.predecessors_interleaved.new.bases 1) c.list-list.ensures c.predecessors_interleaved.ensures in
+    AreRuns-from (xs_at value.keys value.levels 1) c.args.qs.now c.predecessors_interleaved.new.bases among
     (λ k inside. predecessor_at value.keys value.eps value.eps_rec value.levels c.requires.never_falls c.requires.index 1 (slice_index c.args.qs.now k) (omega (arith, c.requires.above)) c.requires.some
     (c.requires.from_first k inside))

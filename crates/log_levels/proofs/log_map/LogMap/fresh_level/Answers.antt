@@ -1,6 +1,7 @@
 use Rattle.std.proofs.Common.{◌≡◌, ◌+◌, ◌/◌, ◌++◌, Some, false, length, subst, sym, ap, arith, refl, inl, inr}
 use Rattle.std.specs.Int.{bit_at}
-use Rattle.log_levels.specs.Shapes.{IsLevelFor, IsLastOfEach, from_bit}
+use Rattle.map_level.specs.Levels.{IsLastOfEach}
+use Rattle.log_levels.specs.Shapes.{IsLevelFor, from_bit}
 use Rattle.log_levels.proofs.BitLemmas.{bit-cases}
 use Rattle.log_levels.proofs.HeldLemmas.{capacity_is}
 use Rattle.log_levels.proofs.LengthLemmas.{length-latest}

@@ -2,8 +2,8 @@ use Rattle.std.proofs.Common.{◌≡◌, ◌^◌, ◌<◌, ◌≤◌, ℕ, List,
 use Rattle.std.specs.Int.{bit_at}
 use Rattle.tombstones.specs.declared.entry.Entry.{Entry}
 use Rattle.tombstones.specs.Entries.{entry_at}
-use Rattle.log_levels.specs.Shapes.{level_of, last_at}
-use Rattle.log_levels.specs.Kept.{IsBelow}
+use Rattle.map_level.specs.Levels.{last_at, IsBelow}
+use Rattle.log_levels.specs.Shapes.{level_of}
 use Rattle.log_levels.proofs.log_map.LogMap.least_key.Given as goal
 
 abbrev pub invariant-loop-rest : goal.invariant-loop-rest

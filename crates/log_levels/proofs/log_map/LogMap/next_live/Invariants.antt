@@ -1,6 +1,7 @@
 use Rattle.std.proofs.Common.{◌≡◌, ◌-◌, ◌^◌, ◌<◌, ◌≤◌, ℕ, List, None}
 use Rattle.tombstones.specs.declared.entry.Entry.{Entry}
-use Rattle.log_levels.specs.Shapes.{IsCutOf, last_at}
+use Rattle.map_level.specs.Levels.{last_at}
+use Rattle.log_levels.specs.Shapes.{IsCutOf}
 use Rattle.log_levels.specs.Kept.{ArePlaces, value_of}
 use Rattle.log_levels.proofs.log_map.LogMap.next_live.Given as goal
 

@@ -1,5 +1,6 @@
 use Rattle.std.proofs.Common.{length, subst, sym, ap, ◌∙◌, arith}
-use Rattle.log_levels.specs.Shapes.{Held, last_at}
+use Rattle.map_level.specs.Levels.{last_at}
+use Rattle.log_levels.specs.Shapes.{Held}
 use Rattle.log_levels.specs.Kept.{value_of}
 use Rattle.log_levels.proofs.SearchLemmas.{search-buffer}
 use Rattle.log_levels.proofs.OccupiedLemmas.{IsReached, bit-within, reached-start, reached-found, reached-missed}

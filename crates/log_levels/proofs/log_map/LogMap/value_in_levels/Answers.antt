@@ -1,5 +1,6 @@
 use Rattle.std.proofs.Common.{ap, sym, ◌∙◌, subst}
 use Rattle.std.specs.Int.{bit_at}
+use Rattle.tombstones.specs.Entries.{entry_at}
 use Rattle.log_levels.specs.Kept.{entry_in}
 use Rattle.log_levels.proofs.OccupiedLemmas.{IsReached, bit-still, reached-start, reached-found, reached-missed}
 use Rattle.log_levels.proofs.log_map.LogMap.value_in_levels.Goals as goal
@@ -18,7 +19,7 @@ pub returns-in-Some : goal.returns-in-Some
 returns-in-Some c = λ entries cut.
     let is = c.lowest_and_rest-i.ensures in
     reached-found c.args.self.now entries c.args.key c.loop-rest.rest c.lowest_and_rest-i.result.0 c.in-Some.entry.now cut (c.loop-rest.invariant.reached entries cut) is.set is.lowest
-    (c.in-Some.ensures ∙ ap (λ level. entry_in level c.args.key) (sym c.occupied_level.ensures))
+    (c.in-Some.ensures ∙ ap (entry_at c.occupied_level.result.now) c.of-hashed.ensures ∙ ap (λ level. entry_in level c.args.key) (sym c.occupied_level.ensures))
 
 pub loop-rest-preserved : goal.loop-rest-preserved
 loop-rest-preserved c =
@@ -29,5 +30,5 @@ loop-rest-preserved c =
           c.loop-rest.invariant.taken i still;
       reached = λ entries cut. subst (λ rest. IsReached entries c.args.key rest) (sym is.rest)
           (reached-missed c.args.self.now entries c.args.key c.loop-rest.rest c.lowest_and_rest-i.result.0 cut (c.loop-rest.invariant.reached entries cut) is.set is.lowest
-          (c.in_default.ensures ∙ ap (λ level. entry_in level c.args.key) (sym c.occupied_level.ensures)));
+          (c.in_default.ensures ∙ ap (entry_at c.occupied_level.result.now) c.of-hashed.ensures ∙ ap (λ level. entry_in level c.args.key) (sym c.occupied_level.ensures)));
     }

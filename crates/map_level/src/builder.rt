@@ -1,0 +1,114 @@
+// How levels are made: on the calling thread, or by workers.
+ghost use Rattle.std.specs.Prelude.{◌≡◌, ℕ, ◌≤◌, IfOk};
+ghost use Rattle.tombstones.specs.Entries.{IsAscending, entry_at, winner_at, kept};
+ghost use Rattle.levels.specs.Indexes.{IsIndex};
+ghost use Rattle.map_level.specs.Builders.{Merges, Builds};
+
+use crate::level::{EPS, EPS_REC};
+use budget::NoMemory;
+use edge::Gate;
+use levels::{Index, Keys};
+use piece_join::even_cuts;
+use std::alloc::Global;
+use std::thread::Threads;
+use tombstones::{Entry, merge};
+
+/// The merge of two lists of entries, unless memory ran out.
+pub type Merged = Result<Vec<Entry>, NoMemory>;
+
+/// An index, unless memory ran out.
+pub type Built = Result<Index, NoMemory>;
+
+/// Who makes levels: it merges lists of entries, and builds the indexes of their keys. All make the
+/// same.
+pub trait Builder {
+    /// What its calls need: that they may be made, and make the same.
+    ghost ready: { Self → Type 0 };
+
+    /// Merges two lists of entries, as [`merge`] does.
+    fn merge(&self, newer: &[Entry], older: &[Entry], deepest: bool) -> Merged
+        requires ready { ready self.now }
+        requires newer_ascending { IsAscending newer.now }
+        requires older_ascending { IsAscending older.now }
+        ensures ascending { IfOk result (λ merged. IsAscending merged.items) }
+        ensures winners { IfOk result (λ merged. (key : ℕ) →
+            entry_at merged.items key ≡ kept deepest (winner_at newer.now older.now key)) };
+
+    /// Builds the index of a level's keys.
+    fn index(&self, keys: Keys) -> Built
+        requires { ready self.now }
+        ensures keys { IfOk result (λ index. index.keys ≡ keys) }
+        ensures eps { IfOk result (λ index. index.eps ≡ EPS) }
+        ensures eps_rec { IfOk result (λ index. index.eps_rec ≡ EPS_REC) }
+        ensures index { IfOk result (λ index. IsIndex keys EPS EPS_REC index.levels) };
+}
+
+/// The calling thread.
+#[derive(Drop)]
+pub struct Here {
+    pub alloc: Global,
+}
+
+impl Builder for Here {
+    ghost ready = { λ _. Unit {0} };
+
+    fn merge(&self, newer: &[Entry], older: &[Entry], deepest: bool) -> Merged {
+        merge(self.alloc, newer, older, deepest)
+    }
+
+    fn index(&self, keys: Keys) -> Built {
+        Index::of(self.alloc, keys, EPS, EPS_REC)
+    }
+}
+
+/// Workers, as the two calls that they do: the methods of a trait can't start threads by a handle
+/// of their type.
+#[derive(Drop)]
+pub struct Workers<M, I> {
+    pub merge: M,
+    pub index: I,
+}
+
+impl<M: Fn(&[Entry], &[Entry], bool) -> Merged, I: Fn(Keys) -> Built> Builder for Workers<M, I> {
+    ghost ready = { λ workers. Merges M.Fn workers.merge × Builds I.Fn workers.index };
+
+    fn merge(&self, newer: &[Entry], older: &[Entry], deepest: bool) -> Merged {
+        (self.merge)(newer, older, deepest)
+    }
+
+    fn index(&self, keys: Keys) -> Built {
+        (self.index)(keys)
+    }
+}
+
+/// How many points a piece of an index has at least. A run of scattered keys has some ten
+/// thousand, and the last one of a piece is fitted anew; and a thread takes as long to start as a
+/// thousand points to segment.
+const PIECE: u32 = 131_072;
+
+/// The index of keys, built by several workers, 1 to 64: in as many pieces, but in fewer where
+/// these would be short. The gate is passed before and after each piece.
+///
+/// # Errors
+///
+/// `NoMemory` alone.
+pub fn index_in_pieces<R: Threads + Sync, G: Gate>(
+    rt: &R,
+    alloc: Global,
+    keys: Keys,
+    workers: u32,
+    gate: &G,
+) -> Built
+    requires staffed { 1 ≤ workers }
+    requires few_workers { workers ≤ 64 }
+    ensures keys { IfOk result (λ index. index.keys ≡ keys) }
+    ensures eps { IfOk result (λ index. index.eps ≡ EPS) }
+    ensures eps_rec { IfOk result (λ index. index.eps_rec ≡ EPS_REC) }
+    ensures index { IfOk result (λ index. IsIndex keys EPS EPS_REC index.levels) }
+{
+    let _ = keys.file();
+    let points = keys.xs().len() as u32;
+    let pieces = (points / PIECE).clamp(1, workers);
+    let cuts = even_cuts(alloc, points, pieces)?;
+    Index::build(rt, alloc, keys, EPS, EPS_REC, &cuts, workers, gate)
+}

@@ -1,0 +1,265 @@
+// A level as it is kept.
+ghost use Rattle.std.specs.Prelude.{◌≡◌, ◌+◌, ◌*◌, ◌-◌, ◌^◌, ◌<◌, ◌≤◌, ℕ};
+ghost use Rattle.std.specs.Prelude.{None, Some, IfSome, IsTrue, length, vec_len, IfOk};
+ghost use Rattle.std.specs.Bool.{OnFalse};
+ghost use Rattle.std.specs.Option.{option_copied};
+ghost use Rattle.levels.specs.Indexes.{IsIndex};
+ghost use Rattle.tombstones.specs.Entries.{IsAscending, entry_at};
+ghost use Rattle.map_level.specs.Levels.{IsBelow, level_keys};
+ghost use Rattle.window_search.specs.Searches.{lb};
+
+use crate::builder::Builder;
+use crate::filter::{Filter, HashedKey, keys_with_filter};
+use crate::grid::Grid;
+use budget::NoMemory;
+use levels::Index;
+use std::alloc::Global;
+use std::marker::Model;
+use tombstones::Entry;
+
+/// The error bound of level 0 of a level's index.
+pub const EPS: u32 = 64;
+
+/// The error bound of the index's levels above.
+pub const EPS_REC: u32 = 4;
+
+/// So many entries are a group.
+const GROUP: usize = 8;
+
+/// A grid leads to one group.
+const GROUPS_BY_GRID: usize = 1;
+
+/// The index leaves `2ε + 3` places, which are in so many groups.
+const GROUPS_BY_INDEX: usize = 17;
+
+/// The entries of a level, by rising key, with the index of their keys, a filter of them, and a
+/// grid where they are even. Seen as the entries. It is never changed.
+///
+/// A key is searched in three steps: a hint says where to look (`start`, from the grid, or else
+/// from the index); the entries there are looked at; and where the key's place isn't among them,
+/// the index finds it. No clause says that a hint is right: what is found is checked.
+#[derive(Drop)]
+pub struct Level {
+    entries: Vec<Entry>,
+    index: Index,
+    filter: Filter,
+    grid: Option<Grid>,
+}
+
+impl Model for Level {
+    ghost use Rattle.std.specs.Prelude.{List};
+    ghost use Rattle.tombstones.specs.declared.entry.Entry.{Entry};
+
+    ghost Value = { List Entry };
+
+    ghost use Rattle.map_level.specs.Levels.{IsIndexed};
+
+    ghost view = { λ level. level.entries.items };
+
+    ghost use Rattle.map_level.specs.Filters.{ArePassed};
+    ghost use Rattle.map_level.specs.Levels.{level_keys};
+
+    ghost invariant = { λ level. IsIndexed level.entries.items level.index ×
+        ArePassed level.filter (level_keys level.entries.items) };
+}
+
+impl Level {
+    /// A level of entries, of which each key has one.
+    ///
+    /// # Errors
+    ///
+    /// `NoMemory` alone.
+    pub fn of<B: Builder>(
+        builder: &B,
+        alloc: Global,
+        entries: Vec<Entry>,
+    ) -> Result<Level, NoMemory>
+        requires ready { B.ready builder.now }
+        requires ascending { IsAscending entries.items }
+        requires few { vec_len entries < 2 ^ 32 }
+        ensures { IfOk result (λ level. level ≡ entries.items) }
+    {
+        let (keys, filter) = keys_with_filter(alloc, &entries)?;
+        let index = builder.index(keys)?;
+        // The keys are in a nearer cache than the entries.
+        let grid = Grid::of(alloc, index.keys().file())?;
+        Ok(Level {
+            entries,
+            index,
+            filter,
+            grid,
+        })
+    }
+
+    /// The entries, by rising key.
+    #[inline]
+    pub fn entries(&self) -> &[Entry]
+        ensures entries { result.now ≡ self.now }
+        ensures ascending { IsAscending self.now }
+        ensures few { length self.now < 2 ^ 32 }
+    {
+        &self.entries
+    }
+
+    /// A hint for [`Level::place`], where to look for a key: the place of the first entry to look
+    /// at. It tells nothing.
+    #[inline(always)]
+    pub fn start(&self, key: u64) -> usize {
+        match &self.grid {
+            Some(grid) => grid.start(key),
+            None if self.entries.is_empty() => 0,
+            None => self.index.start_near(key) as usize,
+        }
+    }
+
+    /// How many groups of entries are looked at from the hint on.
+    #[inline(always)]
+    pub(crate) fn groups(&self) -> usize
+        ensures some { 0 < result }
+        ensures few { result ≤ GROUPS_BY_INDEX }
+    {
+        match self.grid {
+            Some(_) => GROUPS_BY_GRID,
+            None => GROUPS_BY_INDEX,
+        }
+    }
+
+    /// How many keys are below `key`: the place of the first entry whose key is not. A hint of
+    /// [`Level::start`] makes it fast; the answer is the same for all.
+    #[inline]
+    pub fn place(&self, start: usize, key: u64) -> usize
+        ensures place { result ≡ lb (level_keys self.now) key }
+        ensures within { result ≤ length self.now }
+    {
+        let entries = self.entries();
+        let place = place_near(entries, start, self.groups(), key);
+        if is_place(entries, place, key) {
+            return place;
+        }
+        self.index.position(key) as usize
+    }
+
+    /// Whether the level may have an entry with a key.
+    #[inline(always)]
+    fn may_have(&self, key: &HashedKey) -> bool
+        ensures { OnFalse result (entry_at self.now key.now ≡ None) }
+    {
+        self.filter.passes(key)
+    }
+
+    /// The entry with a key, if there is one. A key that the filter denies isn't searched.
+    #[inline]
+    pub fn entry(&self, key: &HashedKey) -> Option<&Entry>
+        ensures { option_copied result ≡ entry_at self.now key.now }
+    {
+        if !self.may_have(key) {
+            return None;
+        }
+        let key = key.key();
+        self.entry_from(self.place(self.start(key), key), key)
+    }
+
+    /// The entry with a key, whose place is known, if there is one.
+    #[inline]
+    pub fn entry_from(&self, place: usize, key: u64) -> Option<&Entry>
+        requires { place ≡ lb (level_keys self.now) key }
+        ensures { option_copied result ≡ entry_at self.now key }
+    {
+        let entries = self.entries();
+        if place >= entries.len() {
+            return None;
+        }
+        if entries[place].key != key {
+            return None;
+        }
+        Some(&entries[place])
+    }
+
+    /// The least key from `from` on, which is at this place, if there is one.
+    #[inline]
+    pub fn key_from(&self, place: usize, from: u128) -> Option<u64>
+        requires { place ≡ lb (level_keys self.now) from }
+        ensures from { IfSome result (λ key. from ≤ key) }
+        ensures least { (key : ℕ) → from ≤ key → IsBelow key result →
+            entry_at self.now key ≡ None }
+    {
+        let entries = self.entries();
+        if place >= entries.len() {
+            return None;
+        }
+        Some(entries[place].key)
+    }
+
+    /// The place of `key + 1`, by that of `key`.
+    #[inline]
+    pub fn place_past(&self, place: usize, key: u64) -> usize
+        requires { place ≡ lb (level_keys self.now) key }
+        ensures { result ≡ lb (level_keys self.now) (key + 1) }
+    {
+        let _ = self.entries();
+        match self.entry_from(place, key) {
+            Some(_) => place + 1,
+            None => place,
+        }
+    }
+
+    /// The one index of the keys, with the error bounds [`EPS`] and [`EPS_REC`].
+    #[inline]
+    pub fn index(&self) -> &Index
+        ensures keys { result.now.keys ≡ level_keys self.now }
+        ensures eps { result.now.eps ≡ EPS }
+        ensures eps_rec { result.now.eps_rec ≡ EPS_REC }
+        ensures index { IsIndex result.now.keys EPS EPS_REC result.now.levels }
+    {
+        &self.index
+    }
+}
+
+/// How many keys are below a key, if its place is in so many groups of entries from a place on, or
+/// at their end. No clause says that it is.
+///
+/// The last key of each group but one tells the group, and no branch depends on an answer.
+#[inline(always)]
+pub(crate) fn place_near(entries: &[Entry], start: usize, groups: usize, key: u64) -> usize
+    requires some { 0 < groups }
+    requires few { groups ≤ GROUPS_BY_INDEX }
+{
+    let near = GROUP * groups;
+    if entries.len() < near {
+        return below(entries, key);
+    }
+    let first = start.min(entries.len() - near);
+    let mut at = first;
+    for i in 1..groups {
+        let is_below = entries[first + (GROUP * i - 1)].key < key;
+        at = at.wrapping_add(GROUP * usize::from(is_below));
+    }
+    let at = at.min(entries.len() - GROUP);
+    at.wrapping_add(below(&entries[at..at + GROUP], key))
+}
+
+/// How many of some entries' keys are below a key.
+#[inline(always)]
+fn below(entries: &[Entry], key: u64) -> usize {
+    let mut count = 0usize;
+    for entry in entries {
+        count = count.wrapping_add(usize::from(entry.key < key));
+    }
+    count
+}
+
+/// Whether as many keys are below a key: that of the entry before the place is, and the one there
+/// isn't.
+#[inline(always)]
+fn is_place(entries: &[Entry], place: usize, key: u64) -> bool
+    requires ascending { IsAscending entries.now }
+    ensures { IsTrue result → place ≡ lb (level_keys entries.now) key }
+{
+    if place > entries.len() {
+        return false;
+    }
+    if place > 0 && entries[place - 1].key >= key {
+        return false;
+    }
+    place == entries.len() || entries[place].key >= key
+}
