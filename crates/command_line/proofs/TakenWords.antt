@@ -3,10 +3,11 @@
 -- Main results: what was entered is a command of the definition, with rows that passed (`command_met`), and is a request
 -- (`words_ask`).
 use Rattle.std.proofs.Common.{◌≡◌, ◌⊎◌, inl, inr, rules, Bool, true, false, not, cond, ◌&&◌, List, [], ◌∷◌, Option, Some, None, is_some, refl, sym, ap, ap₂, subst, ◌∙◌}
-use Rattle.std.specs.Prelude.{find, codes, option_map, option_and_then, ok_or, Err, IsSome}
+use Rattle.std.specs.Prelude.{find, codes, option_map, option_and_then, ok_or, Err, IsSome, ⊤}
 use Rattle.std.specs.List.{list_all, list_any}
 use Rattle.std.specs.Option.{option_map_or}
 use Rattle.std.specs.Str.{bytes_eq}
+use Rattle.std.proofs.lemmas.Slice.Eq.{bytes_eq-Decides}
 use Rattle.clap.proofs.WalkLemmas.{both}
 use Rattle.clap.proofs.OnLiterals.{clap_on_literals}
 use Rattle.clap.specs.Walk.{Text, Rule, Row, Held, answers_to, finished, nothing_held, settled, walk, walk_from}
@@ -24,11 +25,11 @@ use Rattle.clap.specs.declared.parser.matches.ArgMatches.{ArgMatches}
 use Rattle.clap.specs.declared.parser.matches.ArgMatches.TheViews.{out-ArgMatches, out-SubCommand}
 use Rattle.clap.specs.declared.parser.matches.SubCommand.{SubCommand}
 use Rattle.exact_cross.specs.declared.TheConstants.{MAX_EPSILON}
-use Rattle.command_line.specs.Application.{application, build_rules, check_rules, drill_rules, points_rules, query_rules, relax_rules, replay_rules}
+use Rattle.command_line.specs.Application.{application, build_rules, check_rules, drill_rules, points_rules, query_rules, relax_rules, replay_rules, mix_rules}
 use Rattle.command_line.specs.declared.request.Request as declared
 use Rattle.command_line.specs.Requests.{Request, asked_of, request_for}
 use Rattle.command_line.specs.Words.{AreTaken, AskFor, request_of}
-use Rattle.command_line.specs.Passed.{ArePassed, AreDrillOptions, AreIndexOptions, AreQueryOptions, AreReplayOptions, IsDimensionOption, IsNarrowOption, IsPiecesOption}
+use Rattle.command_line.specs.Passed.{ArePassed, AreDrillOptions, AreIndexOptions, AreQueryOptions, AreReplayOptions, IsDimensionOption, IsNarrowOption, IsPiecesOption, IsSendersOption}
 use Rattle.command_line.proofs.PassedRows.{all_set, level_good, quiet}
 use Rattle.command_line.proofs.OptionReads.{number_reads, flag_reads, takes_numbers, takes_flag}
 
@@ -123,6 +124,7 @@ IsCommand p = ((p.0 ≡ codes "build") × AreIndexOptions p.1)
     ⊎ ((p.0 ≡ codes "box") × IsDimensionOption p.1)
     ⊎ ((p.0 ≡ codes "near") × IsDimensionOption p.1)
     ⊎ ((p.0 ≡ codes "replay") × AreReplayOptions p.1)
+    ⊎ ((p.0 ≡ codes "mix") × AreReplayOptions p.1 × IsSendersOption p.1)
     ⊎ ((p.0 ≡ codes "drill") × AreDrillOptions p.1)
     ⊎ ((p.0 ≡ codes "save") × AreIndexOptions p.1)
     ⊎ ((p.0 ≡ codes "check") × IsNarrowOption p.1)
@@ -160,13 +162,18 @@ points_filled = filled_from 1 points_rules
 abbrev replay_filled : List Rule
 replay_filled = filled_from 1 replay_rules
 
-replay_options : (rows : List Row) → ArePassed replay_filled rows → AreReplayOptions rows
-unfolding clap_on_literals
-replay_options rows passed = record {
-  levels = number_reads replay_filled 1 26 (codes "levels") rows refl passed;
-  batch = number_reads replay_filled 1 65536 (codes "batch") rows refl passed;
-  readers = number_reads replay_filled 0 16 (codes "readers") rows refl passed;
-  workers = number_reads replay_filled 1 64 (codes "workers") rows refl passed;
+abbrev mix_filled : List Rule
+mix_filled = filled_from 1 mix_rules
+
+-- of rules that let these numbers through
+replay_options : (rules : List Rule) (rows : List Row) → (list_all (takes_numbers 1 26 (codes "levels")) rules ≡ true) →
+    (list_all (takes_numbers 1 65536 (codes "batch")) rules ≡ true) → (list_all (takes_numbers 0 16 (codes "readers")) rules ≡ true) →
+    (list_all (takes_numbers 1 64 (codes "workers")) rules ≡ true) → ArePassed rules rows → AreReplayOptions rows
+replay_options rules rows levels batch readers workers passed = record {
+  levels = number_reads rules 1 26 (codes "levels") rows levels passed;
+  batch = number_reads rules 1 65536 (codes "batch") rows batch passed;
+  readers = number_reads rules 0 16 (codes "readers") rows readers passed;
+  workers = number_reads rules 1 64 (codes "workers") rows workers passed;
 }
 
 abbrev drill_filled : List Rule
@@ -193,11 +200,12 @@ is_command p (inr (inr (inl s))) = inr (inr (inl (s.name, index_options query_fi
 is_command p (inr (inr (inr (inl s)))) = inr (inr (inr (inl (s.name, index_options relax_filled p.1 refl refl refl refl s.passed, number_reads relax_filled 1 65536 (codes "pieces") p.1 refl s.passed))))
 is_command p (inr (inr (inr (inr (inl s))))) = inr (inr (inr (inr (inl (s.name, number_reads points_filled 2 4 (codes "dims") p.1 refl s.passed)))))
 is_command p (inr (inr (inr (inr (inr (inl s)))))) = inr (inr (inr (inr (inr (inl (s.name, number_reads points_filled 2 4 (codes "dims") p.1 refl s.passed))))))
-is_command p (inr (inr (inr (inr (inr (inr (inl s))))))) = inr (inr (inr (inr (inr (inr (inl (s.name, replay_options p.1 s.passed)))))))
-is_command p (inr (inr (inr (inr (inr (inr (inr (inl s)))))))) = inr (inr (inr (inr (inr (inr (inr (inl (s.name, drill_options p.1 s.passed))))))))
-is_command p (inr (inr (inr (inr (inr (inr (inr (inr (inl s))))))))) = inr (inr (inr (inr (inr (inr (inr (inr (inl (s.name, index_options build_filled p.1 refl refl refl refl s.passed)))))))))
-is_command p (inr (inr (inr (inr (inr (inr (inr (inr (inr (inl s)))))))))) = inr (inr (inr (inr (inr (inr (inr (inr (inr (s.name, flag_reads check_filled (codes "narrow") p.1 refl s.passed)))))))))
-is_command p (inr (inr (inr (inr (inr (inr (inr (inr (inr (inr none)))))))))) = absurd none
+is_command p (inr (inr (inr (inr (inr (inr (inl s))))))) = inr (inr (inr (inr (inr (inr (inl (s.name, replay_options replay_filled p.1 refl refl refl refl s.passed)))))))
+is_command p (inr (inr (inr (inr (inr (inr (inr (inl s)))))))) = inr (inr (inr (inr (inr (inr (inr (inl (s.name, replay_options mix_filled p.1 refl refl refl refl s.passed, number_reads mix_filled 1 16 (codes "senders") p.1 refl s.passed))))))))
+is_command p (inr (inr (inr (inr (inr (inr (inr (inr (inl s))))))))) = inr (inr (inr (inr (inr (inr (inr (inr (inl (s.name, drill_options p.1 s.passed)))))))))
+is_command p (inr (inr (inr (inr (inr (inr (inr (inr (inr (inl s)))))))))) = inr (inr (inr (inr (inr (inr (inr (inr (inr (inl (s.name, index_options build_filled p.1 refl refl refl refl s.passed))))))))))
+is_command p (inr (inr (inr (inr (inr (inr (inr (inr (inr (inr (inl s))))))))))) = inr (inr (inr (inr (inr (inr (inr (inr (inr (inr (s.name, flag_reads check_filled (codes "narrow") p.1 refl s.passed))))))))))
+is_command p (inr (inr (inr (inr (inr (inr (inr (inr (inr (inr (inr none))))))))))) = absurd none
 
 once_all : list_all sets_once (built application).subs ≡ true
 unfolding clap_on_literals
@@ -218,7 +226,8 @@ asks p (inr (inr (inr (inr (inr (inl c)))))) = (_, ap (λ (name : Text). request
 asks p (inr (inr (inr (inr (inr (inr (inl c))))))) = (_, ap (λ (name : Text). request_for name p.1) c.0)
 asks p (inr (inr (inr (inr (inr (inr (inr (inl c)))))))) = (_, ap (λ (name : Text). request_for name p.1) c.0)
 asks p (inr (inr (inr (inr (inr (inr (inr (inr (inl c))))))))) = (_, ap (λ (name : Text). request_for name p.1) c.0)
-asks p (inr (inr (inr (inr (inr (inr (inr (inr (inr c))))))))) = (_, ap (λ (name : Text). request_for name p.1) c.0)
+asks p (inr (inr (inr (inr (inr (inr (inr (inr (inr (inl c)))))))))) = (_, ap (λ (name : Text). request_for name p.1) c.0)
+asks p (inr (inr (inr (inr (inr (inr (inr (inr (inr (inr c)))))))))) = (_, ap (λ (name : Text). request_for name p.1) c.0)
 
 pub words_ask : (words : List Text) → AreTaken words → (request : Request) × AskFor words request
 words_ask words taken = go (subcommand_of application words) refl
@@ -254,131 +263,40 @@ pub is_met : (m : ArgMatches) (name : Text) (rows : List Row) → Some name ≡ 
     (words : List Text) → AreTaken words → subcommand_rows_of m ≡ subcommand_of application words → IsCommand (name, rows)
 is_met m name rows named found words taken is = command_met words (name, rows) taken (sym is ∙ met_rows m name rows named found)
 
--- a name that isn't the one asked for
-other_name : {A : Type 0} (p : Text × List Row) (name asked : Text) → p.0 ≡ name → bytes_eq name asked ≡ false → bytes_eq p.0 asked ≡ true → A
-other_name p name asked is other same =
-    let bad : false ≡ true = sym other ∙ sym (ap (λ (t : Text). bytes_eq t asked) is) ∙ same in
-    cc
+-- what the options of the command of a name hold
+abbrev pub OptionsOf : Text → List Row → Type 0
+OptionsOf name rows =
+    cond (bytes_eq name (codes "build")) (AreIndexOptions rows)
+    (cond (bytes_eq name (codes "explain")) (AreIndexOptions rows)
+    (cond (bytes_eq name (codes "query")) (AreIndexOptions rows × AreQueryOptions rows)
+    (cond (bytes_eq name (codes "relax")) (AreIndexOptions rows × IsPiecesOption rows)
+    (cond (bytes_eq name (codes "box")) (IsDimensionOption rows)
+    (cond (bytes_eq name (codes "near")) (IsDimensionOption rows)
+    (cond (bytes_eq name (codes "replay")) (AreReplayOptions rows)
+    (cond (bytes_eq name (codes "mix")) (AreReplayOptions rows × IsSendersOption rows)
+    (cond (bytes_eq name (codes "drill")) (AreDrillOptions rows)
+    (cond (bytes_eq name (codes "save")) (AreIndexOptions rows)
+    (cond (bytes_eq name (codes "check")) (IsNarrowOption rows) ⊤))))))))))
 
-pub has_build : (p : Text × List Row) → IsCommand p → bytes_eq p.0 (codes "build") ≡ true → AreIndexOptions p.1
-has_build p (inl c) same = c.1
-has_build p (inr (inl c)) same = other_name p _ _ c.0 refl same
-has_build p (inr (inr (inl c))) same = other_name p _ _ c.0 refl same
-has_build p (inr (inr (inr (inl c)))) same = other_name p _ _ c.0 refl same
-has_build p (inr (inr (inr (inr (inl c))))) same = other_name p _ _ c.0 refl same
-has_build p (inr (inr (inr (inr (inr (inl c)))))) same = other_name p _ _ c.0 refl same
-has_build p (inr (inr (inr (inr (inr (inr (inl c))))))) same = other_name p _ _ c.0 refl same
-has_build p (inr (inr (inr (inr (inr (inr (inr (inl c)))))))) same = other_name p _ _ c.0 refl same
-has_build p (inr (inr (inr (inr (inr (inr (inr (inr (inl c))))))))) same = other_name p _ _ c.0 refl same
-has_build p (inr (inr (inr (inr (inr (inr (inr (inr (inr c))))))))) same = other_name p _ _ c.0 refl same
+named : (p : Text × List Row) (name : Text) → p.0 ≡ name → OptionsOf name p.1 → OptionsOf p.0 p.1
+named p name is holds = subst (λ (n : Text). OptionsOf n p.1) (sym is) holds
 
-pub has_explain : (p : Text × List Row) → IsCommand p → bytes_eq p.0 (codes "explain") ≡ true → AreIndexOptions p.1
-has_explain p (inl c) same = other_name p _ _ c.0 refl same
-has_explain p (inr (inl c)) same = c.1
-has_explain p (inr (inr (inl c))) same = other_name p _ _ c.0 refl same
-has_explain p (inr (inr (inr (inl c)))) same = other_name p _ _ c.0 refl same
-has_explain p (inr (inr (inr (inr (inl c))))) same = other_name p _ _ c.0 refl same
-has_explain p (inr (inr (inr (inr (inr (inl c)))))) same = other_name p _ _ c.0 refl same
-has_explain p (inr (inr (inr (inr (inr (inr (inl c))))))) same = other_name p _ _ c.0 refl same
-has_explain p (inr (inr (inr (inr (inr (inr (inr (inl c)))))))) same = other_name p _ _ c.0 refl same
-has_explain p (inr (inr (inr (inr (inr (inr (inr (inr (inl c))))))))) same = other_name p _ _ c.0 refl same
-has_explain p (inr (inr (inr (inr (inr (inr (inr (inr (inr c))))))))) same = other_name p _ _ c.0 refl same
+has_options : (p : Text × List Row) → IsCommand p → OptionsOf p.0 p.1
+has_options p (inl c) = named p (codes "build") c.0 c.1
+has_options p (inr (inl c)) = named p (codes "explain") c.0 c.1
+has_options p (inr (inr (inl c))) = named p (codes "query") c.0 (c.1, c.2)
+has_options p (inr (inr (inr (inl c)))) = named p (codes "relax") c.0 (c.1, c.2)
+has_options p (inr (inr (inr (inr (inl c))))) = named p (codes "box") c.0 c.1
+has_options p (inr (inr (inr (inr (inr (inl c)))))) = named p (codes "near") c.0 c.1
+has_options p (inr (inr (inr (inr (inr (inr (inl c))))))) = named p (codes "replay") c.0 c.1
+has_options p (inr (inr (inr (inr (inr (inr (inr (inl c)))))))) = named p (codes "mix") c.0 (c.1, c.2)
+has_options p (inr (inr (inr (inr (inr (inr (inr (inr (inl c))))))))) = named p (codes "drill") c.0 c.1
+has_options p (inr (inr (inr (inr (inr (inr (inr (inr (inr (inl c)))))))))) = named p (codes "save") c.0 c.1
+has_options p (inr (inr (inr (inr (inr (inr (inr (inr (inr (inr c)))))))))) = named p (codes "check") c.0 c.1
 
-pub has_query : (p : Text × List Row) → IsCommand p → bytes_eq p.0 (codes "query") ≡ true → AreIndexOptions p.1 × AreQueryOptions p.1
-has_query p (inl c) same = other_name p _ _ c.0 refl same
-has_query p (inr (inl c)) same = other_name p _ _ c.0 refl same
-has_query p (inr (inr (inl c))) same = (c.1, c.2)
-has_query p (inr (inr (inr (inl c)))) same = other_name p _ _ c.0 refl same
-has_query p (inr (inr (inr (inr (inl c))))) same = other_name p _ _ c.0 refl same
-has_query p (inr (inr (inr (inr (inr (inl c)))))) same = other_name p _ _ c.0 refl same
-has_query p (inr (inr (inr (inr (inr (inr (inl c))))))) same = other_name p _ _ c.0 refl same
-has_query p (inr (inr (inr (inr (inr (inr (inr (inl c)))))))) same = other_name p _ _ c.0 refl same
-has_query p (inr (inr (inr (inr (inr (inr (inr (inr (inl c))))))))) same = other_name p _ _ c.0 refl same
-has_query p (inr (inr (inr (inr (inr (inr (inr (inr (inr c))))))))) same = other_name p _ _ c.0 refl same
-
-pub has_relax : (p : Text × List Row) → IsCommand p → bytes_eq p.0 (codes "relax") ≡ true → AreIndexOptions p.1 × IsPiecesOption p.1
-has_relax p (inl c) same = other_name p _ _ c.0 refl same
-has_relax p (inr (inl c)) same = other_name p _ _ c.0 refl same
-has_relax p (inr (inr (inl c))) same = other_name p _ _ c.0 refl same
-has_relax p (inr (inr (inr (inl c)))) same = (c.1, c.2)
-has_relax p (inr (inr (inr (inr (inl c))))) same = other_name p _ _ c.0 refl same
-has_relax p (inr (inr (inr (inr (inr (inl c)))))) same = other_name p _ _ c.0 refl same
-has_relax p (inr (inr (inr (inr (inr (inr (inl c))))))) same = other_name p _ _ c.0 refl same
-has_relax p (inr (inr (inr (inr (inr (inr (inr (inl c)))))))) same = other_name p _ _ c.0 refl same
-has_relax p (inr (inr (inr (inr (inr (inr (inr (inr (inl c))))))))) same = other_name p _ _ c.0 refl same
-has_relax p (inr (inr (inr (inr (inr (inr (inr (inr (inr c))))))))) same = other_name p _ _ c.0 refl same
-
-pub has_box : (p : Text × List Row) → IsCommand p → bytes_eq p.0 (codes "box") ≡ true → IsDimensionOption p.1
-has_box p (inl c) same = other_name p _ _ c.0 refl same
-has_box p (inr (inl c)) same = other_name p _ _ c.0 refl same
-has_box p (inr (inr (inl c))) same = other_name p _ _ c.0 refl same
-has_box p (inr (inr (inr (inl c)))) same = other_name p _ _ c.0 refl same
-has_box p (inr (inr (inr (inr (inl c))))) same = c.1
-has_box p (inr (inr (inr (inr (inr (inl c)))))) same = other_name p _ _ c.0 refl same
-has_box p (inr (inr (inr (inr (inr (inr (inl c))))))) same = other_name p _ _ c.0 refl same
-has_box p (inr (inr (inr (inr (inr (inr (inr (inl c)))))))) same = other_name p _ _ c.0 refl same
-has_box p (inr (inr (inr (inr (inr (inr (inr (inr (inl c))))))))) same = other_name p _ _ c.0 refl same
-has_box p (inr (inr (inr (inr (inr (inr (inr (inr (inr c))))))))) same = other_name p _ _ c.0 refl same
-
-pub has_near : (p : Text × List Row) → IsCommand p → bytes_eq p.0 (codes "near") ≡ true → IsDimensionOption p.1
-has_near p (inl c) same = other_name p _ _ c.0 refl same
-has_near p (inr (inl c)) same = other_name p _ _ c.0 refl same
-has_near p (inr (inr (inl c))) same = other_name p _ _ c.0 refl same
-has_near p (inr (inr (inr (inl c)))) same = other_name p _ _ c.0 refl same
-has_near p (inr (inr (inr (inr (inl c))))) same = other_name p _ _ c.0 refl same
-has_near p (inr (inr (inr (inr (inr (inl c)))))) same = c.1
-has_near p (inr (inr (inr (inr (inr (inr (inl c))))))) same = other_name p _ _ c.0 refl same
-has_near p (inr (inr (inr (inr (inr (inr (inr (inl c)))))))) same = other_name p _ _ c.0 refl same
-has_near p (inr (inr (inr (inr (inr (inr (inr (inr (inl c))))))))) same = other_name p _ _ c.0 refl same
-has_near p (inr (inr (inr (inr (inr (inr (inr (inr (inr c))))))))) same = other_name p _ _ c.0 refl same
-
-pub has_replay : (p : Text × List Row) → IsCommand p → bytes_eq p.0 (codes "replay") ≡ true → AreReplayOptions p.1
-has_replay p (inl c) same = other_name p _ _ c.0 refl same
-has_replay p (inr (inl c)) same = other_name p _ _ c.0 refl same
-has_replay p (inr (inr (inl c))) same = other_name p _ _ c.0 refl same
-has_replay p (inr (inr (inr (inl c)))) same = other_name p _ _ c.0 refl same
-has_replay p (inr (inr (inr (inr (inl c))))) same = other_name p _ _ c.0 refl same
-has_replay p (inr (inr (inr (inr (inr (inl c)))))) same = other_name p _ _ c.0 refl same
-has_replay p (inr (inr (inr (inr (inr (inr (inl c))))))) same = c.1
-has_replay p (inr (inr (inr (inr (inr (inr (inr (inl c)))))))) same = other_name p _ _ c.0 refl same
-has_replay p (inr (inr (inr (inr (inr (inr (inr (inr (inl c))))))))) same = other_name p _ _ c.0 refl same
-has_replay p (inr (inr (inr (inr (inr (inr (inr (inr (inr c))))))))) same = other_name p _ _ c.0 refl same
-
-pub has_drill : (p : Text × List Row) → IsCommand p → bytes_eq p.0 (codes "drill") ≡ true → AreDrillOptions p.1
-has_drill p (inl c) same = other_name p _ _ c.0 refl same
-has_drill p (inr (inl c)) same = other_name p _ _ c.0 refl same
-has_drill p (inr (inr (inl c))) same = other_name p _ _ c.0 refl same
-has_drill p (inr (inr (inr (inl c)))) same = other_name p _ _ c.0 refl same
-has_drill p (inr (inr (inr (inr (inl c))))) same = other_name p _ _ c.0 refl same
-has_drill p (inr (inr (inr (inr (inr (inl c)))))) same = other_name p _ _ c.0 refl same
-has_drill p (inr (inr (inr (inr (inr (inr (inl c))))))) same = other_name p _ _ c.0 refl same
-has_drill p (inr (inr (inr (inr (inr (inr (inr (inl c)))))))) same = c.1
-has_drill p (inr (inr (inr (inr (inr (inr (inr (inr (inl c))))))))) same = other_name p _ _ c.0 refl same
-has_drill p (inr (inr (inr (inr (inr (inr (inr (inr (inr c))))))))) same = other_name p _ _ c.0 refl same
-
-pub has_save : (p : Text × List Row) → IsCommand p → bytes_eq p.0 (codes "save") ≡ true → AreIndexOptions p.1
-has_save p (inl c) same = other_name p _ _ c.0 refl same
-has_save p (inr (inl c)) same = other_name p _ _ c.0 refl same
-has_save p (inr (inr (inl c))) same = other_name p _ _ c.0 refl same
-has_save p (inr (inr (inr (inl c)))) same = other_name p _ _ c.0 refl same
-has_save p (inr (inr (inr (inr (inl c))))) same = other_name p _ _ c.0 refl same
-has_save p (inr (inr (inr (inr (inr (inl c)))))) same = other_name p _ _ c.0 refl same
-has_save p (inr (inr (inr (inr (inr (inr (inl c))))))) same = other_name p _ _ c.0 refl same
-has_save p (inr (inr (inr (inr (inr (inr (inr (inl c)))))))) same = other_name p _ _ c.0 refl same
-has_save p (inr (inr (inr (inr (inr (inr (inr (inr (inl c))))))))) same = c.1
-has_save p (inr (inr (inr (inr (inr (inr (inr (inr (inr c))))))))) same = other_name p _ _ c.0 refl same
-
-pub has_check : (p : Text × List Row) → IsCommand p → bytes_eq p.0 (codes "check") ≡ true → IsNarrowOption p.1
-has_check p (inl c) same = other_name p _ _ c.0 refl same
-has_check p (inr (inl c)) same = other_name p _ _ c.0 refl same
-has_check p (inr (inr (inl c))) same = other_name p _ _ c.0 refl same
-has_check p (inr (inr (inr (inl c)))) same = other_name p _ _ c.0 refl same
-has_check p (inr (inr (inr (inr (inl c))))) same = other_name p _ _ c.0 refl same
-has_check p (inr (inr (inr (inr (inr (inl c)))))) same = other_name p _ _ c.0 refl same
-has_check p (inr (inr (inr (inr (inr (inr (inl c))))))) same = other_name p _ _ c.0 refl same
-has_check p (inr (inr (inr (inr (inr (inr (inr (inl c)))))))) same = other_name p _ _ c.0 refl same
-has_check p (inr (inr (inr (inr (inr (inr (inr (inr (inl c))))))))) same = other_name p _ _ c.0 refl same
-has_check p (inr (inr (inr (inr (inr (inr (inr (inr (inr c))))))))) same = c.1
+-- by the name that was asked for
+pub options_of : (p : Text × List Row) (asked : Text) → IsCommand p → bytes_eq p.0 asked ≡ true → OptionsOf asked p.1
+options_of p asked is same = subst (λ (n : Text). OptionsOf n p.1) ((bytes_eq-Decides p.0 asked).0 same) (has_options p is)
 
 -- words that are taken are never refused for their command
 pub never_refused : {E : Type 0} (words : List Text) (found : Option declared.Request) (e : E) → AreTaken words → option_map asked_of found ≡ request_of words →

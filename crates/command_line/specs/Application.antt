@@ -64,6 +64,10 @@ batch_rules = positional (codes "SCRIPT") ∷ number (codes "levels") 1 26 (code
 abbrev pub replay_rules : List Rule
 replay_rules = batch_rules ++ number (codes "readers") 0 16 (codes "0") ∷ number (codes "workers") 1 64 (codes "4") ∷ []
 
+-- and among how many senders the updates are dealt out
+abbrev pub mix_rules : List Rule
+mix_rules = replay_rules ++ number (codes "senders") 1 16 (codes "2") ∷ []
+
 -- how many inputs are drawn of each kind, and a seed
 abbrev pub drawn_rules : List Rule
 drawn_rules = positional_number (codes "N") 1 1000000 ∷ positional_number (codes "SEED") 0 2147483647 ∷ []
@@ -80,7 +84,8 @@ abbrev pub commands : List Shape
 commands = command (codes "build") build_rules ∷ command (codes "explain") build_rules
     ∷ command (codes "query") query_rules ∷ command (codes "relax") relax_rules
     ∷ command (codes "box") points_rules ∷ command (codes "near") points_rules
-    ∷ command (codes "replay") replay_rules ∷ command (codes "drill") drill_rules
+    ∷ command (codes "replay") replay_rules ∷ command (codes "mix") mix_rules
+    ∷ command (codes "drill") drill_rules
     ∷ command (codes "save") build_rules ∷ command (codes "check") check_rules ∷ []
 
 -- the program before its commands. No public clause cites it

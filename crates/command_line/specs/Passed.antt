@@ -54,6 +54,10 @@ pub record AreReplayOptions (rows : List Row) : Type 0 where
   pub readers : IsNumberIn 0 16 (codes "readers") rows
   pub workers : IsNumberIn 1 64 (codes "workers") rows
 
+-- what the option of a mix holds, beside those of a replay
+abbrev pub IsSendersOption : List Row → Type 0
+IsSendersOption rows = IsNumberIn 1 16 (codes "senders") rows
+
 -- what the numbers of a drill hold, and how its index is built
 pub record AreDrillOptions (rows : List Row) : Type 0 where
   pub number : IsNumberIn 1 1000000 (codes "N") rows

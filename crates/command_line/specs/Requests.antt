@@ -53,6 +53,7 @@ pub data Request : Type 0 where
   box : (searching : Searching) → Request
   near : (searching : Searching) → Request
   replay : (replaying : Replaying) → Request
+  mix : (replaying : Replaying) (senders : ℕ) → Request
   drill : (drilling : Drilling) → Request
   save : (building : Building) → Request
   check : (checking : Checking) → Request
@@ -96,6 +97,9 @@ replaying_of rows = record {
   readers = number_in (codes "readers") 0 rows;
 }
 
+abbrev pub mix_of : List Row → Request
+mix_of rows = mix (replaying_of rows) (number_in (codes "senders") 2 rows)
+
 abbrev pub drilling_of : List Row → Drilling
 drilling_of rows = record {
   number = number_in (codes "N") 1 rows;
@@ -121,22 +125,23 @@ request_for name rows =
     else (if bytes_eq name (codes "box") then Some (box (searching_of rows))
     else (if bytes_eq name (codes "near") then Some (near (searching_of rows))
     else (if bytes_eq name (codes "replay") then Some (replay (replaying_of rows))
+    else (if bytes_eq name (codes "mix") then Some (mix_of rows)
     else (if bytes_eq name (codes "drill") then Some (drill (drilling_of rows))
     else (if bytes_eq name (codes "save") then Some (save (building_of rows))
-    else (if bytes_eq name (codes "check") then Some (check (checking_of rows)) else None)))))))))
+    else (if bytes_eq name (codes "check") then Some (check (checking_of rows)) else None))))))))))
 
 -- the request that the program's own type stands for
 abbrev pub built_of : declared_building.Building → Building
-built_of b = record { file = b.file.now; narrow = b.narrow; eps = b.eps; eps_rec = b.eps_rec }
+built_of b = record { file = b.file.now; narrow = b.narrow; eps = b.bounds.eps; eps_rec = b.bounds.eps_rec }
 
 abbrev pub searched_of : declared_searching.Searching → Searching
 searched_of s = record { file = s.file.now; script = s.script.now; dims = s.dims }
 
 abbrev pub replayed_of : declared_replaying.Replaying → Replaying
-replayed_of r = record { script = r.script.now; levels = r.levels; batch = r.batch; readers = r.readers }
+replayed_of r = record { script = r.script.now; levels = r.plan.levels; batch = r.plan.batch; readers = r.plan.readers }
 
 abbrev pub drilled_of : declared_drilling.Drilling → Drilling
-drilled_of d = record { number = d.number; seed = d.seed; eps = d.eps; eps_rec = d.eps_rec }
+drilled_of d = record { number = d.drill.number; seed = d.drill.seed; eps = d.bounds.eps; eps_rec = d.bounds.eps_rec }
 
 abbrev pub checked_of : declared_checking.Checking → Checking
 checked_of c = record { file = c.file.now; index = c.index.now; narrow = c.narrow }
@@ -149,6 +154,7 @@ asked_of (variant.Relax building script pieces) = relax (built_of building) scri
 asked_of (variant.Box searching) = box (searched_of searching)
 asked_of (variant.Near searching) = near (searched_of searching)
 asked_of (variant.Replay replaying) = replay (replayed_of replaying)
+asked_of (variant.Mix replaying senders) = mix (replayed_of replaying) senders.count
 asked_of (variant.Drill drilling) = drill (drilled_of drilling)
 asked_of (variant.Save building) = save (built_of building)
 asked_of (variant.Check checking) = check (checked_of checking)
@@ -162,6 +168,7 @@ first_file (relax building script pieces) = Some building.file
 first_file (box searching) = Some searching.file
 first_file (near searching) = Some searching.file
 first_file (replay replaying) = Some replaying.script
+first_file (mix replaying senders) = Some replaying.script
 first_file (drill drilling) = None
 first_file (save building) = Some building.file
 first_file (check checking) = Some checking.file

@@ -4,7 +4,7 @@ ghost use Rattle.clap.specs.Words.{app_of, rule_of};
 ghost use Rattle.clap.specs.declared.builder.command.Command.TheViews.{out-Command};
 ghost use Rattle.command_line.specs.Application.{application, build_rules, index_rules};
 ghost use Rattle.command_line.specs.Application.{query_rules, relax_rules, points_rules};
-ghost use Rattle.command_line.specs.Application.{replay_rules, command};
+ghost use Rattle.command_line.specs.Application.{mix_rules, replay_rules, command};
 ghost use Rattle.command_line.specs.Application.{flag, number, positional};
 ghost use Rattle.command_line.specs.Application.{bare_program, batch_rules};
 ghost use Rattle.command_line.specs.Application.{drawn_rules, drill_rules};
@@ -21,6 +21,9 @@ const MOST_WORKERS: u32 = 64;
 
 /// How many readers ask beside the writer at most.
 const MOST_READERS: u32 = 16;
+
+/// Among how many senders updates are dealt out at most.
+const MOST_SENDERS: u32 = 16;
 
 /// How many bits of a key a table goes by at most.
 const MOST_BITS: u32 = 20;
@@ -45,7 +48,8 @@ pub fn application<'a>(alloc: Global) -> Result<Command<'a>, AllocError>
         .subcommand(relax_command(alloc)?)?
         .subcommand(points_command(alloc, "box")?)?
         .subcommand(points_command(alloc, "near")?)?
-        .subcommand(replay_command(alloc)?)?
+        .subcommand(replay_command(alloc, "replay")?)?
+        .subcommand(mix_command(alloc)?)?
         .subcommand(drill_command(alloc)?)?
         .subcommand(index_command(alloc, "save")?)?
         .subcommand(check_command(alloc)?)
@@ -117,26 +121,35 @@ fn points_command<'a>(alloc: Global, name: &'a str) -> Result<Command<'a>, Alloc
         .arg(number(alloc, "dims", 2, 4, "2"))
 }
 
-fn replay_command<'a>(alloc: Global) -> Result<Command<'a>, AllocError>
+// A command over a script of updates and questions.
+fn replay_command<'a>(alloc: Global, name: &'a str) -> Result<Command<'a>, AllocError>
     ensures shape { IfOk result
-        (λ made. app_of made ≡ record { top = command (codes "replay") replay_rules; subs = [] }) }
+        (λ made. app_of made ≡ record { top = command name.entry.now replay_rules; subs = [] }) }
     ensures local { IfOk result (λ made. (out-Command made).has_globals ≡ false) }
 {
-    batch_command(alloc)?
+    batch_command(alloc, name)?
         .arg(number(alloc, "readers", 0, MOST_READERS, "0"))?
         .arg(workers(alloc))
 }
 
 // The same without readers and workers.
-fn batch_command<'a>(alloc: Global) -> Result<Command<'a>, AllocError>
+fn batch_command<'a>(alloc: Global, name: &'a str) -> Result<Command<'a>, AllocError>
     ensures shape { IfOk result
-        (λ made. app_of made ≡ record { top = command (codes "replay") batch_rules; subs = [] }) }
+        (λ made. app_of made ≡ record { top = command name.entry.now batch_rules; subs = [] }) }
     ensures local { IfOk result (λ made. (out-Command made).has_globals ≡ false) }
 {
-    Command::new(alloc, "replay")
+    Command::new(alloc, name)
         .arg(positional(alloc, "SCRIPT"))?
         .arg(number(alloc, "levels", 1, 26, "20"))?
         .arg(number(alloc, "batch", 1, 65_536, "16"))
+}
+
+fn mix_command<'a>(alloc: Global) -> Result<Command<'a>, AllocError>
+    ensures shape { IfOk result
+        (λ made. app_of made ≡ record { top = command (codes "mix") mix_rules; subs = [] }) }
+    ensures local { IfOk result (λ made. (out-Command made).has_globals ≡ false) }
+{
+    replay_command(alloc, "mix")?.arg(number(alloc, "senders", 1, MOST_SENDERS, "2"))
 }
 
 fn drill_command<'a>(alloc: Global) -> Result<Command<'a>, AllocError>

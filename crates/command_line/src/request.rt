@@ -1,6 +1,7 @@
 // What the words ask for.
-ghost use Rattle.std.specs.Prelude.{◌<◌, ◌≤◌, ◌^◌};
-ghost use Rattle.exact_cross.specs.declared.TheConstants.{MAX_EPSILON};
+ghost use Rattle.std.specs.Prelude.{◌≤◌};
+
+use options::{Bounds, Drill, Pieces, Plan, Senders, Table, Workers};
 
 /// A key file, and how its index is built.
 #[derive(Clone, Copy, Debug)]
@@ -9,33 +10,8 @@ pub struct Building<'a> {
     pub file: &'a str,
     /// Keys are 32 bits wide, and not 64.
     pub narrow: bool,
-    /// The error bound `ε` of level 0, in ranks.
-    pub eps: u32,
-    /// The error bound `ε'` of the levels above, in ranks.
-    pub eps_rec: u32,
-    /// How many workers build the index, which no answer depends on.
-    pub workers: u32,
-    pub ghost bounded: { eps ≤ MAX_EPSILON },
-    pub ghost bounded_above: { eps_rec ≤ MAX_EPSILON },
-    pub ghost staffed: { 1 ≤ workers },
-    pub ghost few_workers: { workers ≤ 64 },
-}
-
-/// Whether a table takes the place of the levels above level 0, which no answer depends on.
-#[derive(Clone, Copy, Debug)]
-pub struct Table {
-    /// How many bits of a key the table goes by, at most 20; 0 where there is no table.
-    pub bits: u32,
-    pub ghost few: { bits ≤ 20 },
-}
-
-/// Into how many even pieces the points of a relaxed index are cut.
-#[derive(Clone, Copy, Debug)]
-pub struct Pieces {
-    /// From 1 to 65,536.
-    pub count: u32,
-    pub ghost some: { 1 ≤ count },
-    pub ghost few: { count ≤ 65536 },
+    pub bounds: Bounds,
+    pub workers: Workers,
 }
 
 /// A file of points, and a script of what is asked of them.
@@ -56,43 +32,15 @@ pub struct Searching<'a> {
 pub struct Replaying<'a> {
     /// The name of the script.
     pub script: &'a str,
-    /// How many levels the map has, from 1 to 26.
-    pub levels: u32,
-    /// How many updates a batch has.
-    pub batch: u32,
-    /// How many readers ask beside the writer, at most 16.
-    pub readers: u32,
-    /// How many workers build a level, which no answer depends on.
-    pub workers: u32,
-    pub ghost some_levels: { 1 ≤ levels },
-    pub ghost few_levels: { levels ≤ 26 },
-    pub ghost some_updates: { 1 ≤ batch },
-    pub ghost few_updates: { batch ≤ 65536 },
-    pub ghost few_readers: { readers ≤ 16 },
-    pub ghost staffed: { 1 ≤ workers },
-    pub ghost few_workers: { workers ≤ 64 },
+    pub plan: Plan,
 }
 
 /// How many inputs of each kind are drawn, and how an index of the keys is built.
 #[derive(Clone, Copy, Debug)]
 pub struct Drilling {
-    /// How many inputs there are of each kind, from 1 to 1,000,000.
-    pub number: u32,
-    /// The seed, below 2^31.
-    pub seed: u32,
-    /// The error bound `ε` of level 0, in ranks.
-    pub eps: u32,
-    /// The error bound `ε'` of the levels above, in ranks.
-    pub eps_rec: u32,
-    /// How many workers build the index, which no answer depends on.
-    pub workers: u32,
-    pub ghost some: { 1 ≤ number },
-    pub ghost few: { number ≤ 1000000 },
-    pub ghost below: { seed < 2 ^ 31 },
-    pub ghost bounded: { eps ≤ MAX_EPSILON },
-    pub ghost bounded_above: { eps_rec ≤ MAX_EPSILON },
-    pub ghost staffed: { 1 ≤ workers },
-    pub ghost few_workers: { workers ≤ 64 },
+    pub drill: Drill,
+    pub bounds: Bounds,
+    pub workers: Workers,
 }
 
 /// A key file, and a saved index that is checked over its keys.
@@ -147,6 +95,12 @@ pub enum Request<'a> {
     /// Write what the questions of a script get beside its updates and after all of them.
     Replay {
         replaying: Replaying<'a>,
+    },
+    /// Write in which order the updates of a script came of their senders, and what its questions
+    /// get beside them and after all of them.
+    Mix {
+        replaying: Replaying<'a>,
+        senders: Senders,
     },
     /// Write what is counted of inputs of every kind that are drawn.
     Drill {

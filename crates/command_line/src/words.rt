@@ -8,20 +8,21 @@ ghost use Rattle.command_line.specs.Application.{application};
 ghost use Rattle.command_line.specs.Requests.{asked_of, building_of, built_of, is_given, name_in};
 ghost use Rattle.command_line.specs.Requests.{number_in, query_of, relax_of, request_for};
 ghost use Rattle.command_line.specs.Requests.{searched_of, searching_of, replayed_of};
-ghost use Rattle.command_line.specs.Requests.{replaying_of};
+ghost use Rattle.command_line.specs.Requests.{mix_of, replaying_of};
 ghost use Rattle.command_line.specs.Words.{AreRefused, AreTaken, AskFor, request_of};
 ghost use Rattle.command_line.specs.Passed.{AreIndexOptions, AreQueryOptions, AreReplayOptions};
 ghost use Rattle.command_line.specs.Passed.{IsDimensionOption, IsFlag, IsNumberIn};
-ghost use Rattle.command_line.specs.Passed.{IsPiecesOption};
+ghost use Rattle.command_line.specs.Passed.{IsPiecesOption, IsSendersOption};
 ghost use Rattle.command_line.specs.Passed.{AreDrillOptions};
 ghost use Rattle.command_line.specs.Requests.{drilled_of, drilling_of};
 ghost use Rattle.command_line.specs.Requests.{checked_of, checking_of};
 ghost use Rattle.command_line.specs.Passed.{IsNarrowOption};
 
 use crate::definition::application;
-use crate::request::{Building, Checking, Drilling, Pieces, Replaying, Request, Searching, Table};
+use crate::request::{Building, Checking, Drilling, Replaying, Request, Searching};
 use clap::ArgMatches;
 use clap::error::ErrorKind;
+use options::{Bounds, Drill, Pieces, Plan, Senders, Table, Workers};
 use std::alloc::{AllocError, Global};
 use thiserror::Error;
 
@@ -91,6 +92,8 @@ fn request_in<'a>(matches: &ArgMatches<'a>) -> Option<Request<'a>>
     } else if name == "replay" {
         let replaying = replaying_in(found);
         Some(Request::Replay { replaying })
+    } else if name == "mix" {
+        Some(mix_in(found))
     } else if name == "drill" {
         let drilling = drilling_in(found);
         Some(Request::Drill { drilling })
@@ -154,8 +157,7 @@ fn building_in<'a>(found: &ArgMatches<'a>) -> Building<'a>
     Building {
         file: name_in(found, "FILE"),
         narrow: is_given(found, "narrow"),
-        eps: eps_in(found),
-        eps_rec: eps_rec_in(found),
+        bounds: bounds_in(found),
         workers: workers_in(found),
     }
 }
@@ -177,10 +179,27 @@ fn replaying_in<'a>(found: &ArgMatches<'a>) -> Replaying<'a>
 {
     Replaying {
         script: name_in(found, "SCRIPT"),
-        levels: number_in(found, "levels", 20),
-        batch: number_in(found, "batch", 16),
-        readers: readers_in(found),
-        workers: workers_in(found),
+        plan: plan_in(found),
+    }
+}
+
+fn mix_in<'a>(found: &ArgMatches<'a>) -> Request<'a>
+    requires replay { AreReplayOptions (rows_of (found_of found.now)) }
+    requires senders { IsSendersOption (rows_of (found_of found.now)) }
+    ensures { asked_of result ≡ mix_of (rows_of (found_of found.now)) }
+{
+    Request::Mix {
+        replaying: replaying_in(found),
+        senders: senders_in(found),
+    }
+}
+
+fn senders_in(found: &ArgMatches<'_>) -> Senders
+    requires { IsSendersOption (rows_of (found_of found.now)) }
+    ensures { result.count ≡ number_in (codes "senders") 2 (rows_of (found_of found.now)) }
+{
+    Senders {
+        count: number_in(found, "senders", 2),
     }
 }
 
@@ -189,10 +208,8 @@ fn drilling_in(found: &ArgMatches<'_>) -> Drilling
     ensures { drilled_of result ≡ drilling_of (rows_of (found_of found.now)) }
 {
     Drilling {
-        number: number_in(found, "N", 1),
-        seed: number_in(found, "SEED", 0),
-        eps: eps_in(found),
-        eps_rec: eps_rec_in(found),
+        drill: drill_in(found),
+        bounds: bounds_in(found),
         workers: workers_in(found),
     }
 }
@@ -208,40 +225,50 @@ fn checking_in<'a>(found: &ArgMatches<'a>) -> Checking<'a>
     }
 }
 
-// The error bound of level 0.
-fn eps_in(found: &ArgMatches<'_>) -> u32
-    requires { IsNumberIn 0 MAX_EPSILON (codes "eps") (rows_of (found_of found.now)) }
-    ensures value { result ≡ number_in (codes "eps") 64 (rows_of (found_of found.now)) }
-    ensures bounded { result ≤ MAX_EPSILON }
+fn bounds_in(found: &ArgMatches<'_>) -> Bounds
+    requires eps { IsNumberIn 0 MAX_EPSILON (codes "eps") (rows_of (found_of found.now)) }
+    requires eps_rec { IsNumberIn 0 MAX_EPSILON (codes "rec") (rows_of (found_of found.now)) }
+    ensures eps { result.eps ≡ number_in (codes "eps") 64 (rows_of (found_of found.now)) }
+    ensures eps_rec { result.eps_rec ≡ number_in (codes "rec") 4 (rows_of (found_of found.now)) }
 {
-    number_in(found, "eps", 64)
+    Bounds {
+        eps: number_in(found, "eps", 64),
+        eps_rec: number_in(found, "rec", 4),
+    }
 }
 
-// That of the levels above.
-fn eps_rec_in(found: &ArgMatches<'_>) -> u32
-    requires { IsNumberIn 0 MAX_EPSILON (codes "rec") (rows_of (found_of found.now)) }
-    ensures value { result ≡ number_in (codes "rec") 4 (rows_of (found_of found.now)) }
-    ensures bounded { result ≤ MAX_EPSILON }
-{
-    number_in(found, "rec", 4)
-}
-
-// How many readers ask beside the writer.
-fn readers_in(found: &ArgMatches<'_>) -> u32
-    requires { IsNumberIn 0 16 (codes "readers") (rows_of (found_of found.now)) }
-    ensures value { result ≡ number_in (codes "readers") 0 (rows_of (found_of found.now)) }
-    ensures few { result ≤ 16 }
-{
-    number_in(found, "readers", 0)
-}
-
-// How many workers build an index.
-fn workers_in(found: &ArgMatches<'_>) -> u32
+fn workers_in(found: &ArgMatches<'_>) -> Workers
     requires { IsNumberIn 1 64 (codes "workers") (rows_of (found_of found.now)) }
-    ensures some { 1 ≤ result }
-    ensures few { result ≤ 64 }
 {
-    number_in(found, "workers", 4)
+    Workers {
+        count: number_in(found, "workers", 4),
+    }
+}
+
+fn plan_in(found: &ArgMatches<'_>) -> Plan
+    requires { AreReplayOptions (rows_of (found_of found.now)) }
+    ensures levels { result.levels ≡ number_in (codes "levels") 20 (rows_of (found_of found.now)) }
+    ensures batch { result.batch ≡ number_in (codes "batch") 16 (rows_of (found_of found.now)) }
+    ensures readers { result.readers
+        ≡ number_in (codes "readers") 0 (rows_of (found_of found.now)) }
+{
+    Plan {
+        levels: number_in(found, "levels", 20),
+        batch: number_in(found, "batch", 16),
+        readers: number_in(found, "readers", 0),
+        workers: number_in(found, "workers", 4),
+    }
+}
+
+fn drill_in(found: &ArgMatches<'_>) -> Drill
+    requires { AreDrillOptions (rows_of (found_of found.now)) }
+    ensures number { result.number ≡ number_in (codes "N") 1 (rows_of (found_of found.now)) }
+    ensures seed { result.seed ≡ number_in (codes "SEED") 0 (rows_of (found_of found.now)) }
+{
+    Drill {
+        number: number_in(found, "N", 1),
+        seed: number_in(found, "SEED", 0),
+    }
 }
 
 // The name that was given.

@@ -3,6 +3,7 @@ pub mod LevelTexts
 pub mod InTurnLemmas
 pub mod AnswerTexts
 pub mod PieceLemmas
+pub mod PlainLemmas
 pub mod ReplayLemmas
 pub mod SearchLemmas
 pub mod WritingLemmas

@@ -10,10 +10,12 @@ use Rattle.map_replay.specs.declared.question.Question.{Question}
 use Rattle.map_replay.specs.declared.reading.Sighting.{Sighting}
 use Rattle.map_replay.specs.declared.reading.Reading.{Reading}
 use Rattle.map_replay.specs.Questions.{answer_of}
-use Rattle.map_replay.specs.Readings.{AreAnswers, IsWholeReading}
+use Rattle.map_replay.specs.Readings.{AreAnswers, IsAmong, IsPublished, IsWholeMixedReading, IsWholeReading, IsWholeReadingOf}
 use Rattle.commands.specs.Texts.InTurn.{TellsEach}
-use Rattle.commands.specs.Texts.Replay.{IsRead, IsReplayed, closing_lines, last_line, reader_line, reader_lines, updates_line}
-use Rattle.commands.specs.ReplayLines.{read_lines, replayed_lines}
+use Rattle.map_replay.specs.Mixes.{IsMix}
+use Rattle.commands.specs.Texts.Mix.{IsMixedText, from_line}
+use Rattle.commands.specs.Texts.Replay.{IsReadOf, IsReplayed, closing_lines, last_line, reader_line, reader_lines, updates_line}
+use Rattle.commands.specs.ReplayLines.{IsTold, mixed_lines, read_lines, replayed_lines, told_lines}
 
 -- as many answers as questions, and the answer at a place
 pub answers_count : (updates : List Update) (questions : List Question) (sightings : List Sighting) → AreAnswers updates questions sightings →
@@ -63,30 +65,54 @@ last_begins count n i piece there is =
     ∙ ap (λ (line : List ℕ). line ∷ map (last_line count) (drop (i + 1) (range_with_len 0 n))) (sym is))
 
 -- the lines are those of the text
-module _ (updates : List Update) (questions : List Question) (batch : ℕ) where
-  all_read : (from : ℕ) (readings : List Reading) → All (IsWholeReading updates batch questions) readings →
-      TellsEach (IsRead updates questions batch) (range_with_len from (length readings)) (read_lines updates questions from readings)
+module _ (IsLength : ℕ → Type 0) (updates : List Update) (questions : List Question) where
+  all_read : (from : ℕ) (readings : List Reading) → All (IsWholeReadingOf IsLength updates questions) readings →
+      TellsEach (IsReadOf IsLength updates questions) (range_with_len from (length readings)) (read_lines updates questions from readings)
   all_read from [] each = refl
   all_read from (reading ∷ readings) each =
-      let whole : IsWholeReading updates batch questions reading = All-head (IsWholeReading updates batch questions) reading readings each in (
+      let whole : IsWholeReadingOf IsLength updates questions reading = All-head (IsWholeReadingOf IsLength updates questions) reading readings each in (
         reader_lines updates from questions reading.sightings.items,
         read_lines updates questions (from + 1) readings,
         (reading.sightings.items, whole.beside, refl),
-        all_read (from + 1) readings (All-tail (IsWholeReading updates batch questions) reading readings each),
+        all_read (from + 1) readings (All-tail (IsWholeReadingOf IsLength updates questions) reading readings each),
         refl,
       )
 
-  pub is_replayed : (readings : List Reading) (readers : ℕ) → length readings ≡ readers → All (IsWholeReading updates batch questions) readings →
-      IsReplayed updates questions batch readers (replayed_lines updates questions readings)
-  is_replayed readings readers count each = record {
-    read = read_lines updates questions 0 readings;
-    each = subst (λ (n : ℕ). TellsEach (IsRead updates questions batch) (range_with_len 0 n) (read_lines updates questions 0 readings)) count
-        (all_read 0 readings each);
-    lines = ap (λ (n : ℕ). updates_line (length updates) ∷ (read_lines updates questions 0 readings ++ closing_lines updates questions n)) count;
-  }
+  -- those of so many readers
+  of_readers : (readings : List Reading) (readers : ℕ) → length readings ≡ readers → All (IsWholeReadingOf IsLength updates questions) readings →
+      TellsEach (IsReadOf IsLength updates questions) (range_with_len 0 readers) (read_lines updates questions 0 readings)
+  of_readers readings readers count each =
+      subst (λ (n : ℕ). TellsEach (IsReadOf IsLength updates questions) (range_with_len 0 n) (read_lines updates questions 0 readings)) count (all_read 0 readings each)
+
+pub is_replayed : (updates : List Update) (questions : List Question) (batch : ℕ) (readings : List Reading) (readers : ℕ) → length readings ≡ readers →
+    All (IsWholeReading updates batch questions) readings → IsReplayed updates questions batch readers (replayed_lines updates questions readings)
+is_replayed updates questions batch readings readers count each = record {
+  read = read_lines updates questions 0 readings;
+  each = of_readers (IsPublished batch (length updates)) updates questions readings readers count each;
+  lines = ap (λ (n : ℕ). updates_line (length updates) ∷ (read_lines updates questions 0 readings ++ closing_lines updates questions n)) count;
+}
+
+-- and those of a mix
+pub is_mixed_text : (updates : List Update) (questions : List Question) (senders : ℕ) (numbers : List ℕ) (mixed : List Update) (readings : List Reading) (readers : ℕ) →
+    IsMix senders updates numbers mixed → length readings ≡ readers → All (IsWholeMixedReading mixed questions) readings →
+    IsMixedText updates questions readers senders (mixed_lines numbers mixed questions readings)
+is_mixed_text updates questions senders numbers mixed readings readers order count each = record {
+  numbers = numbers;
+  mixed = mixed;
+  order = order;
+  read = read_lines mixed questions 0 readings;
+  each = of_readers (IsAmong (length mixed)) mixed questions readings readers count each;
+  lines = ap (λ (n : ℕ). updates_line n ∷ (map from_line numbers ++ told_lines mixed questions readings)) order.count
+      ∙ ap (λ (n : ℕ). updates_line (length updates) ∷ (map from_line numbers ++ (read_lines mixed questions 0 readings ++ closing_lines mixed questions n))) count;
+}
 
 -- the text of the same updates and questions
 pub same_lines : (readings : List Reading) {xs ys : List Update} {ps qs : List Question} → xs ≡ ys → ps ≡ qs →
     replayed_lines xs ps readings ≡ replayed_lines ys qs readings
 same_lines readings {xs} {ys} {ps} {qs} updates questions =
     ap (λ (u : List Update). replayed_lines u ps readings) updates ∙ ap (λ (q : List Question). replayed_lines ys q readings) questions
+
+-- a reader's text is of what it was answered and saw last
+pub whole_told : {IsLength : ℕ → Type 0} (updates : List Update) (questions : List Question) (reading : Reading) →
+    IsWholeReadingOf IsLength updates questions reading → IsTold updates questions reading
+whole_told updates questions reading whole = record { answers = whole.beside.answers; last = whole.last }

@@ -1,8 +1,10 @@
--- The lines of `replay` by what readers saw. No public clause cites it.
-use Rattle.std.specs.Prelude.{◌+◌, ℕ, List, [], ◌∷◌, ◌++◌, length}
+-- The lines of `replay` and `mix` by what readers saw. No public clause cites it.
+use Rattle.std.specs.Prelude.{◌≡◌, ◌+◌, map, ℕ, List, [], ◌∷◌, ◌++◌, length}
 use Rattle.log_levels.specs.declared.update.Update.{Update}
 use Rattle.map_replay.specs.declared.question.Question.{Question}
 use Rattle.map_replay.specs.declared.reading.Reading.{Reading}
+use Rattle.map_replay.specs.Readings.{AreAnswers}
+use Rattle.commands.specs.Texts.Mix.{from_line}
 use Rattle.commands.specs.Texts.Replay.{reader_lines, updates_line, closing_lines}
 
 -- the lines of each reader in turn, of which the first has this number
@@ -15,3 +17,16 @@ read_lines updates questions reader (reading ∷ readings) =
 abbrev pub replayed_lines : List Update → List Question → List Reading → List (List ℕ)
 replayed_lines updates questions readings =
     updates_line (length updates) ∷ (read_lines updates questions 0 readings ++ closing_lines updates questions (length readings))
+
+-- a reader that was answered each question after so many updates, and saw all of them at the end
+pub record IsTold (updates : List Update) (questions : List Question) (reading : Reading) : Type 0 where
+  pub answers : AreAnswers updates questions reading.sightings.items
+  pub last : reading.last ≡ length updates
+
+-- what readers were answered, and what comes behind
+abbrev pub told_lines : List Update → List Question → List Reading → List (List ℕ)
+told_lines updates questions readings = read_lines updates questions 0 readings ++ closing_lines updates questions (length readings)
+
+-- the whole text of `mix`
+abbrev pub mixed_lines : (numbers : List ℕ) → List Update → List Question → List Reading → List (List ℕ)
+mixed_lines numbers mixed questions readings = updates_line (length mixed) ∷ (map from_line numbers ++ told_lines mixed questions readings)

@@ -3,7 +3,7 @@ use Rattle.std.specs.Prelude.{ℕ, Bool, List}
 use Rattle.zorder.specs.declared.regions.Region.{Region}
 use Rattle.log_levels.specs.declared.update.Update.{Update}
 use Rattle.map_replay.specs.declared.question.Question.{Question}
-use Rattle.commands.specs.declared.task.Bounds as declared_bounds
+use Rattle.options.specs.declared.index.Bounds as declared_bounds
 use Rattle.commands.specs.declared.task.Centre.{Centre}
 use Rattle.commands.specs.declared.task.Task as declared
 use Rattle.commands.specs.declared.task.Task.TheVariants as variant
@@ -22,6 +22,7 @@ pub data Task : Type 0 where
   box : (d : ℕ) (coords : List ℕ) (regions : List Region) → Task
   near : (d : ℕ) (coords : List ℕ) (centres : List Centre) → Task
   replay : (updates : List Update) (questions : List Question) (batch readers : ℕ) → Task
+  mix : (updates : List Update) (questions : List Question) (readers senders : ℕ) → Task
   drill : (n seed : ℕ) (bounds : Bounds) → Task
   save : (keys : List ℕ) (bounds : Bounds) → Task
   check : (levels runs : ℕ) → Task
@@ -38,7 +39,8 @@ task_of (variant.Query keys bounds workers questions windows table) =
 task_of (variant.Relax keys bounds workers pieces questions) = relax keys.keys.items (bounds_of bounds) pieces.count questions.items
 task_of (variant.Box search) = box search.dims search.coords.items search.regions.items
 task_of (variant.Near neighbours) = near neighbours.dims neighbours.coords.items neighbours.centres.items
-task_of (variant.Replay history) = replay history.updates.items history.questions.items history.batch history.readers
+task_of (variant.Replay history) = replay history.updates.items history.questions.items history.plan.batch history.plan.readers
+task_of (variant.Mix mixing) = mix mixing.history.updates.items mixing.history.questions.items mixing.history.plan.readers mixing.senders.count
 task_of (variant.Drill d bounds workers) = drill d.number d.seed (bounds_of bounds)
 task_of (variant.Save keys bounds workers) = save keys.keys.items (bounds_of bounds)
 task_of (variant.Check levels runs) = check levels runs

@@ -1,7 +1,7 @@
 -- The text of each task.
 use Rattle.std.specs.Prelude.{ℕ, List}
 use Rattle.commands.specs.Tasks.{Task}
-use Rattle.commands.specs.Tasks.Task.{build, explain, query, relax, box, near, replay, drill, save, check}
+use Rattle.commands.specs.Tasks.Task.{build, explain, query, relax, box, near, replay, drill, save, check, mix}
 use Rattle.commands.specs.Texts.Build.{IsBuilt}
 use Rattle.commands.specs.Texts.Explain.{IsExplained}
 use Rattle.commands.specs.Texts.Query.{IsAnswered}
@@ -9,6 +9,7 @@ use Rattle.commands.specs.Texts.Relax.{IsBuiltRelaxed}
 use Rattle.commands.specs.Texts.Regions.{IsSearched}
 use Rattle.commands.specs.Texts.Neighbours.{IsNearest}
 use Rattle.commands.specs.Texts.Replay.{IsReplayed}
+use Rattle.commands.specs.Texts.Mix.{IsMixedText}
 use Rattle.commands.specs.Texts.Drill.{IsDrilled}
 use Rattle.commands.specs.Texts.Save.{IsSaved}
 use Rattle.commands.specs.Texts.Check.{IsChecked}
@@ -22,6 +23,7 @@ pub mod Relax
 pub mod Regions
 pub mod Neighbours
 pub mod Replay
+pub mod Mix
 pub mod Drill
 pub mod Save
 pub mod Check
@@ -35,6 +37,7 @@ IsText (relax keys bounds parts questions) pieces = IsBuiltRelaxed keys bounds p
 IsText (box d coords regions) pieces = IsSearched d coords regions pieces
 IsText (near d coords centres) pieces = IsNearest d coords centres pieces
 IsText (replay updates questions batch readers) pieces = IsReplayed updates questions batch readers pieces
+IsText (mix updates questions readers senders) pieces = IsMixedText updates questions readers senders pieces
 IsText (drill n seed bounds) pieces = IsDrilled n seed bounds pieces
 IsText (save keys bounds) pieces = IsSaved keys bounds pieces
 IsText (check levels runs) pieces = IsChecked levels runs pieces

@@ -8,9 +8,10 @@ ghost use Rattle.commands.specs.Texts.Indexing.{tells_levels};
 ghost use Rattle.commands.specs.Texts.Build.{IsBuilt, built_level};
 
 use crate::indexing::{fill_level_line, index_of, write_keys};
-use crate::task::{Bounds, SortedKeys, Workers};
+use crate::task::SortedKeys;
 use edge::{Failed, Gate, Sink};
 use levels::Index;
+use options::{Bounds, Workers};
 use std::alloc::Global;
 use std::thread::Threads;
 use written::{TextLine, Unfinished, hand_over};

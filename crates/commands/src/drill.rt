@@ -21,13 +21,14 @@ ghost use Rattle.commands.specs.Texts.Drill.{finds_line, index_line, points_line
 use crate::finder::Finder;
 use crate::indexing::index_of;
 use crate::positions::positions_of;
-use crate::task::{Bounds, Drill, SortedKeys, Workers};
+use crate::task::SortedKeys;
 use boxes::Boxes;
 use budget::NoMemory;
 use drill_inputs::{Inputs, searched_region};
 use edge::{Failed, Gate, Sink};
 use levels::Index;
 use log_levels::{LogMap, MapFault, Update};
+use options::{Bounds, Drill, Workers};
 use std::alloc::Global;
 use std::thread::Threads;
 use written::{TextLine, Unfinished, hand_over};

@@ -18,10 +18,11 @@ ghost use Rattle.commands.specs.Texts.Explain.{IsExplained, level_lines, ending}
 ghost use Rattle.commands.specs.Texts.Explain.{run_line, run_lines};
 
 use crate::indexing::{fill_level_line, index_of, write_keys};
-use crate::task::{Bounds, SortedKeys, Workers};
+use crate::task::SortedKeys;
 use edge::{Failed, Gate, Sink};
 use exact_cross::{Line, Segment, Side, Witness};
 use levels::Index;
+use options::{Bounds, Workers};
 use std::alloc::Global;
 use std::thread::Threads;
 use written::{LINE_ROOM, TextLine, Unfinished, hand_over};

@@ -13,7 +13,7 @@ use levels::{Index, positions_among, positions_grouped};
 use std::alloc::Global;
 
 /// So many questions are grouped by where they fall among the sorted keys: fewer gain little by it.
-const MANY: usize = 65_536;
+const GROUP_FROM_QUESTIONS: usize = 65_536;
 
 /// Finds how many keys are below a question.
 #[derive(Drop)]
@@ -70,7 +70,7 @@ fn positions_of_keys(alloc: Global, keys: &[u64], questions: &[u64], into: &mut 
     ensures positions { into.new.items ≡ into.old.items ++ map (lb keys.now) questions.now }
     ensures capacity { vec_capacity into.old ≤ vec_capacity into.new }
 {
-    if questions.len() < MANY || questions.len() > u32::MAX as usize {
+    if questions.len() < GROUP_FROM_QUESTIONS || questions.len() > u32::MAX as usize {
         positions_among(keys, questions, into);
     } else {
         positions_grouped(alloc, keys, questions, into);

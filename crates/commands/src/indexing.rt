@@ -7,10 +7,11 @@ ghost use Rattle.commands.specs.Tasks.{bounds_of};
 ghost use Rattle.commands.specs.Texts.Indexing.{keys_line, level_line, level_line_of};
 ghost use Rattle.commands.specs.Texts.Indexing.{slack_at, slack_ending};
 
-use crate::task::{Bounds, SortedKeys, Workers};
+use crate::task::SortedKeys;
 use budget::NoMemory;
 use edge::{Failed, Gate, Sink};
 use levels::{Index, Keys};
+use options::{Bounds, Workers};
 use std::alloc::Global;
 use std::thread::Threads;
 use written::{TextLine, hand_over};

@@ -23,6 +23,7 @@ mod drill;
 mod explain;
 mod finder;
 mod indexing;
+mod mix;
 mod neighbours;
 mod positions;
 mod query;
@@ -45,9 +46,7 @@ pub use save::one_save;
 use std::alloc::Global;
 use std::sync::Wait;
 use std::thread::Threads;
-pub use task::{
-    Bounds, Centre, Drill, History, Neighbours, Pieces, Search, SortedKeys, Table, Task, Workers,
-};
+pub use task::{Centre, History, Mixing, Neighbours, Search, SortedKeys, Task};
 use written::Unfinished;
 
 /// Writes the text of the task. An index is built by workers, which pass the gate before and after
@@ -94,6 +93,7 @@ pub fn write<R: Threads + Wait + Sync, S: Sink, G: Gate>(
         Task::Box { search } => regions::write(rt, alloc, search, out),
         Task::Near { neighbours } => neighbours::write(rt, alloc, neighbours, out),
         Task::Replay { history } => replay::write(rt, alloc, history, out, gate),
+        Task::Mix { mixing } => mix::write(rt, alloc, mixing, out, gate),
         Task::Drill {
             drill,
             bounds,

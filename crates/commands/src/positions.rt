@@ -9,8 +9,8 @@ ghost use Rattle.commands.specs.Finders.{keys_of};
 ghost use Rattle.commands.specs.Pieces.{piece_of};
 
 use crate::finder::Finder;
-use crate::task::Workers;
 use budget::NoMemory;
+use options::Workers;
 use rayon::slice::par_for_each_mut;
 use std::alloc::Global;
 use std::thread::Threads;

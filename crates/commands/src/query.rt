@@ -1,11 +1,11 @@
 // The command `query`.
 ghost use Rattle.std.specs.Prelude.{◌≡◌, ◌∷◌, ◌≤◌, [], ℕ, Bool, List, Option};
-ghost use Rattle.std.specs.Prelude.{false, is_some, length, map, IfSome, OnOk, OnErr};
+ghost use Rattle.std.specs.Prelude.{is_some, length, map, IfSome, OnOk, OnErr};
 ghost use Rattle.std.specs.Prelude.{vec_capacity};
 ghost use Rattle.std.specs.List.Sorted.{IsNonDecreasing};
 ghost use Rattle.window_search.specs.Searches.{lb};
 ghost use Rattle.written.specs.Writing.{Writes, BreaksOff, WritesText};
-ghost use Rattle.commands.specs.Finders.{IsIndexOf};
+ghost use Rattle.commands.specs.Finders.{IsIndexOf, keys_of};
 ghost use Rattle.commands.specs.Tasks.{Bounds as TaskBounds, bounds_of};
 ghost use Rattle.commands.specs.Texts.Query.{IsAnswered, TellsAnswer, TellsWindows};
 ghost use Rattle.commands.specs.Texts.Query.{find_line, window_line, window_lines};
@@ -13,9 +13,10 @@ ghost use Rattle.commands.specs.Texts.Query.{find_line, window_line, window_line
 use crate::finder::Finder;
 use crate::indexing::index_of;
 use crate::positions::positions_of;
-use crate::task::{Bounds, SortedKeys, Table, Workers};
+use crate::task::SortedKeys;
 use edge::{Failed, Gate, Sink};
 use levels::Index;
+use options::{Bounds, Table, Workers};
 use std::alloc::Global;
 use std::thread::Threads;
 use written::{TextLine, Unfinished, hand_over};
@@ -45,19 +46,18 @@ pub fn write<R: Threads + Sync, S: Sink, G: Gate>(
         (IsAnswered sorted.keys.items (bounds_of bounds) questions.now windows) }
 {
     if !windows && table.bits == 0 && !is_paid_for(questions.len(), sorted.keys.len()) {
-        return write_by_keys(rt, alloc, &sorted, bounds, workers, questions, out);
+        let (keys, finder) = (&sorted.keys, Finder::Sorted(&sorted));
+        return write_found(
+            rt, alloc, keys, bounds, workers, questions, &finder, None, out,
+        );
     }
     let index = index_of(rt, alloc, sorted, bounds, workers, gate)?;
     let finder = Finder::of(alloc, &index, table.bits)?;
-    let positions = positions_of(rt, alloc, &finder, workers, questions)?;
-    let mut room = Vec::with_capacity(alloc, index.levels() as usize)?;
     let told = if windows { Some(&index) } else { None };
     let keys = index.keys().file();
-    let written = write_answers(out, keys, bounds, questions, &positions, told, &mut room);
-    match written {
-        Ok(()) => Ok(()),
-        Err(_) => Err(Unfinished::WriteFault),
-    }
+    write_found(
+        rt, alloc, keys, bounds, workers, questions, &finder, told, out,
+    )
 }
 
 // Whether so many questions pay for the index of so many keys: building costs a key some 10 to 30
@@ -66,33 +66,38 @@ fn is_paid_for(questions: usize, keys: usize) -> bool {
     questions >= keys
 }
 
-// The same without an index, where no windows are asked for.
-fn write_by_keys<R: Threads + Sync, S: Sink>(
+// The same by a finder. `told` is the index whose windows are told, if they are.
+fn write_found<R: Threads + Sync, S: Sink>(
     rt: &R,
     alloc: Global,
-    sorted: &SortedKeys,
+    keys: &[u64],
     bounds: Bounds,
     workers: Workers,
     questions: &[u64],
+    finder: &Finder<'_>,
+    told: Option<&Index>,
     out: &mut S,
 ) -> Result<(), Unfinished>
+    requires finder { keys_of finder.now ≡ keys.now }
+    requires index { IfSome told (λ index. IsIndexOf keys.now (bounds_of bounds) index.now) }
     ensures { WritesText S.Sink out.old result out.new
-        (IsAnswered sorted.now.keys.items (bounds_of bounds) questions.now false) }
+        (IsAnswered keys.now (bounds_of bounds) questions.now (is_some told.entry)) }
 {
-    let positions = positions_of(rt, alloc, &Finder::Sorted(sorted), workers, questions)?;
-    let mut room = Vec::new(alloc);
-    let written = write_answers(
-        out,
-        &sorted.keys,
-        bounds,
-        questions,
-        &positions,
-        None,
-        &mut room,
-    );
-    match written {
+    let positions = positions_of(rt, alloc, finder, workers, questions)?;
+    let mut room = Vec::with_capacity(alloc, level_count(told))?;
+    match write_answers(out, keys, bounds, questions, &positions, told, &mut room) {
         Ok(()) => Ok(()),
         Err(_) => Err(Unfinished::WriteFault),
+    }
+}
+
+// How many levels the index has, if there is one.
+fn level_count(told: Option<&Index>) -> usize
+    ensures { IfSome told.entry (λ index. length index.now.levels ≤ result) }
+{
+    match told {
+        Some(index) => index.levels() as usize,
+        None => 0,
     }
 }
 

@@ -10,18 +10,18 @@ ghost use Rattle.written.specs.TextLines.{text_line};
 ghost use Rattle.log_levels.specs.Maps.{map_after};
 ghost use Rattle.log_levels.specs.Shapes.{StandsFor};
 ghost use Rattle.map_replay.specs.Questions.{answer_of};
-ghost use Rattle.map_replay.specs.Readings.{AreAnswers, IsWholeReading};
+ghost use Rattle.map_replay.specs.Readings.{AreAnswers};
 ghost use Rattle.commands.specs.Texts.Replay.{IsReplayed, answer_words, closing_lines};
 ghost use Rattle.commands.specs.Texts.Replay.{count_words, end_line, end_lines, get_words};
 ghost use Rattle.commands.specs.Texts.Replay.{last_line, live_in, next_words, reader_line};
 ghost use Rattle.commands.specs.Texts.Replay.{reader_lines, updates_line};
-ghost use Rattle.commands.specs.ReplayLines.{read_lines, replayed_lines};
+ghost use Rattle.commands.specs.ReplayLines.{IsTold, read_lines, replayed_lines, told_lines};
 
 use crate::task::History;
 use budget::NoMemory;
 use edge::{Failed, Gate, Sink};
 use log_levels::{LogMap, MapFault, Update};
-use map_replay::{Answer, Asked, Plan, Question, Reading, Replayed, Sighting, replay};
+use map_replay::{Answer, Asked, Question, Reading, Replayed, Sighting, replay};
 use std::alloc::Global;
 use std::sync::Wait;
 use std::thread::Threads;
@@ -40,9 +40,9 @@ pub fn write<R: Threads + Wait + Sync, S: Sink, G: Gate>(
     gate: &G,
 ) -> Result<(), Unfinished>
     ensures { WritesText S.Sink out.old result out.new (IsReplayed history.updates.items
-        history.questions.items history.batch history.readers) }
+        history.questions.items history.plan.batch history.plan.readers) }
 {
-    if history.readers == 0 {
+    if history.plan.readers == 0 {
         return write_alone(rt, alloc, &history, out, gate);
     }
     write_beside(rt, alloc, &history, out, gate)
@@ -56,9 +56,9 @@ fn write_alone<R: Threads + Sync, S: Sink, G: Gate>(
     out: &mut S,
     gate: &G,
 ) -> Result<(), Unfinished>
-    requires { history.now.readers ≡ 0 }
+    requires { history.now.plan.readers ≡ 0 }
     ensures { WritesText S.Sink out.old result out.new (IsReplayed history.now.updates.items
-        history.now.questions.items history.now.batch history.now.readers) }
+        history.now.questions.items history.now.plan.batch history.now.plan.readers) }
 {
     let map = map_of(rt, alloc, history, gate)?;
     let none: [Reading; 0] = [];
@@ -76,18 +76,12 @@ fn write_beside<R: Threads + Wait + Sync, S: Sink, G: Gate>(
     out: &mut S,
     gate: &G,
 ) -> Result<(), Unfinished>
-    requires { 0 < history.now.readers }
+    requires { 0 < history.now.plan.readers }
     ensures { WritesText S.Sink out.old result out.new (IsReplayed history.now.updates.items
-        history.now.questions.items history.now.batch history.now.readers) }
+        history.now.questions.items history.now.plan.batch history.now.plan.readers) }
 {
-    let plan = Plan {
-        levels: history.levels,
-        batch: history.batch,
-        readers: history.readers,
-        workers: history.workers.count,
-    };
     let (updates, questions) = (&history.updates, &history.questions);
-    let left = replay(rt, alloc, updates, questions, plan, gate)?;
+    let left = replay(rt, alloc, updates, questions, history.plan, gate)?;
     let done = write_lines(out, &left, left.readings(), updates, questions);
     left.close(rt);
     match done {
@@ -105,8 +99,8 @@ fn map_of<R: Threads + Sync, G: Gate>(
 ) -> Result<LogMap, NoMemory>
     ensures { IfOk result (λ map. StandsFor map history.now.updates.items) }
 {
-    let mut map = LogMap::new(alloc, history.levels)?;
-    match map.apply(rt, alloc, &history.updates, history.workers.count, gate) {
+    let mut map = LogMap::new(alloc, history.plan.levels)?;
+    match map.apply(rt, alloc, &history.updates, history.plan.workers, gate) {
         Ok(()) => Ok(map),
         Err(MapFault::NoMemory) => Err(NoMemory),
         Err(MapFault::Full { .. }) => unreachable!(),
@@ -122,8 +116,7 @@ fn write_lines<S: Sink, A: Asked>(
     questions: &[Question],
 ) -> Result<(), Failed>
     requires answers { A.answers_by asked.now (map_after updates.now) }
-    requires each { (batch : ℕ)
-        × All (IsWholeReading updates.now batch questions.now) readings.now }
+    requires each { All (IsTold updates.now questions.now) readings.now }
     ensures ok { OnOk result (Writes S.Sink out.old out.new
         (replayed_lines updates.now questions.now readings.now)) }
     ensures err { OnErr result (BreaksOff S.Sink out.old out.new
@@ -135,8 +128,8 @@ fn write_lines<S: Sink, A: Asked>(
     write_rest(out, &mut line, asked, readings, updates, questions)
 }
 
-// Writes all behind the first line.
-fn write_rest<S: Sink, A: Asked>(
+/// Writes what each reader was answered beside the updates, and what comes behind.
+pub fn write_rest<S: Sink, A: Asked>(
     out: &mut S,
     line: &mut TextLine,
     asked: &A,
@@ -145,14 +138,11 @@ fn write_rest<S: Sink, A: Asked>(
     questions: &[Question],
 ) -> Result<(), Failed>
     requires answers { A.answers_by asked.now (map_after updates.now) }
-    requires each { (batch : ℕ)
-        × All (IsWholeReading updates.now batch questions.now) readings.now }
+    requires each { All (IsTold updates.now questions.now) readings.now }
     ensures ok { OnOk result (Writes S.Sink out.old out.new
-        (read_lines updates.now questions.now 0 readings.now
-        ++ closing_lines updates.now questions.now (length readings.now))) }
+        (told_lines updates.now questions.now readings.now)) }
     ensures err { OnErr result (BreaksOff S.Sink out.old out.new
-        (read_lines updates.now questions.now 0 readings.now
-        ++ closing_lines updates.now questions.now (length readings.now))) }
+        (told_lines updates.now questions.now readings.now)) }
 {
     write_read(out, line, readings, updates, questions)?;
     write_closing(out, line, asked, readings, updates, questions)
@@ -166,7 +156,7 @@ fn write_read<S: Sink>(
     updates: &[Update],
     questions: &[Question],
 ) -> Result<(), Failed>
-    requires { (batch : ℕ) × All (IsWholeReading updates.now batch questions.now) readings.now }
+    requires { All (IsTold updates.now questions.now) readings.now }
     ensures ok { OnOk result (Writes S.Sink out.old out.new
         (read_lines updates.now questions.now 0 readings.now)) }
     ensures err { OnErr result (BreaksOff S.Sink out.old out.new
@@ -386,8 +376,8 @@ fn push_count(line: &mut TextLine, low: u64, high: u64, count: u64)
     line.push_number(count);
 }
 
-// A word and a number.
-fn fill_count(line: &mut TextLine, word: &[u8], count: u64)
+/// A word and a number.
+pub fn fill_count(line: &mut TextLine, word: &[u8], count: u64)
     requires { length word.now ≤ 64 }
     ensures { line.new ≡ text_line (word.now ∷ decimal count ∷ []) }
 {

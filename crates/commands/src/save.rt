@@ -10,12 +10,13 @@ ghost use Rattle.commands.specs.Tasks.{Bounds as TaskBounds, bounds_of};
 ghost use Rattle.commands.specs.Texts.Save.{IsSaved, saved_pieces};
 
 use crate::indexing::index_of;
-use crate::task::{Bounds, SortedKeys, Workers};
+use crate::task::SortedKeys;
 use budget::NoMemory;
 use edge::{Failed, Gate, Sink};
 use exact_cross::Segment;
 use index_file::{spell_head, spell_level};
 use levels::Index;
+use options::{Bounds, Workers};
 use std::alloc::Global;
 use std::thread::Threads;
 use written::{Unfinished, hand_over};

@@ -1,14 +1,15 @@
 // What there is to do when all inputs are read.
 ghost use Rattle.std.specs.Prelude.{◌-◌, ◌<◌, ◌≤◌, ◌^◌, vec_len};
 ghost use Rattle.std.specs.List.Sorted.{IsNonDecreasing};
-ghost use Rattle.std.specs.Prelude.{◌≡◌, ◌*◌, ◌/◌, All, length};
-ghost use Rattle.exact_cross.specs.declared.TheConstants.{MAX_EPSILON};
+ghost use Rattle.std.specs.Prelude.{◌≡◌, ◌*◌, ◌/◌, All, length, true};
 ghost use Rattle.zorder.specs.Codes.{IsDimension, IsInRange, coordinate_bits};
 ghost use Rattle.log_levels.specs.Accepted.{entries_of};
+ghost use Rattle.commands.specs.PlainUpdates.{is_plain};
 ghost use Rattle.commands.specs.PointRegions.{IsRegionOf};
 
 use log_levels::Update;
 use map_replay::Question;
+use options::{Bounds, Drill, Pieces, Plan, Senders, Table, Workers};
 use zorder::Region;
 
 /// The keys of a file: they never fall, and are fewer than 2^32.
@@ -17,34 +18,6 @@ pub struct SortedKeys {
     pub keys: Vec<u64>,
     pub ghost never_falls: { IsNonDecreasing keys.items },
     pub ghost few: { vec_len keys < 2 ^ 32 },
-}
-
-/// The error bounds of an index, in ranks.
-#[derive(Clone, Copy, Debug)]
-pub struct Bounds {
-    /// That of level 0.
-    pub eps: u32,
-    /// That of the levels above.
-    pub eps_rec: u32,
-    pub ghost bounded: { eps ≤ MAX_EPSILON },
-    pub ghost bounded_above: { eps_rec ≤ MAX_EPSILON },
-}
-
-/// How many workers build an index, from 1 to 64, and among how many very many questions are shared
-/// at most. No text depends on it.
-#[derive(Clone, Copy, Debug)]
-pub struct Workers {
-    pub count: u32,
-    pub ghost staffed: { 1 ≤ count },
-    pub ghost few: { count ≤ 64 },
-}
-
-/// Into how many even pieces the points of a relaxed index are cut, from 1 to 65,536.
-#[derive(Clone, Copy, Debug)]
-pub struct Pieces {
-    pub count: u32,
-    pub ghost some: { 1 ≤ count },
-    pub ghost few: { count ≤ 65536 },
 }
 
 /// Points, and the regions that are asked for.
@@ -88,45 +61,25 @@ pub struct Neighbours {
     pub ghost each: { All (λ centre. IsInRange dims centre.place) centres.items },
 }
 
-/// Whether a table takes the place of the levels above level 0. No text depends on it.
-#[derive(Clone, Copy, Debug)]
-pub struct Table {
-    /// How many bits of a key the table goes by, at most 20; 0 where there is no table.
-    pub bits: u32,
-    pub ghost few: { bits ≤ 20 },
-}
-
 /// Updates of a map, and the questions that are asked of it beside them and after them.
 #[derive(Drop)]
 pub struct History {
-    /// How many levels the map has, from 1 to 26. No text depends on it.
-    pub levels: u32,
-    /// How many updates a batch has, and how many readers ask beside them, at most 16.
-    pub batch: u32,
-    pub readers: u32,
-    /// The workers that build a level.
-    pub workers: Workers,
+    pub plan: Plan,
     /// The updates, in order.
     pub updates: Vec<Update>,
     /// The questions, in order.
     pub questions: Vec<Question>,
-    pub ghost some_levels: { 1 ≤ levels },
-    pub ghost few_levels: { levels ≤ 26 },
-    pub ghost some_updates: { 1 ≤ batch },
-    pub ghost few_readers: { readers ≤ 16 },
-    pub ghost fits: { length (entries_of updates.items) ≤ 64 * 2 ^ levels - 1 },
+    pub ghost fits: { length (entries_of updates.items) ≤ 64 * 2 ^ plan.levels - 1 },
 }
 
-/// A number and a seed, for which inputs are drawn.
-#[derive(Clone, Copy, Debug)]
-pub struct Drill {
-    /// How many inputs there are of each kind, from 1 to 1,000,000.
-    pub number: u32,
-    /// The seed, below 2^31.
-    pub seed: u32,
-    pub ghost some: { 1 ≤ number },
-    pub ghost few: { number ≤ 1000000 },
-    pub ghost below: { seed < 2 ^ 31 },
+/// Updates that are dealt out to senders, and the questions that are asked beside them and after
+/// them.
+#[derive(Drop)]
+pub struct Mixing {
+    /// The updates, none of them a sweep, and the questions.
+    pub history: History,
+    pub senders: Senders,
+    pub ghost plain: { All (λ update. is_plain update ≡ true) history.updates.items },
 }
 
 /// A command, with its inputs and its options.
@@ -174,6 +127,11 @@ pub enum Task {
     /// Write what a map answers beside updates and after them, and how many keys it has.
     Replay {
         history: History,
+    },
+    /// Write in which order updates came of senders, and what a map answers beside them and after
+    /// them.
+    Mix {
+        mixing: Mixing,
     },
     /// Write what is counted of inputs of every kind that are drawn.
     Drill {

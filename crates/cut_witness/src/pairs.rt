@@ -12,7 +12,7 @@ use exact_cross::MAX_EPSILON;
 /// The steep pair of two places or more is the one with the least slope from `ε` below its lower
 /// place to `ε` above its upper one; of equal slopes the least `b`, then the least `a`. Of the one
 /// place `s` it is (`s`, `s`). Nothing is assumed of `a` and `b`. The place `j` is the point
-/// `(xs[j], ys[j])`, and `eps` the error bound `ε`, in ranks.
+/// `(xs[j], ys[j])`, and `eps` the error bound `ε`, in places.
 ///
 /// Looks once at each place of the run, and takes no memory: where the pair's line fits, pairs of
 /// the same slope touch that same line. Source of such pairs: O'Rourke, CACM 24(9), 1981.

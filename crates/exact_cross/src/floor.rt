@@ -6,7 +6,7 @@ impl Line {
     ghost use Rattle.exact_cross.specs.Checked.{IsInRange};
     ghost use Rattle.exact_cross.specs.Floors.{IsFloorAt};
 
-    /// The greatest whole number that isn't above the line at the key `q`, in ranks.
+    /// The greatest whole number that isn't above the line at the key `q`, in places.
     ///
     /// Exact for every key, also for one below `x0` and for ranks below 0: the height is taken
     /// times the line's run, in 128 bits. This is what the line predicts for the key.

@@ -19,5 +19,5 @@ pub use line::Line;
 pub use segment::{Segment, Side, Witness};
 pub use slope::Slope;
 
-/// The greatest error bound `ε`, in ranks.
+/// The greatest error bound `ε`, in places.
 pub const MAX_EPSILON: u32 = 1_048_576;

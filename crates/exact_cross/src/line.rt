@@ -38,7 +38,7 @@ impl Line {
     /// Whether the line is within `ε` at every place of `s..e`, exactly. An empty run has no such
     /// place.
     ///
-    /// The place `j` is the point `(xs[j], ys[j])`. `eps` is the error bound `ε`, in ranks: the
+    /// The place `j` is the point `(xs[j], ys[j])`. `eps` is the error bound `ε`, in places: the
     /// line passes a place where it is at most `ε` above or below the place's `y` at its `x`. It is
     /// compared times the line's run, in 128 bits, so nothing is rounded.
     pub fn fits(&self, xs: &[u64], ys: &[u32], s: u32, e: u32, eps: u32) -> bool

@@ -58,7 +58,7 @@ impl Hull {
         ensures capacity { vec_capacity self.old.vertices ≤ vec_capacity self.new.vertices }
     {
         self.vertices.clear();
-        let _ = self.vertices.push(first);
+        self.vertices.push_reserved(first);
         self.tangent = 0;
         self.upper = first.place;
         self.slope = CountedSlope::steepest();
@@ -183,6 +183,6 @@ impl Hull {
     {
         let kept = kept_before(&self.vertices, self.tangent, next, steps);
         self.vertices.truncate(kept);
-        let _ = self.vertices.push(next);
+        self.vertices.push_reserved(next);
     }
 }

@@ -31,7 +31,7 @@ pub struct SavedRun {
     pub cut: SavedCut,
 }
 
-/// An index as it was saved: two error bounds of at most 1,048,576, in ranks, and the runs of each
+/// An index as it was saved: two error bounds of at most 1,048,576, in places, and the runs of each
 /// level, the lowest first. Seen as a record of these. Nothing is known of the runs: they may be
 /// those of the index of no points.
 #[derive(Drop)]

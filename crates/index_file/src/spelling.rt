@@ -20,7 +20,7 @@ pub fn spellings_are_one()
         IsSpelling index first → IsSpelling index second → first ≡ second }
 {}
 
-/// The head of a saved index: `PGMINDEX`, its error bounds ε and ε', in ranks, and its number of
+/// The head of a saved index: `PGMINDEX`, its error bounds ε and ε', in places, and its number of
 /// levels, 20 bytes.
 ///
 /// # Errors

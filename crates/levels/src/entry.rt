@@ -7,7 +7,7 @@ use crate::level::Level;
 use key_points::Keys;
 
 /// The most first x of runs that a lookup halves: 2 MB of them.
-const MOST: u64 = 1 << 18;
+const HALVED_TO_RUNS: u64 = 1 << 18;
 
 /// The lowest level at which a lookup may start. The first x of its runs are halved in place of the
 /// levels above, where that takes no more steps than they may.
@@ -22,7 +22,7 @@ pub fn entry_of(keys: &Keys, eps_rec: u32, levels: &[Level]) -> u32
         let level = &levels[top];
         let count = level.xs.len() as u64;
         most = most.saturating_mul(share);
-        if count > MOST || 2 * count > most {
+        if count > HALVED_TO_RUNS || 2 * count > most {
             return top as u32;
         }
         top -= 1;

@@ -6,17 +6,17 @@ use budget::NoMemory;
 use std::alloc::Global;
 
 /// So many keys a step has in the mean.
-const EACH: usize = 8;
+const KEYS_A_STEP: usize = 8;
 
 /// Of so many keys the last one is counted, so that a count is up to three too low.
-const COUNTED: usize = 4;
+const COUNT_EACH: usize = 4;
 
 /// How far before the place that is told for a key the look for it begins: half of its places, less
 /// what counts are too low in the mean.
-const BEFORE: u64 = 2;
+const ENTRIES_BEFORE: u64 = 2;
 
 /// A step with more keys is crowded.
-const CROWDED: u32 = 16;
+const UNCROWDED_TO: u32 = 16;
 
 /// How keys from the least one on are cut into steps, all of one length.
 #[derive(Clone, Copy)]
@@ -49,10 +49,10 @@ impl Grid {
         requires { length keys.now < 2 ^ 32 }
     {
         let len = keys.len();
-        if len < EACH {
+        if len < KEYS_A_STEP {
             return Ok(None);
         }
-        let steps = len / EACH;
+        let steps = len / KEYS_A_STEP;
         let scale = Scale::of(keys[0], keys[len - 1], steps);
         if !are_spread(keys, &scale, steps) {
             return Ok(None);
@@ -76,7 +76,7 @@ impl Grid {
         let step = step.min(counts.len() - 2);
         let (low, high) = (u64::from(counts[step]), u64::from(counts[step + 1]));
         let between = high.wrapping_sub(low).wrapping_mul(part) >> 8;
-        low.wrapping_add(between).saturating_sub(BEFORE) as usize
+        low.wrapping_add(between).saturating_sub(ENTRIES_BEFORE) as usize
     }
 }
 
@@ -121,8 +121,8 @@ fn count(counts: &mut Vec<u32>, keys: &[u64], scale: &Scale)
     requires { length keys.now < 2 ^ 32 }
 {
     let scale = *scale;
-    for i in 0..keys.len() / COUNTED {
-        let place = i * COUNTED + (COUNTED - 1);
+    for i in 0..keys.len() / COUNT_EACH {
+        let place = i * COUNT_EACH + (COUNT_EACH - 1);
         let (step, _) = scale.step(keys[place]);
         let end = step.wrapping_add(1);
         if end < counts.len() {
@@ -139,7 +139,7 @@ fn add_up(counts: &mut Vec<u32>) -> u64 {
     for i in 0..counts.len() {
         let count = counts[i].max(before);
         let more = count.wrapping_sub(before);
-        if more > CROWDED {
+        if more > UNCROWDED_TO {
             crowded = crowded.wrapping_add(u64::from(more));
         }
         counts[i] = count;

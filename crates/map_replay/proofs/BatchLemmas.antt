@@ -12,8 +12,10 @@ use Rattle.published.specs.Histories.{updates_of, count_of}
 use Rattle.published.proofs.CallerLemmas.{prefix_count, updates_of-append}
 use Rattle.map_replay.specs.declared.question.Question.{Question}
 use Rattle.map_replay.specs.declared.reading.Sighting.{Sighting}
+use Rattle.map_replay.specs.declared.reading.Reading.{Reading}
+use Rattle.map_replay.specs.Crews.{HasSeen}
 use Rattle.map_replay.specs.Questions.{answer_of}
-use Rattle.map_replay.specs.Readings.{IsPublished, AreAnswers, IsReading}
+use Rattle.map_replay.specs.Readings.{IsAmong, IsPublished, AreAnswers, IsReadingOf, IsWholeReading, IsWholeReadingOf, IsWholeMixedReading}
 use Rattle.map_replay.specs.Watching.{AreBatches, IsSeen, AreSeen, WasAsked}
 
 -- batches that all have this size
@@ -95,15 +97,10 @@ pub fewer_entries : (xs ys : List Update) → length (entries_of xs) ≤ length 
 fewer_entries xs ys = omega (arith, ap (λ l. length l) (entries_of-append xs ys), length-append (entries_of xs) (entries_from (map_after xs) ys))
 
 -- what was seen in a history that has the updates is a reading of them
-module _ (updates : List Update) (size : ℕ) (history shown : List (List Update)) (batches : AreBatches size history) (all : updates_of history ≡ updates)
-    (begins : IsPrefix history shown) (same : count_of shown ≡ count_of history) where
-  abbrev Published : Sighting → Type 0
-  Published s = IsPublished size (length updates) s.length
-
-  one_published : (question : Question) (sighting : Sighting) → IsSeen shown question sighting → Published sighting
-  one_published question sighting (prefix, starts, length_is, answer_is) =
-      let has = prefix_published size history shown prefix batches begins same starts in
-      (has.0, length_is ∙ has.1 ∙ ap (λ (n : ℕ). min (has.0 * size) n) (ap (λ (l : List Update). length l) all))
+module _ (updates : List Update) (history shown : List (List Update)) (all : updates_of history ≡ updates) (begins : IsPrefix history shown)
+    (same : count_of shown ≡ count_of history) (IsLength : ℕ → Type 0) (lengths : (prefix : List (List Update)) → IsPrefix prefix shown → IsLength (count_of prefix)) where
+  one_length : (question : Question) (sighting : Sighting) → IsSeen shown question sighting → IsLength sighting.length
+  one_length question sighting (prefix, starts, length_is, answer_is) = subst IsLength (sym length_is) (lengths prefix starts)
 
   one_answer : (question : Question) (sighting : Sighting) → IsSeen shown question sighting →
       sighting.answer ≡ answer_of (map_after (take sighting.length updates)) question
@@ -113,11 +110,13 @@ module _ (updates : List Update) (size : ℕ) (history shown : List (List Update
       ∙ ap (λ (l : List Update). take (count_of prefix) l) (sym (same_updates history shown begins same ∙ all)) ∙ prefix_first prefix shown starts in
       answer_is ∙ ap (λ (l : List Update). answer_of (map_after l) question) (sym first)
 
-  all_published : (questions : List Question) (sightings : List Sighting) → AreSeen shown questions sightings → All Published sightings
-  all_published [] [] seen = All-nil _
-  all_published [] (s ∷ sightings) seen = absurd seen
-  all_published (q ∷ questions) [] seen = absurd seen
-  all_published (q ∷ questions) (s ∷ sightings) seen = All-cons Published s sightings (one_published q s seen.0) (all_published questions sightings seen.1)
+  all_lengths : (questions : List Question) (sightings : List Sighting) → AreSeen shown questions sightings →
+      All (λ (sighting : Sighting). IsLength sighting.length) sightings
+  all_lengths [] [] seen = All-nil _
+  all_lengths [] (s ∷ sightings) seen = absurd seen
+  all_lengths (q ∷ questions) [] seen = absurd seen
+  all_lengths (q ∷ questions) (s ∷ sightings) seen =
+      All-cons (λ (sighting : Sighting). IsLength sighting.length) s sightings (one_length q s seen.0) (all_lengths questions sightings seen.1)
 
   all_answers : (questions : List Question) (sightings : List Sighting) → AreSeen shown questions sightings → AreAnswers updates questions sightings
   all_answers [] [] seen = tt
@@ -125,12 +124,32 @@ module _ (updates : List Update) (size : ℕ) (history shown : List (List Update
   all_answers (q ∷ questions) [] seen = seen
   all_answers (q ∷ questions) (s ∷ sightings) seen = (one_answer q s seen.0, all_answers questions sightings seen.1)
 
-  pub is_reading : (questions : List Question) (sightings : List Sighting) → WasAsked shown questions sightings → IsReading updates size questions sightings
+  is_reading : (questions : List Question) (sightings : List Sighting) → WasAsked shown questions sightings → IsReadingOf IsLength updates questions sightings
   is_reading questions sightings asked = record {
     answers = all_answers questions sightings asked.seen;
-    published = all_published questions sightings asked.seen;
+    published = all_lengths questions sightings asked.seen;
     never_falls = asked.never_falls;
   }
+
+-- a reader that saw all that is published
+module _ (updates : List Update) (history : List (List Update)) (all : updates_of history ≡ updates) (questions : List Question) where
+  whole_reading : (IsLength : ℕ → Type 0) → ((shown prefix : List (List Update)) → IsPrefix history shown → count_of shown ≡ count_of history → IsPrefix prefix shown →
+      IsLength (count_of prefix)) → (reading : Reading) → HasSeen history questions reading → IsWholeReadingOf IsLength updates questions reading
+  whole_reading IsLength lengths reading has = record {
+    beside = is_reading updates history has.shown all has.begins has.same IsLength (λ prefix starts. lengths has.shown prefix has.begins has.same starts) questions
+        reading.sightings.items has.asked;
+    last = has.last ∙ ap (λ (l : List Update). length l) all;
+  }
+
+  pub whole_in_batches : (size : ℕ) → AreBatches size history → (reading : Reading) → HasSeen history questions reading → IsWholeReading updates size questions reading
+  whole_in_batches size batches =
+      whole_reading (IsPublished size (length updates)) (λ shown prefix begins same starts.
+      subst (λ (n : ℕ). IsPublished size n (count_of prefix)) (ap (λ (l : List Update). length l) all) (prefix_published size history shown prefix batches begins same starts))
+
+  pub whole_as_they_came : (reading : Reading) → HasSeen history questions reading → IsWholeMixedReading updates questions reading
+  whole_as_they_came =
+      whole_reading (IsAmong (length updates)) (λ shown prefix begins same starts.
+      omega (arith, prefix_count prefix shown starts, same, ap (λ (l : List Update). length l) all))
 
 -- a batch, between the updates before it and those behind it
 pub around : (n m : ℕ) (xs : List Update) → (take n xs ++ take m (drop n xs)) ++ drop m (drop n xs) ≡ xs

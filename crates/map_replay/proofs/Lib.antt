@@ -1,3 +1,6 @@
 pub mod WatchingLemmas
 pub mod BatchLemmas
 pub mod ThreePuts
+pub mod DealLemmas
+pub mod PlaceLemmas
+pub mod MixLemmas

@@ -1,8 +1,9 @@
 -- The readers, before they start and when they are done. No public clause cites it.
-use Rattle.std.specs.Prelude.{◌≡◌, ◌≤◌, ℕ, List, [], All, length, vec_len, vec_capacity}
+use Rattle.std.specs.Prelude.{◌≡◌, ◌≤◌, ℕ, List, [], All, length, vec_len, vec_capacity, ⊤}
+use mathlib.Core.List.{IsPrefix}
 use Rattle.log_levels.specs.declared.update.Update.{Update}
-use Rattle.log_levels.specs.Accepted.{entries_of}
-use Rattle.published.specs.Histories.{updates_of}
+use Rattle.log_levels.specs.Accepted.{entries_of, IsPlain}
+use Rattle.published.specs.Histories.{updates_of, count_of}
 use Rattle.published.specs.Writers.{Written}
 use Rattle.map_replay.specs.declared.question.Question.{Question}
 use Rattle.map_replay.specs.declared.crew.Seat.{Seat}
@@ -12,8 +13,14 @@ use Rattle.map_replay.specs.declared.crew.Started.TheVariants.{Running, Done}
 use Rattle.map_replay.specs.declared.crew.Hall.{Hall}
 use Rattle.map_replay.specs.declared.crew.Ended.{Ended}
 use Rattle.published.specs.declared.slot.MapName.{Ghosts}
-use Rattle.map_replay.specs.Readings.{IsWholeReading}
-use Rattle.map_replay.specs.Watching.{WasAsked}
+use Rattle.map_replay.specs.declared.source.Order.{Order}
+use Rattle.map_replay.specs.declared.source.Order.TheVariants.{InTurn, Mixed}
+use Rattle.map_replay.specs.declared.source.Source.{Source}
+use Rattle.map_replay.specs.declared.source.Played.{Played}
+use Rattle.map_replay.specs.declared.reading.Reading.{Reading}
+use Rattle.map_replay.specs.Mixes.{IsMix}
+use Rattle.map_replay.specs.Readings.{Left}
+use Rattle.map_replay.specs.Watching.{AreBatches, WasAsked}
 
 -- a reader that was asked these questions
 abbrev pub HasAsked : {M : Type 0} {name : Ghosts M} → List Question → Watched M name → Type 0
@@ -42,8 +49,40 @@ pub record HoldsAll {M : Type 0} {name : Ghosts M} (questions readers : ℕ) (ha
   pub watched : (hall.watched.items ≡ []) × (readers ≤ vec_capacity hall.watched)
   pub readings : (hall.readings.items ≡ []) × (readers ≤ vec_capacity hall.readings)
 
--- all updates are published, and each reader was asked all questions and saw them all
-pub record IsEnd (updates : List Update) (size : ℕ) (questions : List Question) (readers : ℕ) (ended : Ended) : Type 0 where
-  pub whole : updates_of ended.look.batches ≡ updates
+-- a reader that was asked all questions, and whose last look shows as much as this history and begins with it
+pub record HasSeen (history : List (List Update)) (questions : List Question) (reading : Reading) : Type 0 where
+  pub shown : List (List Update)
+  pub begins : IsPrefix history shown
+  pub same : count_of shown ≡ count_of history
+  pub asked : WasAsked shown questions reading.sightings.items
+  pub last : reading.last ≡ count_of history
+
+-- each reader was asked all questions and saw all that is published
+pub record IsEnd (history : List (List Update)) (questions : List Question) (readers : ℕ) (ended : Ended) : Type 0 where
+  pub whole : updates_of ended.look.batches ≡ updates_of history
   pub count : length ended.readings.items ≡ readers
-  pub each : All (IsWholeReading updates size questions) ended.readings.items
+  pub each : All (HasSeen history questions) ended.readings.items
+
+-- the updates are published in this order: in batches of this size, of which the last may be shorter; or as they came of senders
+abbrev pub IsPublishedAs : Order → (size : ℕ) → List Update → (numbers : List ℕ) (mixed : List Update) → List (List Update) → Type 0
+IsPublishedAs InTurn size updates numbers mixed history = (updates_of history ≡ updates) × AreBatches size history
+IsPublishedAs (Mixed dealing) size updates numbers mixed history = (updates_of history ≡ mixed) × IsMix dealing.senders updates numbers mixed
+
+-- all updates are published in this order, and each reader saw them all
+pub record IsPlayed (source : Source) (questions : List Question) (readers : ℕ) (played : Played) : Type 0 where
+  pub history : List (List Update)
+  pub published : IsPublishedAs source.order source.batching.size source.updates.now played.came.numbers.items played.came.updates.items history
+  pub end : IsEnd history questions readers played.ended
+
+-- no update is a sweep, where senders send them
+abbrev pub AreForOrder : Order → List Update → Type 0
+AreForOrder InTurn updates = ⊤
+AreForOrder (Mixed dealing) updates = All IsPlain updates
+
+-- what is left of it: the updates after which it answers, and what each reader saw
+pub record IsLeft (order : Order) (size : ℕ) (updates : List Update) (questions : List Question) (readers : ℕ) (left : Left) : Type 0 where
+  pub history : List (List Update)
+  pub whole : left.updates ≡ updates_of history
+  pub published : IsPublishedAs order size updates left.numbers left.mixed history
+  pub count : length left.readings ≡ readers
+  pub each : All (HasSeen history questions) left.readings

@@ -1,5 +1,5 @@
 -- What a reader saw beside the writer.
-use Rattle.std.specs.Prelude.{◌≡◌, ◌*◌, ℕ, List, [], ◌∷◌, length, take, min, All, ⊤}
+use Rattle.std.specs.Prelude.{◌≡◌, ◌≤◌, ◌*◌, ℕ, List, [], ◌∷◌, length, take, min, All, ⊤}
 use Rattle.std.specs.List.Sorted.{IsNonDecreasingBy}
 use Rattle.log_levels.specs.declared.update.Update.{Update}
 use Rattle.log_levels.specs.Maps.{map_after}
@@ -19,18 +19,39 @@ AreAnswers updates (question ∷ questions) (sighting ∷ sightings) =
     (sighting.answer ≡ answer_of (map_after (take sighting.length updates)) question) × AreAnswers updates questions sightings
 AreAnswers updates questions sightings = ⊥
 
--- what a reader may see: answers after published updates, of which none are fewer than those before
-pub record IsReading (updates : List Update) (batch : ℕ) (questions : List Question) (sightings : List Sighting) : Type 0 where
+-- what a reader may see, where such are the numbers of updates that it may see: answers after so many updates, of which none are fewer than those before
+pub record IsReadingOf (IsLength : ℕ → Type 0) (updates : List Update) (questions : List Question) (sightings : List Sighting) : Type 0 where
   pub answers : AreAnswers updates questions sightings
-  pub published : All (λ (sighting : Sighting). IsPublished batch (length updates) sighting.length) sightings
+  pub published : All (λ (sighting : Sighting). IsLength sighting.length) sightings
   pub never_falls : IsNonDecreasingBy (λ (sighting : Sighting). sighting.length) sightings
 
 -- and at the end it saw all updates
-pub record IsWholeReading (updates : List Update) (batch : ℕ) (questions : List Question) (reading : Reading) : Type 0 where
-  pub beside : IsReading updates batch questions reading.sightings.items
+pub record IsWholeReadingOf (IsLength : ℕ → Type 0) (updates : List Update) (questions : List Question) (reading : Reading) : Type 0 where
+  pub beside : IsReadingOf IsLength updates questions reading.sightings.items
   pub last : reading.last ≡ length updates
 
--- what a replay leaves: the updates after which it answers, and what each reader saw
+-- what a reader may see beside updates that are published in batches of this size
+abbrev pub IsReading : List Update → (batch : ℕ) → List Question → List Sighting → Type 0
+IsReading updates batch = IsReadingOf (IsPublished batch (length updates)) updates
+
+abbrev pub IsWholeReading : List Update → (batch : ℕ) → List Question → Reading → Type 0
+IsWholeReading updates batch = IsWholeReadingOf (IsPublished batch (length updates)) updates
+
+-- as many updates as there are, or fewer
+abbrev pub IsAmong : (count length : ℕ) → Type 0
+IsAmong count length = length ≤ count
+
+-- what a reader may see beside updates that are published as they come
+abbrev pub IsMixedReading : List Update → List Question → List Sighting → Type 0
+IsMixedReading updates = IsReadingOf (IsAmong (length updates)) updates
+
+abbrev pub IsWholeMixedReading : List Update → List Question → Reading → Type 0
+IsWholeMixedReading updates = IsWholeReadingOf (IsAmong (length updates)) updates
+
+-- what a replay leaves: the updates after which it answers; where senders sent them, their senders' numbers and the updates in the order in which they came; and
+-- what each reader saw
 pub record Left : Type 0 where
   pub updates : List Update
+  pub numbers : List ℕ
+  pub mixed : List Update
   pub readings : List Reading

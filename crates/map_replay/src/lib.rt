@@ -15,16 +15,23 @@
 #![tactic(auto)]
 
 mod crew;
+mod intake;
+mod mixing;
+mod post;
+mod posts;
 mod question;
 mod reading;
 mod replaying;
 mod settling;
+mod source;
 mod threads;
 mod updating;
 
+pub use options::Plan;
 pub use question::{Answer, Asked, Question};
 pub use reading::{Reading, Sighting};
-pub use replaying::{Plan, Replayed, replay};
+pub use replaying::{Replayed, mix, replay};
+pub use source::Dealing;
 
 #[cfg(test)]
 mod tests;

@@ -1,42 +1,25 @@
 // Updates in batches beside readers, and what is left of it.
 ghost use Rattle.std.specs.Prelude.{◌≡◌, ◌*◌, ◌-◌, ◌^◌, ◌≤◌, All, length, IfOk, vec_len};
-ghost use Rattle.log_levels.specs.Accepted.{entries_of};
-ghost use Rattle.map_replay.specs.Readings.{IsWholeReading};
-ghost use Rattle.map_replay.specs.Crews.{HasRoom, HoldsAll, IsEnd, IsReady};
+ghost use Rattle.log_levels.specs.Accepted.{IsPlain, entries_of};
+ghost use Rattle.map_replay.specs.Readings.{IsWholeMixedReading, IsWholeReading};
+ghost use Rattle.map_replay.specs.Mixes.{IsMix};
+ghost use Rattle.map_replay.specs.Crews.{AreForOrder, HasRoom, HoldsAll, IsLeft};
+ghost use Rattle.map_replay.specs.Crews.{IsPlayed, IsReady};
 
 use crate::crew::{Ended, Hall, Seat};
 use crate::question::{Answer, Asked, Question};
 use crate::reading::{Reading, Sighting};
+use crate::source::{Batching, Came, Dealing, Order, Played, Source};
 use crate::threads::read_beside;
-use crate::updating::Batching;
 use budget::NoMemory;
 use edge::Gate;
 use log_levels::Update;
+use options::Plan;
 use published::{Look, MapName, Reader, Slot, Writer, start_map};
 use std::alloc::{AllocError, Global};
 use std::marker::{Brand, Model, PhantomData};
 use std::sync::Wait;
 use std::thread::Threads;
-
-/// How updates are replayed.
-#[derive(Clone, Copy, Debug)]
-pub struct Plan {
-    /// How many levels the map has, from 1 to 26.
-    pub levels: u32,
-    /// How many updates a batch has; the last may be shorter.
-    pub batch: u32,
-    /// How many readers ask beside the writer, from 1 to 16.
-    pub readers: u32,
-    /// How many workers build a level, from 1 to 64.
-    pub workers: u32,
-    pub ghost some_levels: { 1 ≤ levels },
-    pub ghost few_levels: { levels ≤ 26 },
-    pub ghost some_updates: { 1 ≤ batch },
-    pub ghost some_readers: { 1 ≤ readers },
-    pub ghost few_readers: { readers ≤ 16 },
-    pub ghost staffed: { 1 ≤ workers },
-    pub ghost few_workers: { workers ≤ 64 },
-}
 
 /// What is left when all updates are published and all readers are done, seen as the updates after
 /// which it answers and what the readers saw.
@@ -45,6 +28,7 @@ pub struct Plan {
 pub struct Replayed {
     writer: Writer,
     look: Look,
+    came: Came,
     readings: Vec<Reading>,
 }
 
@@ -56,6 +40,8 @@ impl Model for Replayed {
 
     ghost view = { λ r. record {
       updates = updates_of r.look.batches;
+      numbers = r.came.numbers.items;
+      mixed = r.came.updates.items;
       readings = r.readings.items;
     } };
 }
@@ -88,17 +74,97 @@ pub fn replay<R: Threads + Wait + Sync, G: Gate>(
     ensures each { IfOk result (λ left.
         All (IsWholeReading updates.now plan.batch questions.now) left.readings) }
 {
-    let (writer, readers) = start_map(rt, alloc, plan.levels, plan.readers)?;
-    let batching = Batching {
-        size: plan.batch,
-        workers: plan.workers,
-    };
-    replay_in::<Brand, R, G>(
-        rt, alloc, writer, readers, updates, questions, batching, gate,
+    replay_as(rt, alloc, updates, questions, plan, Order::InTurn, gate)
+}
+
+/// The same for updates that are dealt out to senders: the first one to the first sender, the next
+/// to the next, and so on in turn. Each sends its own in their order, in a thread of its own, and
+/// passes the gate at `Send` before each update's first try; where the queue is full it tries
+/// again. A sender for which no thread can be had is served by the writer.
+///
+/// The writer takes what comes. It publishes when it has a batch, and too when it has some updates
+/// and finds the queue empty. Where it can't, it goes on taking and gives up what it takes.
+///
+/// # Errors
+///
+/// `NoMemory` alone, and nothing is left then. Readers and senders are done.
+pub fn mix<R: Threads + Wait + Sync, G: Gate>(
+    rt: &R,
+    alloc: Global,
+    updates: &[Update],
+    questions: &[Question],
+    plan: Plan,
+    dealing: Dealing,
+    gate: &G,
+) -> Result<Replayed, NoMemory>
+    requires plain { All IsPlain updates.now }
+    requires fits { length (entries_of updates.now) ≤ 64 * 2 ^ plan.levels - 1 }
+    ensures whole { IfOk result (λ left. left.updates ≡ left.mixed) }
+    ensures mixed { IfOk result (λ left.
+        IsMix dealing.senders updates.now left.numbers left.mixed) }
+    ensures count { IfOk result (λ left. length left.readings ≡ plan.readers) }
+    ensures each { IfOk result (λ left.
+        All (IsWholeMixedReading left.mixed questions.now) left.readings) }
+{
+    replay_as(
+        rt,
+        alloc,
+        updates,
+        questions,
+        plan,
+        Order::Mixed(dealing),
+        gate,
     )
 }
 
+/// The same for updates that come in any order. Without readers one looks at the end alone.
+fn replay_as<R: Threads + Wait + Sync, G: Gate>(
+    rt: &R,
+    alloc: Global,
+    updates: &[Update],
+    questions: &[Question],
+    plan: Plan,
+    order: Order,
+    gate: &G,
+) -> Result<Replayed, NoMemory>
+    requires order { AreForOrder order updates.now }
+    requires fits { length (entries_of updates.now) ≤ 64 * 2 ^ plan.levels - 1 }
+    ensures { IfOk result (IsLeft order plan.batch updates.now questions.now plan.readers) }
+{
+    let (writer, readers) = start_map(rt, alloc, plan.levels, plan.readers.max(1))?;
+    let source = Source {
+        updates,
+        order,
+        batching: Batching {
+            size: plan.batch,
+            workers: plan.workers,
+        },
+    };
+    if plan.readers > 0 {
+        return replay_in::<Brand, R, G>(rt, alloc, writer, readers, source, questions, gate);
+    }
+    let none: [Question; 0] = [];
+    let mut left = replay_in::<Brand, R, G>(rt, alloc, writer, readers, source, &none, gate)?;
+    left.readings.clear();
+    Ok(left)
+}
+
 impl Replayed {
+    /// The numbers of the updates' senders, in the order in which the updates came; none where they
+    /// came in turn.
+    pub fn numbers(&self) -> &[u32]
+        ensures { result.now ≡ self.now.numbers }
+    {
+        &self.came.numbers
+    }
+
+    /// The updates in the order in which they came; none where they came in turn.
+    pub fn mixed(&self) -> &[Update]
+        ensures { result.now ≡ self.now.mixed }
+    {
+        &self.came.updates
+    }
+
     /// What each reader saw, in turn.
     pub fn readings(&self) -> &[Reading]
         ensures { result.now ≡ self.now.readings }
@@ -111,6 +177,7 @@ impl Replayed {
         let Replayed {
             writer,
             look,
+            came: _came,
             readings: _readings,
         } = self;
         drop(look.leave());
@@ -136,35 +203,30 @@ fn replay_in<M: MapName + Send + Sync, R: Threads + Wait + Sync, G: Gate>(
     alloc: Global,
     writer: Writer,
     readers: Vec<Reader>,
-    updates: &[Update],
+    source: Source<'_>,
     questions: &[Question],
-    batching: Batching,
     gate: &G,
 ) -> Result<Replayed, NoMemory>
     requires own { writer.origin ≡ M.origin }
-    requires ready { IsReady updates.now writer }
+    requires ready { IsReady source.updates.now writer }
+    requires order { AreForOrder source.order source.updates.now }
     requires some { 1 ≤ vec_len readers }
     requires few { vec_len readers ≤ 16 }
     requires readers { All (λ reader. reader.origin ≡ M.origin) readers.items }
-    ensures whole { IfOk result (λ left. left.updates ≡ updates.now) }
-    ensures count { IfOk result (λ left. length left.readings ≡ vec_len readers) }
-    ensures each { IfOk result (λ left.
-        All (IsWholeReading updates.now batching.size questions.now) left.readings) }
+    ensures { IfOk result (IsLeft source.entry.order source.entry.batching.size source.entry.updates.now
+        questions.now (vec_len readers)) }
 {
     let mut writer = writer;
-    match ended::<M, R, G>(
-        rt,
-        alloc,
-        &mut writer,
-        readers,
-        updates,
-        questions,
-        batching,
-        gate,
-    ) {
-        Ok(Ended { look, readings }) => Ok(Replayed {
+    match played::<M, R, G>(rt, alloc, &mut writer, readers, source, questions, gate) {
+        Ok(
+            Played {
+                ended: Ended { look, readings },
+                came,
+            },
+        ) => Ok(Replayed {
             writer,
             look,
+            came,
             readings,
         }),
         Err(NoMemory) => {
@@ -175,28 +237,26 @@ fn replay_in<M: MapName + Send + Sync, R: Threads + Wait + Sync, G: Gate>(
 }
 
 /// Takes all room for the readers, and lets them go through the questions beside the writer.
-fn ended<M: MapName + Send + Sync, R: Threads + Wait + Sync, G: Gate>(
+fn played<M: MapName + Send + Sync, R: Threads + Wait + Sync, G: Gate>(
     rt: &R,
     alloc: Global,
     writer: &mut Writer,
     readers: Vec<Reader>,
-    updates: &[Update],
+    source: Source<'_>,
     questions: &[Question],
-    batching: Batching,
     gate: &G,
-) -> Result<Ended, NoMemory>
+) -> Result<Played, NoMemory>
     requires own { writer.old.origin ≡ M.origin }
-    requires ready { IsReady updates.now writer.old }
+    requires ready { IsReady source.updates.now writer.old }
+    requires order { AreForOrder source.order source.updates.now }
     requires some { 1 ≤ vec_len readers }
     requires few { vec_len readers ≤ 16 }
     requires readers { All (λ reader. reader.origin ≡ M.origin) readers.items }
-    ensures { IfOk result (IsEnd updates.now batching.size questions.now (vec_len readers)) }
+    ensures { IfOk result (IsPlayed source.entry questions.now (vec_len readers)) }
 {
     let slots = slots_for::<M>(alloc, readers.len())?;
     let hall = hall_for::<M>(alloc, readers, questions.len())?;
-    read_beside(
-        rt, alloc, writer, updates, questions, batching, &slots, hall, gate,
-    )
+    read_beside(rt, alloc, writer, source, questions, &slots, hall, gate)
 }
 
 /// A seat for each reader, with room for so many sightings; the seat of the first reader is last.

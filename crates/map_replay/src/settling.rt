@@ -1,11 +1,9 @@
 // The readers' last looks.
-ghost use Rattle.std.specs.Prelude.{◌≡◌, ◌+◌, ◌≤◌, ◌<◌, ◌++◌, ◌∷◌, [], ℕ, List, All};
+ghost use Rattle.std.specs.Prelude.{◌≡◌, ◌+◌, ◌≤◌, ◌<◌, ◌++◌, ◌∷◌, [], List, All};
 ghost use Rattle.std.specs.Prelude.{vec_len, vec_capacity};
 ghost use mathlib.Core.List.{IsPrefix};
-ghost use Rattle.log_levels.specs.declared.update.Update.{Update};
-ghost use Rattle.published.specs.Histories.{updates_of, count_of};
+ghost use Rattle.published.specs.Histories.{count_of};
 ghost use Rattle.map_replay.specs.declared.question.Question.{Question};
-ghost use Rattle.map_replay.specs.Watching.{AreBatches};
 ghost use Rattle.map_replay.specs.Crews.{HasAsked, IsEnd};
 
 use crate::crew::{Ended, Watched};
@@ -25,10 +23,8 @@ pub fn settled<M: MapName, R: Wait>(
     requires some { 1 ≤ vec_len watched }
     requires none { readings.items ≡ [] }
     requires room { vec_len watched ≤ vec_capacity readings }
-    ensures { (updates : List Update) (size : ℕ) (questions : List Question) →
-        updates_of writer.old.history ≡ updates → AreBatches size writer.old.history →
-        All (HasAsked questions) watched.items →
-        IsEnd updates size questions (vec_len watched) result }
+    ensures { (questions : List Question) → All (HasAsked questions) watched.items →
+        IsEnd writer.old.history questions (vec_len watched) result }
 {
     let mut watched = watched;
     let mut readings = readings;

@@ -5,8 +5,9 @@ ghost use Rattle.std.specs.Prelude.{◌≡◌, All};
 ghost use Rattle.map_replay.specs.Crews.{IsReady};
 
 use crate::replaying::slots_for;
+use crate::source::Batching;
 use crate::threads::learn_newest;
-use crate::updating::{Batching, publish_all};
+use crate::updating::publish_all;
 use crate::{Answer, Asked, Plan, Question, replay};
 use budget::NoMemory;
 use edge::OpenGate;

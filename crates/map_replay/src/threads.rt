@@ -4,19 +4,23 @@ ghost use Rattle.std.specs.Prelude.{IfOk, OnOk, vec_len, vec_capacity};
 ghost use mathlib.Core.List.{IsPrefix};
 ghost use Rattle.map_replay.specs.declared.question.Question.{Question};
 ghost use Rattle.map_replay.specs.Watching.{WasAsked};
-ghost use Rattle.map_replay.specs.Crews.{HasAsked, HasRoom, HoldsAll, IsEnd, IsOf, IsReady};
+ghost use Rattle.map_replay.specs.Crews.{AreForOrder, HasAsked, HasRoom, HoldsAll};
+ghost use Rattle.map_replay.specs.Crews.{IsOf, IsPlayed, IsPublishedAs, IsReady};
 
-use crate::crew::{Asks, Ended, Hall, Seat, Started, Watched};
+use crate::crew::{Asks, Hall, Seat, Started, Watched};
+use crate::mixing::publish_mixed;
+use crate::post::Deck;
 use crate::question::{Asked, Question};
 use crate::reading::Sighting;
 use crate::settling::settled;
-use crate::updating::{Batching, publish_all};
+use crate::source::{Came, Order, Played, Source};
+use crate::updating::publish_all;
 use budget::NoMemory;
 use edge::{Gate, Place};
-use log_levels::Update;
 use published::{Look, MapName, PlainDoor, Reader, Slot, Writer};
 use std::alloc::Global;
 use std::sync::Wait;
+use std::sync::atomic::AtomicU32;
 use std::thread;
 use std::thread::{Scope, SpawnError, Threads};
 
@@ -198,53 +202,56 @@ pub fn read_beside<M: MapName + Send + Sync, R: Threads + Wait + Sync, G: Gate>(
     rt: &R,
     alloc: Global,
     writer: &mut Writer,
-    updates: &[Update],
+    source: Source<'_>,
     questions: &[Question],
-    batching: Batching,
     slots: &[Slot<M>],
     hall: Hall<M>,
     gate: &G,
-) -> Result<Ended, NoMemory>
+) -> Result<Played, NoMemory>
     requires own { writer.old.origin ≡ M.origin }
-    requires ready { IsReady updates.now writer.old }
+    requires ready { IsReady source.updates.now writer.old }
+    requires order { AreForOrder source.order source.updates.now }
     requires hall { HoldsAll (length questions.now) (length slots.now) hall }
-    ensures { IfOk result (IsEnd updates.now batching.size questions.now (vec_len hall.seats)) }
+    ensures { IfOk result (IsPlayed source.entry questions.now (vec_len hall.seats)) }
 {
     let pen = writer;
+    let word = AtomicU32::new(0);
+    let refused = &word;
     thread::scope(
         thread::scope_env(),
         rt,
-        move |scope| -> Result<Ended, NoMemory>
+        move |scope| -> Result<Played, NoMemory>
             requires own { pen.now.origin ≡ M.origin }
-            requires ready { IsReady updates.now pen.now }
+            requires ready { IsReady source.updates.now pen.now }
+            requires order { AreForOrder source.order source.updates.now }
             requires hall { HoldsAll (length questions.now) (length slots.now) hall }
-            ensures { IfOk result (IsEnd updates.entry.now batching.size questions.entry.now
-                (vec_len hall.seats)) }
+            ensures { IfOk result (IsPlayed source.entry questions.entry.now (vec_len hall.seats)) }
         {
             beside_in(
-                scope, rt, alloc, pen, updates, questions, batching, slots, hall, gate,
+                scope, rt, alloc, pen, source, questions, slots, hall, refused, gate,
             )
         },
     )
 }
 
-/// The same in a scope for the readers' threads.
+/// The same in a scope for the readers' threads, and the senders'.
 fn beside_in<'s, E, M: MapName + Send + Sync + 's, R: Threads + Wait + Sync + 's, G: Gate + 's>(
     scope: &Scope<'s, E>,
     rt: &'s R,
     alloc: Global,
     writer: &mut Writer,
-    updates: &[Update],
+    source: Source<'s>,
     questions: &'s [Question],
-    batching: Batching,
     slots: &'s [Slot<M>],
     hall: Hall<M>,
+    refused: &'s AtomicU32,
     gate: &'s G,
-) -> Result<Ended, NoMemory>
+) -> Result<Played, NoMemory>
     requires own { writer.old.origin ≡ M.origin }
-    requires ready { IsReady updates.now writer.old }
+    requires ready { IsReady source.updates.now writer.old }
+    requires order { AreForOrder source.order source.updates.now }
     requires hall { HoldsAll (length questions.now) (length slots.now) hall }
-    ensures { IfOk result (IsEnd updates.now batching.size questions.now (vec_len hall.seats)) }
+    ensures { IfOk result (IsPlayed source.entry questions.now (vec_len hall.seats)) }
 {
     let Hall {
         seats,
@@ -254,8 +261,52 @@ fn beside_in<'s, E, M: MapName + Send + Sync + 's, R: Threads + Wait + Sync + 's
     let mut started = Vec::with_capacity(alloc, seats.len())?;
     let mut watched = watched;
     start_all(scope, rt, seats, questions, slots, &mut started, gate);
-    let published = publish_all(rt, alloc, writer, updates, batching, slots, gate);
+    let published = publish(scope, rt, alloc, writer, source, slots, refused, gate);
     join_all(rt, started, questions, &mut watched);
-    published?;
-    Ok(settled(rt, writer, watched, readings))
+    let came = published?;
+    let ended = settled(rt, writer, watched, readings);
+    Ok(Played { ended, came })
+}
+
+/// Publishes all updates in their order. Answers what came of senders.
+fn publish<'s, E, M: MapName + Send + Sync + 's, R: Threads + Wait + Sync + 's, G: Gate + 's>(
+    scope: &Scope<'s, E>,
+    rt: &'s R,
+    alloc: Global,
+    writer: &mut Writer,
+    source: Source<'s>,
+    slots: &'s [Slot<M>],
+    refused: &'s AtomicU32,
+    gate: &'s G,
+) -> Result<Came, NoMemory>
+    requires own { writer.old.origin ≡ M.origin }
+    requires ready { IsReady source.updates.now writer.old }
+    requires order { AreForOrder source.order source.updates.now }
+    ensures own { writer.new.origin ≡ writer.old.origin }
+    ensures published { IfOk result (λ came. IsPublishedAs source.entry.order source.entry.batching.size
+        source.entry.updates.now came.numbers.items came.updates.items writer.new.history) }
+{
+    let Source {
+        updates,
+        order,
+        batching,
+    } = source;
+    match order {
+        Order::InTurn => {
+            publish_all(rt, alloc, writer, updates, batching, slots, gate)?;
+            Ok(Came {
+                numbers: Vec::new(alloc),
+                updates: Vec::new(alloc),
+            })
+        }
+        Order::Mixed(dealing) => {
+            let deck = Deck {
+                updates,
+                senders: dealing.senders as usize,
+            };
+            publish_mixed(
+                scope, rt, alloc, writer, deck, dealing, batching, slots, refused, gate,
+            )
+        }
+    }
 }

@@ -4,6 +4,7 @@ ghost use Rattle.log_levels.specs.Accepted.{entries_of};
 ghost use Rattle.published.specs.Histories.{updates_of};
 ghost use Rattle.map_replay.specs.Watching.{AreBatches};
 
+use crate::source::Batching;
 use budget::NoMemory;
 use edge::{Gate, Place};
 use log_levels::{MapFault, Update};
@@ -11,16 +12,6 @@ use published::{MapName, Slot, Writer};
 use std::alloc::Global;
 use std::sync::Wait;
 use std::thread::Threads;
-
-/// How updates are published: in batches of so many, each built by so many workers.
-#[derive(Clone, Copy, Debug)]
-pub struct Batching {
-    pub size: u32,
-    pub workers: u32,
-    pub ghost some: { 1 ≤ size },
-    pub ghost staffed: { 1 ≤ workers },
-    pub ghost few: { workers ≤ 64 },
-}
 
 /// Publishes all updates, and leaves each reader a note of each batch.
 ///
@@ -53,24 +44,31 @@ pub fn publish_all<M: MapName + Send + Sync, R: Threads + Wait + Sync, G: Gate>(
             alloc,
             writer,
             &updates[from..to],
+            number as u64 + 1,
             batching.workers,
+            slots,
             gate,
         )?;
-        tell_all(rt, writer, slots);
-        gate.at(Place::Published(number as u64 + 1));
     }
     Ok(())
 }
 
-/// Stages a batch and publishes it.
-fn publish_batch<R: Threads + Wait + Sync, G: Gate>(
+/// Publishes a batch, leaves each reader a note of it, and passes the gate.
+///
+/// # Errors
+///
+/// `NoMemory` alone, where the batch wasn't published.
+pub fn publish_batch<M: MapName + Send + Sync, R: Threads + Wait + Sync, G: Gate>(
     rt: &R,
     alloc: Global,
     writer: &mut Writer,
     batch: &[Update],
+    number: u64,
     workers: u32,
+    slots: &[Slot<M>],
     gate: &G,
 ) -> Result<(), NoMemory>
+    requires own { writer.old.origin ≡ M.origin }
     requires some { 0 < length batch.now }
     requires none_staged { writer.old.batch ≡ [] }
     requires staffed { 1 ≤ workers }
@@ -89,6 +87,8 @@ fn publish_batch<R: Threads + Wait + Sync, G: Gate>(
         Err(MapFault::Full { .. }) => unreachable!(),
     }
     writer.publish(rt)?;
+    tell_all(rt, writer, slots);
+    gate.at(Place::Published(number));
     Ok(())
 }
 

@@ -6,7 +6,7 @@ use boxes::Boxes;
 use cut_witness::check_cover;
 use levels::{Index, Keys, OpenGate};
 use log_levels::{LogMap, Update};
-use map_level::{Here, HashedKey, Level, latest_of};
+use map_level::{HashedKey, Here, Level, latest_of};
 use published::{PlainDoor, start_map};
 use segmenter::segment;
 use std::test::Fail;
@@ -40,7 +40,10 @@ fn map_level_example(rt: HostRuntime) -> Result<(), Fail> {
     let entries = latest_of(&here, rt.alloc(), &puts)?;
     assert!(rt; entries.len() <= 4);
     let level = Level::of(&here, rt.alloc(), entries)?;
-    assert_eq!(rt; level.entries(), [put(3, 31), del(8), put(9, 90)].as_slice());
+    assert_eq!(rt;
+        level.entries(),
+        [put(3, 31), del(8), put(9, 90)].as_slice()
+    );
     assert_eq!(rt; level.entry(&HashedKey::of(8)).copied(), Some(del(8)));
     assert_eq!(rt; level.place(level.start(5), 5), 1);
     Ok(())

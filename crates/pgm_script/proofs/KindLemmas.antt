@@ -72,6 +72,12 @@ commands-make ScriptKind.Replay word is =
     (found ScriptKind.Replay next_command (bytes_eq word (codes "next")) _ (λ words numbers read. tt)
     (found ScriptKind.Replay count_command (bytes_eq word (codes "count")) _ (λ words numbers read. tt)
     (found ScriptKind.Replay sweep_command (bytes_eq word (codes "sweep")) None (λ words numbers read. tt) (nothing-found ScriptKind.Replay))))))
+commands-make ScriptKind.Mix word is =
+    found ScriptKind.Mix put_command (bytes_eq word (codes "put")) _ (λ words numbers read. tt)
+    (found ScriptKind.Mix del_command (bytes_eq word (codes "del")) _ (λ words numbers read. tt)
+    (found ScriptKind.Mix get_command (bytes_eq word (codes "get")) _ (λ words numbers read. tt)
+    (found ScriptKind.Mix next_command (bytes_eq word (codes "next")) _ (λ words numbers read. tt)
+    (found ScriptKind.Mix count_command (bytes_eq word (codes "count")) None (λ words numbers read. tt) (nothing-found ScriptKind.Mix)))))
 
 made-line : (asked : ScriptKind) (command : Command) (r : Result (List ℕ) Why) (line : ScriptLine) → ((numbers : List ℕ) → r ≡ Ok numbers → IsLineOf asked (command.line numbers)) →
     made command r ≡ Ok (Some line) → IsLineOf asked line

@@ -14,7 +14,7 @@ use Rattle.std.proofs.lemmas.Str.{IsUtf8-from_ascii, is_utf8-from_IsUtf8}
 use Rattle.pgm_script.specs.declared.script.ScriptKind.{ScriptKind}
 use Rattle.pgm_script.specs.declared.fault.Why.TheVariants.{NotUtf8}
 use Rattle.pgm_script.specs.Words.{put_first, lines_of, is_blank, goes_on, words_of, number_of}
-use Rattle.pgm_script.specs.Commands.{Command, commands_of, any}
+use Rattle.pgm_script.specs.Commands.{Command, commands_of, any, map_commands, map_kind, sweep_command}
 use Rattle.pgm_script.specs.Scripts.{and_then, numbers_of, made, command_reading, words_reading, line_reading}
 use Rattle.pgm_script.proofs.WordLemmas.{differ}
 use Rattle.pgm_script.proofs.CutLemmas.{bool-cases}
@@ -202,3 +202,14 @@ begins asked known text word command same within stands some letters found most 
   any_value = most;
   counted = counted;
 }
+
+-- a command that stands in the table with sweeps and without
+pub found-both : (sweeps : Bool) (word : List ℕ) (command : Command) → ((s : Bool) → find (λ command. bytes_eq word command.word) (map_commands s) ≡ Some command) →
+    find (λ command. bytes_eq word command.word) (commands_of (map_kind sweeps)) ≡ Some command
+found-both true word command in_both = in_both true
+found-both false word command in_both = in_both false
+
+-- `sweep` stands in the table where sweeps may stand
+pub found-sweep : (sweeps : Bool) → sweeps ≡ true → find (λ command. bytes_eq (115 ∷ 119 ∷ 101 ∷ 101 ∷ 112 ∷ []) command.word) (commands_of (map_kind sweeps)) ≡ Some sweep_command
+found-sweep true may = refl
+found-sweep false may = absurd (false≢true may)

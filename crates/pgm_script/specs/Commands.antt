@@ -1,5 +1,5 @@
 -- The commands of scripts: one table for all kinds.
-use Rattle.std.specs.Prelude.{ℕ, ◌+◌, ◌-◌, ◌^◌, List, [], ◌∷◌, ◌++◌, take, drop, replicate, slice_index, codes}
+use Rattle.std.specs.Prelude.{ℕ, Bool, true, false, if◌then◌else◌, ◌+◌, ◌-◌, ◌^◌, List, [], ◌∷◌, ◌++◌, take, drop, replicate, slice_index, codes}
 use Rattle.zorder.specs.declared.regions.Region.{Region}
 use Rattle.zorder.specs.Codes.{coordinate_bits}
 use Rattle.pgm_script.specs.declared.script.ScriptKind.{ScriptKind}
@@ -64,9 +64,19 @@ count_command = record { word = codes "count"; most = any ∷ any ∷ []; line =
 abbrev pub sweep_command : Command
 sweep_command = record { word = codes "sweep"; most = any ∷ any ∷ []; line = λ numbers. ScriptLine.Sweep (first numbers) (second numbers) }
 
+-- the commands on a map; `sweep` is one only where sweeps may stand
+abbrev pub map_commands : (sweeps : Bool) → List Command
+map_commands sweeps = put_command ∷ del_command ∷ get_command ∷ next_command ∷ count_command ∷ (if sweeps then sweep_command ∷ [] else [])
+
+-- the kind of a script of such commands
+abbrev pub map_kind : (sweeps : Bool) → ScriptKind
+map_kind true = ScriptKind.Replay
+map_kind false = ScriptKind.Mix
+
 -- the commands of a kind
 abbrev pub commands_of : ScriptKind → List Command
 commands_of ScriptKind.Find = find_command ∷ []
 commands_of (ScriptKind.Region d) = box_command d ∷ []
 commands_of (ScriptKind.Near d) = near_command d ∷ []
-commands_of ScriptKind.Replay = put_command ∷ del_command ∷ get_command ∷ next_command ∷ count_command ∷ sweep_command ∷ []
+commands_of ScriptKind.Replay = map_commands true
+commands_of ScriptKind.Mix = map_commands false

@@ -88,6 +88,7 @@ IsKind ScriptKind.Find = ⊤
 IsKind (ScriptKind.Region d) = IsDimension d
 IsKind (ScriptKind.Near d) = IsDimension d
 IsKind ScriptKind.Replay = ⊤
+IsKind ScriptKind.Mix = ⊤
 
 -- a line that a script of this kind can have; a region is one of its dimension, and a centre in its range
 abbrev pub IsLineOf : ScriptKind → ScriptLine → Type 0
@@ -100,4 +101,9 @@ IsLineOf ScriptKind.Replay (ScriptLine.Get key) = ⊤
 IsLineOf ScriptKind.Replay (ScriptLine.Next key) = ⊤
 IsLineOf ScriptKind.Replay (ScriptLine.Count low high) = ⊤
 IsLineOf ScriptKind.Replay (ScriptLine.Sweep low high) = ⊤
+IsLineOf ScriptKind.Mix (ScriptLine.Put key value) = ⊤
+IsLineOf ScriptKind.Mix (ScriptLine.Del key) = ⊤
+IsLineOf ScriptKind.Mix (ScriptLine.Get key) = ⊤
+IsLineOf ScriptKind.Mix (ScriptLine.Next key) = ⊤
+IsLineOf ScriptKind.Mix (ScriptLine.Count low high) = ⊤
 IsLineOf asked line = ⊥

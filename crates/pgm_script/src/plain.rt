@@ -1,6 +1,7 @@
 // Lines as they are mostly written: a command, behind one space each number, and byte 10.
 ghost use Rattle.std.specs.Prelude.{◌≡◌, ◌∷◌, IfSome};
 ghost use Rattle.pgm_script.specs.Plain.{BeginsWithCommand, BeginsWithDigits, BeginsWithLine};
+ghost use Rattle.pgm_script.specs.Commands.{map_kind};
 ghost use Rattle.pgm_script.specs.Scripts.{IsKind};
 ghost use Rattle.pgm_script.specs.Verbs.{command_of, IsVerb};
 
@@ -39,16 +40,17 @@ fn plain_command(kind: ScriptKind, text: &[u8]) -> Option<(Verb, &[u8])>
             _ => None,
         },
         ScriptKind::Region(_) | ScriptKind::Near(_) => None,
-        ScriptKind::Replay => plain_replay_command(text),
+        ScriptKind::Replay => plain_map_command(true, text),
+        ScriptKind::Mix => plain_map_command(false, text),
     }
 }
 
-// The same in a script of updates and questions.
+// The same in a script of updates and questions, with sweeps or without.
 #[inline]
-fn plain_replay_command(text: &[u8]) -> Option<(Verb, &[u8])>
+fn plain_map_command(sweeps: bool, text: &[u8]) -> Option<(Verb, &[u8])>
     ensures verb { IfSome result (λ cut. IsVerb cut.0) }
     ensures command { IfSome result
-        (λ cut. BeginsWithCommand ScriptKind.Replay text.now (command_of cut.0) cut.1.now) }
+        (λ cut. BeginsWithCommand (map_kind sweeps) text.now (command_of cut.0) cut.1.now) }
 {
     if let [b'p', b'u', b't', rest @ ..] = text {
         return Some((Verb::Put, rest));
@@ -65,10 +67,10 @@ fn plain_replay_command(text: &[u8]) -> Option<(Verb, &[u8])>
     if let [b'c', b'o', b'u', b'n', b't', rest @ ..] = text {
         return Some((Verb::Count, rest));
     }
-    if let [b's', b'w', b'e', b'e', b'p', rest @ ..] = text {
-        return Some((Verb::Sweep, rest));
+    match text {
+        [b's', b'w', b'e', b'e', b'p', rest @ ..] if sweeps => Some((Verb::Sweep, rest)),
+        _ => None,
     }
-    None
 }
 
 // The number behind one space, and the text after its digits.

@@ -16,6 +16,8 @@ pub enum ScriptKind {
     /// `put K V`, `del K` and `sweep A B`, updates of a map, and `get K`, `next Q` and `count A B`,
     /// questions to it.
     Replay,
+    /// The same without `sweep A B`.
+    Mix,
 }
 
 /// A line of a script that is neither blank nor a comment.

@@ -2,7 +2,7 @@
 ghost use Rattle.std.specs.Prelude.{◌≡◌, ◌≤◌, ◌<◌, ◌+◌, ◌^◌, ℕ, Option, IfSome, option_map};
 ghost use Rattle.std.specs.Prelude.{find, bytes_eq, take, drop, length, slice_index};
 ghost use Rattle.zorder.specs.Codes.{IsDimension};
-ghost use Rattle.pgm_script.specs.Commands.{Command, commands_of, corner, greatest};
+ghost use Rattle.pgm_script.specs.Commands.{Command, commands_of, corner, greatest, map_commands};
 ghost use Rattle.pgm_script.specs.Scripts.{IsKind};
 ghost use Rattle.pgm_script.specs.Verbs.{command_of, AreWithin, IsVerb};
 
@@ -34,23 +34,31 @@ pub(crate) fn verb_of(kind: ScriptKind, word: &[u8]) -> Option<Verb>
         ScriptKind::Find => (word == b"find".as_slice()).then_some(Verb::Find),
         ScriptKind::Region(d) => (word == b"box".as_slice()).then_some(Verb::Box(d)),
         ScriptKind::Near(d) => (word == b"near".as_slice()).then_some(Verb::Near(d)),
-        ScriptKind::Replay => {
-            if word == b"put".as_slice() {
-                Some(Verb::Put)
-            } else if word == b"del".as_slice() {
-                Some(Verb::Del)
-            } else if word == b"get".as_slice() {
-                Some(Verb::Get)
-            } else if word == b"next".as_slice() {
-                Some(Verb::Next)
-            } else if word == b"count".as_slice() {
-                Some(Verb::Count)
-            } else if word == b"sweep".as_slice() {
-                Some(Verb::Sweep)
-            } else {
-                None
-            }
-        }
+        ScriptKind::Replay => map_verb(true, word),
+        ScriptKind::Mix => map_verb(false, word),
+    }
+}
+
+// The command of this word on a map; `sweep` is one only where sweeps may stand.
+fn map_verb(sweeps: bool, word: &[u8]) -> Option<Verb>
+    ensures command { option_map command_of result ≡ find
+        (λ command. bytes_eq word.now command.word) (map_commands sweeps) }
+    ensures verb { IfSome result IsVerb }
+{
+    if word == b"put".as_slice() {
+        Some(Verb::Put)
+    } else if word == b"del".as_slice() {
+        Some(Verb::Del)
+    } else if word == b"get".as_slice() {
+        Some(Verb::Get)
+    } else if word == b"next".as_slice() {
+        Some(Verb::Next)
+    } else if word == b"count".as_slice() {
+        Some(Verb::Count)
+    } else if sweeps && word == b"sweep".as_slice() {
+        Some(Verb::Sweep)
+    } else {
+        None
     }
 }
 

@@ -4,4 +4,5 @@ pub mod NumberInputs
 pub mod ScriptInputs
 pub mod SavedInputs
 pub mod OneReading
+pub mod ScriptUpdates
 pub mod OutcomeLemmas

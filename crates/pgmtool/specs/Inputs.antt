@@ -13,7 +13,7 @@ use Rattle.pgm_script.specs.Scripts.{IsLineOf, ReadsAs as ReadsScript}
 use Rattle.log_levels.specs.declared.update.Update.{Update}
 use Rattle.log_levels.specs.Accepted.{entries_of}
 use Rattle.command_line.specs.Requests.{Building, Drilling, Replaying, Request}
-use Rattle.command_line.specs.Requests.Request.{build, explain, query, relax, box, near, replay, drill, save, check}
+use Rattle.command_line.specs.Requests.Request.{build, explain, query, relax, box, near, replay, drill, save, check, mix}
 use Rattle.pgmtool.specs.declared.refusal.Refusal.{Refusal}
 use Rattle.pgmtool.specs.declared.refusal.Refusal.TheVariants.{ReadFault, TooLong, Script, Full, IndexWrong}
 use Rattle.pgmtool.specs.declared.inputs.TheConstants.{SCRIPT_LIMIT}
@@ -104,12 +104,21 @@ map_questions_in lines = filter_map map_question_in lines
 abbrev pub room_of : ℕ → ℕ
 room_of levels = 64 * 2 ^ levels - 1
 
+-- a task, where there is room for so many
+abbrev pub reads_within : (count room : ℕ) → tasks.Task → Reading tasks.Task
+reads_within count room task (Ok read) = (count ≤ room) × (read ≡ task)
+reads_within count room task (Err (Full asked left)) = (asked ≡ count) × (left ≡ room) × (left < asked)
+reads_within count room task (Err refusal) = ⊥
+
 -- what a script asks for, where a map of so many levels has room for the entries of all its updates
 abbrev pub reads_history : Replaying → List ScriptLine → Reading tasks.Task
-reads_history replaying lines (Ok task) = (length (entries_of (updates_in lines)) ≤ room_of replaying.levels)
-    × (task ≡ tasks.Task.replay (updates_in lines) (map_questions_in lines) replaying.batch replaying.readers)
-reads_history replaying lines (Err (Full asked room)) = (asked ≡ length (entries_of (updates_in lines))) × (room ≡ room_of replaying.levels) × (room < asked)
-reads_history replaying lines (Err refusal) = ⊥
+reads_history replaying lines = reads_within (length (entries_of (updates_in lines))) (room_of replaying.levels)
+    (tasks.Task.replay (updates_in lines) (map_questions_in lines) replaying.batch replaying.readers)
+
+-- the same where senders send the updates, of which none is a sweep, and the map has room for all of them
+abbrev pub reads_mixing : Replaying → (senders : ℕ) → List ScriptLine → Reading tasks.Task
+reads_mixing replaying senders lines = reads_within (length (updates_in lines)) (room_of replaying.levels)
+    (tasks.Task.mix (updates_in lines) (map_questions_in lines) replaying.readers senders)
 
 -- the saved index of the file of this name, or why it has none: it isn't there, or its bytes have a fault
 abbrev pub reads_saved : Files → List ℕ → Reading SavedIndex
@@ -160,6 +169,7 @@ reads files (near searching) = then (reads_points searching.dims files searching
     then (reads_script (ScriptKind.Near searching.dims) files searching.script) (λ lines.
     gives (tasks.Task.near searching.dims coords (centres_in lines))))
 reads files (replay replaying) = then (reads_script ScriptKind.Replay files replaying.script) (reads_history replaying)
+reads files (mix replaying senders) = then (reads_script ScriptKind.Mix files replaying.script) (reads_mixing replaying senders)
 reads files (drill drilling) = gives (drill_of drilling)
 reads files (save building) = then (reads_index files building) (λ keys. gives (tasks.Task.save keys (bounds_in building)))
 reads files (check checking) = then (reads_keys (not checking.narrow) files checking.file) (λ keys.

@@ -6,14 +6,18 @@ ghost use Rattle.command_line.specs.Requests.{replayed_of};
 ghost use Rattle.log_levels.specs.declared.update.Update.{Update};
 ghost use Rattle.log_levels.specs.Accepted.{IsPlain, entries_of};
 ghost use Rattle.log_levels.specs.Shapes.{StandsFor, capacity_of};
-ghost use Rattle.commands.specs.Histories.{replay_of};
-ghost use Rattle.pgmtool.specs.Inputs.{map_questions_in, reads_history, room_of, updates_in};
+ghost use Rattle.commands.specs.Histories.{mix_of, replay_of};
+ghost use Rattle.pgmtool.specs.Inputs.{map_questions_in, reads_history, reads_mixing};
+ghost use Rattle.pgmtool.specs.Inputs.{room_of, updates_in};
 ghost use Rattle.pgmtool.specs.Stops.{Answers};
+ghost use Rattle.pgm_script.specs.declared.script.ScriptKind.{ScriptKind};
+ghost use Rattle.pgm_script.specs.Scripts.{IsLineOf};
 
 use crate::refusal::{Refusal, Stopped};
 use command_line::Replaying;
-use commands::{History, Question, Workers};
+use commands::{History, Mixing, Question};
 use log_levels::{LogMap, Update};
+use options::Senders;
 use pgm_script::ScriptLine;
 use std::alloc::{AllocError, Global};
 
@@ -36,20 +40,47 @@ pub fn history_in(
     let updates = updates_in(alloc, lines)?;
     let questions = map_questions_in(alloc, lines)?;
     let asked = entry_count(alloc, &updates)?;
-    let room = room_of(replaying.levels);
+    let room = room_of(replaying.plan.levels);
     if room < asked {
         return Err(Stopped::Refused(Refusal::Full { asked, room }));
     }
-    let workers = Workers {
-        count: replaying.workers,
-    };
     Ok(History {
-        levels: replaying.levels,
-        batch: replaying.batch,
-        readers: replaying.readers,
-        workers,
+        plan: replaying.plan,
         updates,
         questions,
+    })
+}
+
+/// The same where senders send the updates, of which none is a sweep.
+///
+/// # Errors
+///
+/// `Full` where there are more updates than the map can accept, and `NoMemory`.
+pub fn mixing_in(
+    alloc: Global,
+    replaying: Replaying<'_>,
+    senders: Senders,
+    lines: &[ScriptLine],
+) -> Result<Mixing, Stopped>
+    requires { All (IsLineOf ScriptKind.Mix) lines.now }
+    ensures { (faults : ℕ) →
+        Answers (reads_mixing (replayed_of replaying.entry) senders.count lines.now)
+        mix_of faults faults result }
+{
+    let updates = updates_in(alloc, lines)?;
+    let questions = map_questions_in(alloc, lines)?;
+    let count = updates.len() as u64;
+    let room = room_of(replaying.plan.levels);
+    if room < count {
+        return Err(Stopped::Refused(Refusal::Full { asked: count, room }));
+    }
+    Ok(Mixing {
+        history: History {
+            plan: replaying.plan,
+            updates,
+            questions,
+        },
+        senders,
     })
 }
 

@@ -3,20 +3,18 @@ ghost use Rattle.std.specs.Prelude.{◌≡◌, ◌++◌, ◌∷◌, [], All, Err
 ghost use Rattle.zorder.specs.Codes.{IsDimension, IsInRange};
 ghost use Rattle.pgm_script.specs.Scripts.{IsKind, IsLineOf};
 ghost use Rattle.commands.specs.PointRegions.{IsRegionOf};
-ghost use Rattle.command_line.specs.Requests.{asked_of, first_file, built_of, drilled_of};
+ghost use Rattle.command_line.specs.Requests.{asked_of, first_file, built_of};
 ghost use Rattle.pgmtool.specs.Files.{IsFirstMissing, IsMissing};
-ghost use Rattle.commands.specs.Tasks.{bounds_of, task_of};
-ghost use Rattle.pgmtool.specs.Inputs.{reads, reads_index, reads_keys, reads_script, bounds_in};
-ghost use Rattle.pgmtool.specs.Inputs.{centres_in, drill_of, reads_points, regions_in};
+ghost use Rattle.commands.specs.Tasks.{task_of};
+ghost use Rattle.pgmtool.specs.Inputs.{reads, reads_index, reads_keys, reads_script};
+ghost use Rattle.pgmtool.specs.Inputs.{centres_in, reads_points, regions_in};
 ghost use Rattle.pgmtool.specs.Stops.{Answers};
 
-use crate::history::history_in;
+use crate::history::{history_in, mixing_in};
 use crate::judging::{judged, saved_index};
 use crate::refusal::{Refusal, Stopped};
-use command_line::{Building, Drilling, Request};
-use commands::{
-    Bounds, Centre, Drill, Neighbours, Pieces, Search, SortedKeys, Table, Task, Workers,
-};
+use command_line::{Building, Request};
+use commands::{Centre, Neighbours, Search, SortedKeys, Task};
 use edge::Shelf;
 use pgm_script::{Finds, LineList, ScriptKind, ScriptLine, parse_as, read_text};
 use sosd_reader::{read_keys, read_points};
@@ -42,8 +40,7 @@ pub fn read<F: Shelf>(alloc: Global, files: &mut F, request: Request<'_>) -> Res
     match request {
         Request::Build { building } => {
             let keys = index_keys(alloc, files, building)?;
-            let bounds = bounds_in(building);
-            let workers = workers_in(building);
+            let (bounds, workers) = (building.bounds, building.workers);
             Ok(Task::Build {
                 keys,
                 bounds,
@@ -52,8 +49,7 @@ pub fn read<F: Shelf>(alloc: Global, files: &mut F, request: Request<'_>) -> Res
         }
         Request::Explain { building } => {
             let keys = index_keys(alloc, files, building)?;
-            let bounds = bounds_in(building);
-            let workers = workers_in(building);
+            let (bounds, workers) = (building.bounds, building.workers);
             Ok(Task::Explain {
                 keys,
                 bounds,
@@ -68,15 +64,14 @@ pub fn read<F: Shelf>(alloc: Global, files: &mut F, request: Request<'_>) -> Res
         } => {
             let keys = index_keys(alloc, files, building)?;
             let finds: Finds = script_lines(alloc, files, script, ScriptKind::Find)?;
-            let bounds = bounds_in(building);
-            let workers = workers_in(building);
+            let (bounds, workers) = (building.bounds, building.workers);
             Ok(Task::Query {
                 keys,
                 bounds,
                 workers,
                 questions: finds.numbers,
                 windows,
-                table: table_in(table),
+                table,
             })
         }
         Request::Relax {
@@ -86,13 +81,12 @@ pub fn read<F: Shelf>(alloc: Global, files: &mut F, request: Request<'_>) -> Res
         } => {
             let keys = index_keys(alloc, files, building)?;
             let finds: Finds = script_lines(alloc, files, script, ScriptKind::Find)?;
-            let bounds = bounds_in(building);
-            let workers = workers_in(building);
+            let (bounds, workers) = (building.bounds, building.workers);
             Ok(Task::Relax {
                 keys,
                 bounds,
                 workers,
-                pieces: pieces_in(pieces),
+                pieces,
                 questions: finds.numbers,
             })
         }
@@ -140,11 +134,24 @@ pub fn read<F: Shelf>(alloc: Global, files: &mut F, request: Request<'_>) -> Res
             let history = history_in(alloc, replaying, &lines)?;
             Ok(Task::Replay { history })
         }
-        Request::Drill { drilling } => Ok(drill_in(drilling)),
+        Request::Mix { replaying, senders } => {
+            let lines: Vec<ScriptLine> = script_lines(
+                alloc,
+                files,
+                replaying.script,
+                ScriptKind::Mix,
+            )?;
+            let mixing = mixing_in(alloc, replaying, senders, &lines)?;
+            Ok(Task::Mix { mixing })
+        }
+        Request::Drill { drilling } => Ok(Task::Drill {
+            drill: drilling.drill,
+            bounds: drilling.bounds,
+            workers: drilling.workers,
+        }),
         Request::Save { building } => {
             let keys = index_keys(alloc, files, building)?;
-            let bounds = bounds_in(building);
-            let workers = workers_in(building);
+            let (bounds, workers) = (building.bounds, building.workers);
             Ok(Task::Save {
                 keys,
                 bounds,
@@ -157,52 +164,6 @@ pub fn read<F: Shelf>(alloc: Global, files: &mut F, request: Request<'_>) -> Res
             judged(alloc, keys, &saved)
         }
     }
-}
-
-// A drill, which reads no file.
-fn drill_in(drilling: Drilling) -> Task
-    ensures { task_of result ≡ drill_of (drilled_of drilling) }
-{
-    Task::Drill {
-        drill: Drill {
-            number: drilling.number,
-            seed: drilling.seed,
-        },
-        bounds: Bounds {
-            eps: drilling.eps,
-            eps_rec: drilling.eps_rec,
-        },
-        workers: Workers {
-            count: drilling.workers,
-        },
-    }
-}
-
-fn bounds_in(building: Building<'_>) -> Bounds
-    ensures { bounds_of result ≡ bounds_in (built_of building.entry) }
-{
-    Bounds {
-        eps: building.eps,
-        eps_rec: building.eps_rec,
-    }
-}
-
-fn workers_in(building: Building<'_>) -> Workers {
-    Workers {
-        count: building.workers,
-    }
-}
-
-fn pieces_in(pieces: command_line::Pieces) -> Pieces
-    ensures { result.count ≡ pieces.count }
-{
-    Pieces {
-        count: pieces.count,
-    }
-}
-
-fn table_in(table: command_line::Table) -> Table {
-    Table { bits: table.bits }
 }
 
 // The keys that an index is built of.

@@ -13,10 +13,10 @@ use std::marker::Model;
 
 /// Up to so many entries a table has eight for each number, which is 1 MB; a longer one has at most
 /// two.
-const MANY: u64 = 1 << 18;
+const EIGHTFOLD_TO_ENTRIES: u64 = 1 << 18;
 
 /// A step with no more numbers than these is searched as fast as a shorter one.
-const FEW: u32 = 8;
+const SHORT_STEP_NUMBERS: u32 = 8;
 
 /// How many of a list of rising numbers stand before each of many steps. Seen as a record of how
 /// the steps are cut, and the entries.
@@ -76,7 +76,7 @@ impl RadixTable {
         }
         let entries = most_entries(xs.len());
         let even = Candidate::of(alloc, xs, Scale::finest(Growth::None, xs, entries))?;
-        if even.fullest <= FEW {
+        if even.fullest <= SHORT_STEP_NUMBERS {
             return Ok(narrow_table(alloc, even, most));
         }
         let growing = Candidate::of(alloc, xs, Scale::finest(Growth::Doubling, xs, entries))?;
@@ -124,7 +124,7 @@ fn most_entries(count: usize) -> u64
     ensures { result ≤ 2 ^ 36 }
 {
     let count = count as u64;
-    (8 * count).min(MANY).max(2 * count)
+    (8 * count).min(EIGHTFOLD_TO_ENTRIES).max(2 * count)
 }
 
 /// The table of a candidate, or the empty one where a step leaves open too many places.

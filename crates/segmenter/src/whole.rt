@@ -12,19 +12,19 @@ use std::cmp::Ordering;
 use std::sync::ledger::Ledger;
 
 /// Fewer places than these aren't tried, since most tests would go into the guess.
-const FEWEST: u32 = 48;
+const TRIED_FROM_PLACES: u32 = 48;
 
 /// More places than these aren't tried, since they are mostly several runs.
-const MOST: u32 = 8192;
+const TRIED_TO_PLACES: u32 = 8192;
 
 /// How many places at each end are tried for the first pair.
-const ENDS: u32 = 6;
+const PLACES_AT_AN_END: u32 = 6;
 
 /// How many tests the guess takes: six that see whether it is worth while, and those of the ends.
-const GUESS: u32 = 6 + 2 * ENDS;
+const GUESS: u32 = 6 + 2 * PLACES_AT_AN_END;
 
 /// How many pairs are tried.
-const PAIRS: u32 = 8;
+const TRIED_PAIRS: u32 = 8;
 
 /// How many places are passed at once where none of them can matter, and else how many of these.
 const BLOCK: u32 = 16;
@@ -60,7 +60,7 @@ pub fn whole_run<L: Ledger>(
     ensures cost { steps.new ≤ steps.old + 2 * (to - from) }
 {
     let count = to - from;
-    if count < FEWEST || count > MOST {
+    if count < TRIED_FROM_PLACES || count > TRIED_TO_PLACES {
         return None;
     }
     if !may_fit(xs, ys, eps, from, to, steps) {
@@ -68,7 +68,7 @@ pub fn whole_run<L: Ledger>(
     }
     let (mut a, mut b) = pair_at_ends(xs, ys, eps, from, to, steps);
     let mut left = 2 * count - GUESS;
-    for _ in 0..PAIRS {
+    for _ in 0..TRIED_PAIRS {
         let mut found = Extremes::of(xs, ys, eps, a, b, left);
         if !found.go_over(xs, ys, from, to, steps) {
             return None;
@@ -107,8 +107,8 @@ fn may_fit<L: Ledger>(
     requires rising { IsStrictlyIncreasing xs.now }
     requires never_falls { IsNonDecreasing ys.now }
     requires bounded { eps ≤ MAX_EPSILON }
-    requires some { from + FEWEST ≤ to }
-    requires few { to ≤ from + MOST }
+    requires some { from + TRIED_FROM_PLACES ≤ to }
+    requires few { to ≤ from + TRIED_TO_PLACES }
     requires within { to ≤ length xs.now }
     ensures cost { steps.new ≤ steps.old + 6 }
 {
@@ -146,22 +146,22 @@ fn pair_at_ends<L: Ledger>(
     requires rising { IsStrictlyIncreasing xs.now }
     requires never_falls { IsNonDecreasing ys.now }
     requires bounded { eps ≤ MAX_EPSILON }
-    requires some { from + FEWEST ≤ to }
+    requires some { from + TRIED_FROM_PLACES ≤ to }
     requires within { to ≤ length xs.now }
     ensures from_start { from ≤ result.0 }
     ensures rises { result.0 < result.1 }
     ensures to_end { result.1 < to }
-    ensures cost { steps.new ≤ steps.old + 2 * ENDS }
+    ensures cost { steps.new ≤ steps.old + 2 * PLACES_AT_AN_END }
 {
     let mut high = to - 1;
-    for i in 1..ENDS + 1 {
+    for i in 1..PLACES_AT_AN_END + 1 {
         let other = to - 1 - i;
         if is_less_steep(xs, ys, eps, (from, other), (from, high), steps) {
             high = other;
         }
     }
     let mut low = from;
-    for i in 1..ENDS + 1 {
+    for i in 1..PLACES_AT_AN_END + 1 {
         let other = from + i;
         if is_less_steep(xs, ys, eps, (other, high), (low, high), steps) {
             low = other;

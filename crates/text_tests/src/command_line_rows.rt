@@ -1,12 +1,13 @@
 // What no clause says: command lines and what they ask for, and that requests come at all.
 use command_line::{Building, NoRequest, Request, requested};
+use options::Plan;
 use std::process::Abort;
 use std::test::Fail;
 
 // Command lines, with a space between two words, and what they ask for: a command, its one or two
 // names, and its numbers, with 1 for a flag that is given. The numbers of an index are its two
 // error bounds, its workers, and whether its keys are narrow.
-const TAKEN: [(&str, &str); 38] = [
+const TAKEN: [(&str, &str); 41] = [
     // All defaults, and another command.
     ("pgmtool explain keys", "explain keys, [64, 4, 4, 0, 0, 0]"),
     ("pgmtool build keys", "build keys, [64, 4, 4, 0, 0, 0]"),
@@ -138,6 +139,16 @@ const TAKEN: [(&str, &str); 38] = [
         "pgmtool replay --batch=1 --workers 64 -- script",
         "replay ,script [20, 1, 0, 64, 0, 0]",
     ),
+    // The same, and senders.
+    ("pgmtool mix script", "mix ,script [20, 16, 0, 4, 2, 0]"),
+    (
+        "pgmtool mix --senders=16 script --levels 1 --batch 65536",
+        "mix ,script [1, 65536, 0, 4, 16, 0]",
+    ),
+    (
+        "pgmtool mix --readers 16 --workers=1 --senders 1 -- script",
+        "mix ,script [20, 16, 16, 1, 1, 0]",
+    ),
     // How many inputs, the seed, the two error bounds and the workers.
     ("pgmtool drill 2 1", "drill , [2, 1, 64, 4, 4, 0]"),
     (
@@ -159,7 +170,7 @@ const TAKEN: [(&str, &str); 38] = [
 ];
 
 // Command lines that are no command, though each is near one.
-const REFUSED: [(&str, &str); 66] = [
+const REFUSED: [(&str, &str); 70] = [
     ("no command", "pgmtool"),
     ("a command that isn't there", "pgmtool nothing keys"),
     ("a command's name abbreviated", "pgmtool expl keys"),
@@ -247,6 +258,10 @@ const REFUSED: [(&str, &str); 66] = [
         "a number of readers below 0",
         "pgmtool replay script --readers=-1",
     ),
+    ("a mix without its script", "pgmtool mix"),
+    ("no sender", "pgmtool mix script --senders 0"),
+    ("a sender too many", "pgmtool mix script --senders 17"),
+    ("senders of a replay", "pgmtool replay script --senders 2"),
     (
         "an error bound of a replay",
         "pgmtool replay script --eps 4",
@@ -303,6 +318,7 @@ fn names_of<'a>(request: Request<'a>) -> (&'a str, &'a str, &'a str) {
         Request::Box { searching } => ("box", searching.file, searching.script),
         Request::Near { searching } => ("near", searching.file, searching.script),
         Request::Replay { replaying } => ("replay", "", replaying.script),
+        Request::Mix { replaying, .. } => ("mix", "", replaying.script),
         Request::Drill { .. } => ("drill", "", ""),
         Request::Save { building } => ("save", building.file, ""),
         Request::Check { checking } => ("check", checking.file, checking.index),
@@ -312,7 +328,19 @@ fn names_of<'a>(request: Request<'a>) -> (&'a str, &'a str, &'a str) {
 // Those of an index, and two more.
 fn index_numbers(asked: Building<'_>, more: u32, last: u32) -> [u32; 6] {
     let narrow = u32::from(asked.narrow);
-    [asked.eps, asked.eps_rec, asked.workers, narrow, more, last]
+    [
+        asked.bounds.eps,
+        asked.bounds.eps_rec,
+        asked.workers.count,
+        narrow,
+        more,
+        last,
+    ]
+}
+
+// Those of a plan, and one more.
+fn plan_numbers(plan: Plan, more: u32) -> [u32; 6] {
+    [plan.levels, plan.batch, plan.readers, plan.workers, more, 0]
 }
 
 fn numbers_of(request: Request<'_>) -> [u32; 6] {
@@ -333,23 +361,15 @@ fn numbers_of(request: Request<'_>) -> [u32; 6] {
         Request::Box { searching } | Request::Near { searching } => {
             [searching.dims, 0, 0, 0, 0, 0]
         }
-        Request::Replay { replaying: asked } => {
-            [
-                asked.levels,
-                asked.batch,
-                asked.readers,
-                asked.workers,
-                0,
-                0,
-            ]
-        }
+        Request::Replay { replaying } => plan_numbers(replaying.plan, 0),
+        Request::Mix { replaying, senders } => plan_numbers(replaying.plan, senders.count),
         Request::Drill { drilling: asked } => {
             [
-                asked.number,
-                asked.seed,
-                asked.eps,
-                asked.eps_rec,
-                asked.workers,
+                asked.drill.number,
+                asked.drill.seed,
+                asked.bounds.eps,
+                asked.bounds.eps_rec,
+                asked.workers.count,
                 0,
             ]
         }

@@ -257,6 +257,20 @@ fn replays(rt: HostRuntime) -> Result<(), Fail> {
     Ok(())
 }
 
+// The first five lines of the script above are those of a mix, and a sweep is none.
+#[test]
+fn mixes(rt: HostRuntime) -> Result<(), Fail> {
+    let text = b"put 1 10\ndel 2\nget 3\nnext 4\ncount 5 6\n";
+    let lines = parse(rt.alloc(), ScriptKind::Mix, text)?;
+    let same = parse(rt.alloc(), ScriptKind::Replay, text)?;
+    assert_eq!(rt; lines.len(), 5);
+    assert_eq!(rt; lines.as_slice(), same.as_slice());
+    let swept = parse(rt.alloc(), ScriptKind::Mix, b"put 1 10\n\nsweep 7 8\n");
+    let why = Why::Word;
+    assert_eq!(rt; swept.err(), Some(ScriptFault::At { line: 3, why }));
+    Ok(())
+}
+
 // A shelf whose one file is taken, of which a read gives at most `most` bytes. The taking is call
 // 1.
 fn shelf_of(rt: &HostRuntime, bytes: &[u8], failing: &[u64], most: usize) -> Result<MemShelf, Fail>

@@ -6,7 +6,7 @@ use Rattle.log_levels.specs.Maps.{map_after, value_at, next_from, count_between}
 use Rattle.map_replay.specs.declared.question.Question.{Question}
 use Rattle.map_replay.specs.declared.question.Question.TheVariants.{Get, Next, Count}
 use Rattle.map_replay.specs.declared.reading.Sighting.{Sighting}
-use Rattle.map_replay.specs.Readings.{IsReading}
+use Rattle.map_replay.specs.Readings.{IsPublished, IsReadingOf}
 use Rattle.written.specs.TextLines.{text_line}
 use Rattle.commands.specs.Texts.InTurn.{TellsEach}
 
@@ -49,10 +49,14 @@ reader_lines updates reader (question ∷ questions) (sighting ∷ sightings) =
     reader_line updates reader question sighting.length ∷ reader_lines updates reader questions sightings
 reader_lines updates reader questions sightings = []
 
--- the lines of reader R: each answer is after published updates, and after no fewer than the one before
+-- the lines of reader R, where such are the numbers of updates that it may see: each answer is after so many, and after no fewer than the one before
+abbrev pub IsReadOf : (IsLength : ℕ → Type 0) → List Update → List Question → (reader : ℕ) → List (List ℕ) → Type 0
+IsReadOf IsLength updates questions reader pieces =
+    (sightings : List Sighting) × IsReadingOf IsLength updates questions sightings × (pieces ≡ reader_lines updates reader questions sightings)
+
+-- after published updates
 abbrev pub IsRead : List Update → List Question → (batch reader : ℕ) → List (List ℕ) → Type 0
-IsRead updates questions batch reader pieces =
-    (sightings : List Sighting) × IsReading updates batch questions sightings × (pieces ≡ reader_lines updates reader questions sightings)
+IsRead updates questions batch = IsReadOf (IsPublished batch (length updates)) updates questions
 
 -- `reader R last K`
 abbrev pub last_line : (count reader : ℕ) → List ℕ

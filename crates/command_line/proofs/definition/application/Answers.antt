@@ -26,10 +26,12 @@ returns c =
     let sixth_is = c.in_ok-subcommand-6.ensures.shape c.in_ok-points_command-2.ensures.local ∙ added _ _ _ _ fifth_is near_is in
     let replay_is = ap top_of (c.in_ok-replay_command.ensures.shape) in
     let seventh_is = c.in_ok-subcommand-7.ensures.shape c.in_ok-replay_command.ensures.local ∙ added _ _ _ _ sixth_is replay_is in
+    let mix_is = ap top_of (c.in_ok-mix_command.ensures.shape) in
+    let eighth_is = c.in_ok-subcommand-8.ensures.shape c.in_ok-mix_command.ensures.local ∙ added _ _ _ _ seventh_is mix_is in
     let drill_is = ap top_of (c.in_ok-drill_command.ensures.shape) in
-    let eighth_is = c.in_ok-subcommand-8.ensures.shape c.in_ok-drill_command.ensures.local ∙ added _ _ _ _ seventh_is drill_is in
+    let ninth_is = c.in_ok-subcommand-9.ensures.shape c.in_ok-drill_command.ensures.local ∙ added _ _ _ _ eighth_is drill_is in
     let save_is = ap top_of (c.in_ok-index_command-3.ensures.shape) in
-    let ninth_is = c.in_ok-subcommand-9.ensures.shape c.in_ok-index_command-3.ensures.local ∙ added _ _ _ _ eighth_is save_is in
+    let tenth_is = c.in_ok-subcommand-10.ensures.shape c.in_ok-index_command-3.ensures.local ∙ added _ _ _ _ ninth_is save_is in
     let check_is = ap top_of (c.in_ok-check_command.ensures.shape) in
-    IfOk-weaker c.subcommand-10.result _ _
-    (λ program h. h.shape c.in_ok-check_command.ensures.local ∙ added _ _ _ _ ninth_is check_is) c.subcommand-10.ensures
+    IfOk-weaker c.subcommand-11.result _ _
+    (λ program h. h.shape c.in_ok-check_command.ensures.local ∙ added _ _ _ _ tenth_is check_is) c.subcommand-11.ensures

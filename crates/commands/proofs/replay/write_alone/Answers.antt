@@ -11,7 +11,7 @@ returns-in-Ok g c =
     let updates = history.updates.items in
     let questions = history.questions.items in (
       replayed_lines updates questions [],
-      is_replayed updates questions history.batch [] history.readers (sym c.requires) (All-nil _),
+      is_replayed updates questions history.plan.batch [] history.plan.readers (sym c.requires) (All-nil _),
       subst (Writes g.S.Sink c.args.out.now c.write_lines.new.out) (same_lines [] c.deref.ensures.value c.deref-2.ensures.value) c.in-Ok.ensures.ok,
     )
 
@@ -21,6 +21,6 @@ returns g c =
     let updates = history.updates.items in
     let questions = history.questions.items in (
       replayed_lines updates questions [],
-      is_replayed updates questions history.batch [] history.readers (sym c.requires) (All-nil _),
+      is_replayed updates questions history.plan.batch [] history.plan.readers (sym c.requires) (All-nil _),
       subst (BreaksOff g.S.Sink c.args.out.now c.write_lines.new.out) (same_lines [] c.deref.ensures.value c.deref-2.ensures.value) c.in-Err.ensures.err,
     )

@@ -6,11 +6,10 @@ use Rattle.published.specs.Histories.{updates_of, count_of}
 use Rattle.published.specs.Writers.{Written}
 use Rattle.map_replay.specs.declared.question.Question.{Question}
 use Rattle.map_replay.specs.declared.reading.Reading.{Reading}
-use Rattle.map_replay.specs.Readings.{IsWholeReading}
-use Rattle.map_replay.specs.Watching.{AreBatches, WasAsked}
-use Rattle.map_replay.specs.Crews.{HasAsked}
+use Rattle.map_replay.specs.Watching.{WasAsked}
+use Rattle.map_replay.specs.Crews.{HasAsked, HasSeen}
 use Rattle.map_replay.proofs.WatchingLemmas.{asked_more}
-use Rattle.map_replay.proofs.BatchLemmas.{is_reading, same_updates}
+use Rattle.map_replay.proofs.BatchLemmas.{same_updates}
 use Rattle.map_replay.proofs.settling.settled.Goals as goal
 
 -- a reader whose last look begins with the history and is as long
@@ -22,12 +21,14 @@ module _ (history note before look : List (List Update)) (told_is : note ≡ his
   same : count_of look ≡ count_of history
   same = long ∙ ap count_of told_is
 
-  whole_reading : (reading : Reading) → reading.last ≡ count_of look → (updates : List Update) (size : ℕ) (questions : List Question) →
-      updates_of history ≡ updates → AreBatches size history → WasAsked before questions reading.sightings.items → IsWholeReading updates size questions reading
-  whole_reading reading last_is updates size questions all batches asked = record {
-    beside = is_reading updates size history look batches all begins same questions reading.sightings.items
-        (asked_more before look seen questions reading.sightings.items asked);
-    last = last_is ∙ (same ∙ ap (λ (l : List Update). length l) all);
+  has_seen : (reading : Reading) → reading.last ≡ count_of look → (questions : List Question) → WasAsked before questions reading.sightings.items →
+      HasSeen history questions reading
+  has_seen reading last_is questions asked = record {
+    shown = look;
+    begins = begins;
+    same = same;
+    asked = asked_more before look seen questions reading.sightings.items asked;
+    last = last_is ∙ same;
   }
 
 pub loop-one-init : goal.loop-one-init
@@ -39,13 +40,13 @@ loop-one-init g c =
       count = omega (arith, c.in-Some.ensures.cases, c.push_reading.ensures.len, c.args.readings.ok.0, ap (λ l. length l) c.requires.none);
       room = omega (arith, c.requires.room, c.push_reading.ensures.capacity);
       left = λ questions all. (All-pop (HasAsked questions) c.args.watched.items c.pop.new.self.items (Some c.in-Some.first) c.in-Some.ensures.items all).0;
-      each = λ updates size questions all batches asked.
+      each = λ questions asked.
           let one = (All-pop (HasAsked questions) c.args.watched.items c.pop.new.self.items (Some c.in-Some.first) c.in-Some.ensures.items asked).1 in
-          let whole = whole_reading history c.tell.result.batches c.in-Some.first.reader.batches c.last_look-look.result.batches c.tell.ensures.told
-          c.last_look-look.ensures.seen c.last_look-look.ensures.told c.last_look-look.ensures.length reading c.seen.ensures updates size questions all batches one in
-          All-same (IsWholeReading updates size questions) c.push_reading.new.readings.items (c.args.readings.items ++ reading ∷ []) c.push_reading.ensures.items
-          (All-push (IsWholeReading updates size questions) c.args.readings.items reading
-          (All-same (IsWholeReading updates size questions) c.args.readings.items [] c.requires.none (All-nil _)) whole);
+          let whole = has_seen history c.tell.result.batches c.in-Some.first.reader.batches c.last_look-look.result.batches c.tell.ensures.told
+          c.last_look-look.ensures.seen c.last_look-look.ensures.told c.last_look-look.ensures.length reading c.seen.ensures questions one in
+          All-same (HasSeen history questions) c.push_reading.new.readings.items (c.args.readings.items ++ reading ∷ []) c.push_reading.ensures.items
+          (All-push (HasSeen history questions) c.args.readings.items reading
+          (All-same (HasSeen history questions) c.args.readings.items [] c.requires.none (All-nil _)) whole);
     }
 
 pub loop-one-preserved : goal.loop-one-preserved
@@ -53,6 +54,7 @@ loop-one-preserved g c =
     let inv = c.loop-one.invariant in
     let one = c.in-Some-pop.one in
     let reading : Reading = record { sightings = one.sightings; last = c.seen-in-Some-pop.result } in
+    let history = c.args.writer.now.history in
     let told_is = c.tell-in-Some-pop.ensures.told ∙ ap (λ (w : Written). w.history) (inv.same ∙ c.tell.ensures.same) in
     record {
       same = c.tell-in-Some-pop.ensures.same ∙ inv.same;
@@ -60,27 +62,26 @@ loop-one-preserved g c =
       room = omega (arith, inv.room, c.push_reading-in-Some-pop.ensures.capacity);
       left = λ questions all.
           (All-pop (HasAsked questions) c.loop-one.watched.items c.pop-in-loop-one.new.self.items (Some one) c.in-Some-pop.ensures.items (inv.left questions all)).0;
-      each = λ updates size questions all batches asked.
+      each = λ questions asked.
           let mine = (All-pop (HasAsked questions) c.loop-one.watched.items c.pop-in-loop-one.new.self.items (Some one) c.in-Some-pop.ensures.items
           (inv.left questions asked)).1 in
-          let whole = whole_reading c.args.writer.now.history c.tell-in-Some-pop.result.batches one.reader.batches c.last_look-other.result.batches told_is
-          c.last_look-other.ensures.seen c.last_look-other.ensures.told c.last_look-other.ensures.length reading c.seen-in-Some-pop.ensures updates size questions all
-          batches mine in
-          All-same (IsWholeReading updates size questions) c.push_reading-in-Some-pop.new.readings.items (c.loop-one.readings.items ++ reading ∷ [])
+          let whole = has_seen history c.tell-in-Some-pop.result.batches one.reader.batches c.last_look-other.result.batches told_is
+          c.last_look-other.ensures.seen c.last_look-other.ensures.told c.last_look-other.ensures.length reading c.seen-in-Some-pop.ensures questions
+          mine in
+          All-same (HasSeen history questions) c.push_reading-in-Some-pop.new.readings.items (c.loop-one.readings.items ++ reading ∷ [])
           c.push_reading-in-Some-pop.ensures.items
-          (All-push (IsWholeReading updates size questions) c.loop-one.readings.items reading (inv.each updates size questions all batches asked) whole);
+          (All-push (HasSeen history questions) c.loop-one.readings.items reading (inv.each questions asked) whole);
     }
 
 pub returns : goal.returns
-returns g c = λ updates size questions all batches asked.
+returns g c = λ questions asked.
     let inv = c.loop-one.invariant in
     let look = c.last_look-look in
     let history = c.args.writer.now.history in
     record {
       whole = same_updates history look.result.batches
           (begins history c.tell.result.batches c.in-Some.first.reader.batches look.result.batches c.tell.ensures.told look.ensures.seen look.ensures.told look.ensures.length)
-          (same history c.tell.result.batches c.in-Some.first.reader.batches look.result.batches c.tell.ensures.told look.ensures.seen look.ensures.told look.ensures.length)
-          ∙ all;
+          (same history c.tell.result.batches c.in-Some.first.reader.batches look.result.batches c.tell.ensures.told look.ensures.seen look.ensures.told look.ensures.length);
       count = omega (arith, inv.count, c.in_default-pop.ensures.cases, c.loop-one.readings.ok.0);
-      each = inv.each updates size questions all batches asked;
+      each = inv.each questions asked;
     }

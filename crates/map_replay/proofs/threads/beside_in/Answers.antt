@@ -4,7 +4,11 @@ use Rattle.map_replay.proofs.threads.beside_in.Goals as goal
 
 pub returns : goal.returns
 returns g c =
-    let updates = c.args.updates.now in
     let questions = c.args.questions.now in
-    subst (λ (n : ℕ). IsEnd updates c.args.batching.size questions n c.settled.result) (c.join_all.ensures.count ∙ c.start_all.ensures.count)
-    (c.settled.ensures updates c.args.batching.size questions c.in_ok-published.ensures.all c.in_ok-published.ensures.batches c.join_all.ensures.asked)
+    let history = c.publish-published.new.writer.history in
+    record {
+      history = history;
+      published = c.in_ok-came.ensures.published;
+      end = subst (λ (n : ℕ). IsEnd history questions n c.settled-ended.result) (c.join_all.ensures.count ∙ c.start_all.ensures.count)
+          (c.settled-ended.ensures questions c.join_all.ensures.asked);
+    }

@@ -3,7 +3,6 @@ use Rattle.std.proofs.lemmas.List.{length-take, length-drop}
 use Rattle.log_levels.specs.declared.update.Update.{Update}
 use Rattle.log_levels.specs.Accepted.{entries_of}
 use Rattle.published.specs.Histories.{updates_of}
-use Rattle.published.specs.Writers.{Written}
 use Rattle.published.proofs.CallerLemmas.{updates_of-snoc}
 use Rattle.map_replay.proofs.BatchLemmas.{around, batch_more, batches_more, fewer_entries, full_more}
 use Rattle.map_replay.proofs.updating.publish_all.Goals as goal
@@ -26,16 +25,15 @@ loop-number-preserved g c =
     let from = c.loop-number.number * size in
     let batch = take (c.min-to.result - from) (drop from updates) in
     let history = c.loop-number.writer.history in
-    let same = c.tell_all.ensures.same in
-    let made : c.tell_all.new.writer.history ≡ history ++ batch ∷ [] = ap (λ (w : Written). w.history) same ∙ c.in_ok-publish_batch.ensures.published in
+    let made = c.in_ok-publish_batch.ensures.published in
     let to_is : c.min-to.result ≡ min (length updates) (from + size) = omega arith in
     let there : from < length updates = grind arith in
     let next : (c.loop-number.number + 1) * size ≡ from + size = omega arith in
     let long : length batch ≡ c.min-to.result - from = omega (arith, length-take (c.min-to.result - from) (drop from updates), length-drop from updates, to_is, there) in
     rw made (record {
-      own = ap (λ (w : Written). w.origin) same ∙ (c.in_ok-publish_batch.ensures.own ∙ inv.own);
-      capacity = ap (λ (w : Written). w.capacity) same ∙ (c.in_ok-publish_batch.ensures.capacity ∙ inv.capacity);
-      none_staged = ap (λ (w : Written). w.batch) same ∙ c.in_ok-publish_batch.ensures.none_staged;
+      own = c.in_ok-publish_batch.ensures.own ∙ inv.own;
+      capacity = c.in_ok-publish_batch.ensures.capacity ∙ inv.capacity;
+      none_staged = c.in_ok-publish_batch.ensures.none_staged;
       first = updates_of-snoc history batch ∙ (ap (λ (l : List Update). l ++ batch) inv.first
           ∙ sym (ap (λ (n : ℕ). take n updates) next ∙ batch_more from size c.min-to.result updates (omega (arith, there)) to_is));
       batches = batches_more size history batch (inv.full (omega (arith, there))) (omega (arith, long, to_is, there, c.args.batching.some))

@@ -6,11 +6,12 @@ use Rattle.pgm_script.specs.declared.script.ScriptLine.{ScriptLine}
 use Rattle.pgm_script.specs.declared.script.ScriptLine.TheVariants.{Find}
 use Rattle.pgm_script.specs.declared.list.Finds.{Finds}
 use Rattle.command_line.specs.Requests.{Building, Searching, built_of, searched_of, replayed_of, checked_of}
-use Rattle.command_line.specs.Requests.Request.{box as search, near, query, relax, replay, check}
+use Rattle.command_line.specs.Requests.Request.{box as search, near, query, relax, replay, check, mix}
 use Rattle.commands.specs.declared.task.Centre.{Centre}
 use Rattle.commands.specs.declared.task.History.{History}
+use Rattle.commands.specs.declared.task.Mixing.{Mixing}
 use Rattle.commands.specs.declared.task.Task.TheVariants as declared_task
-use Rattle.commands.specs.Histories.{replay_of}
+use Rattle.commands.specs.Histories.{mix_of, replay_of}
 use Rattle.commands.specs.Tasks.{task_of}
 use Rattle.commands.specs.Tasks as tasks
 use Rattle.commands.specs.Tasks.Task.{box, near as neighbours}
@@ -18,7 +19,7 @@ use Rattle.commands.proofs.SearchLemmas.{count_is}
 use Rattle.index_file.specs.Spelling.{SavedIndex}
 use Rattle.pgmtool.specs.Files.{Files}
 use Rattle.pgmtool.specs.Stops.{Answers}
-use Rattle.pgmtool.specs.Inputs.{reads, reads_index, reads_keys, reads_saved, judges, then, reads_points, reads_script, reads_history, centres_in, regions_in, questions_in, bounds_in, gives}
+use Rattle.pgmtool.specs.Inputs.{reads, reads_index, reads_keys, reads_saved, judges, then, reads_points, reads_script, reads_history, centres_in, regions_in, questions_in, bounds_in, gives, reads_mixing}
 use Rattle.pgmtool.proofs.InputLemmas.{then_goes_on, second_stops, stopped_alike, handed_on}
 use Rattle.pgmtool.proofs.inputs.read.Goals as goal
 
@@ -109,19 +110,11 @@ questions_in-finds : (questions : List ℕ) → questions_in (map Find questions
 questions_in-finds [] = refl
 questions_in-finds (question ∷ questions) = ap (λ (q : List ℕ). question ∷ q) (questions_in-finds questions)
 
-asked : (files : Files) (building : Building) (name keys questions : List ℕ) (windows : Bool) (bounds : tasks.Bounds) → bounds ≡ bounds_in building →
+asked : (files : Files) (building : Building) (name keys questions : List ℕ) (windows : Bool) →
     reads_index files building (Ok keys) → reads_script ScriptKind.Find files name (Ok (map Find questions)) →
-    reads files (query building name windows) (Ok (tasks.Task.query keys bounds questions windows))
-asked files building name keys questions windows bounds is index script = (
-  keys,
-  index,
-  (
-    map Find questions,
-    script,
-    ap (λ (b : tasks.Bounds). Ok (tasks.Task.query keys b questions windows)) is
-        ∙ ap (λ (q : List ℕ). Ok (tasks.Task.query keys (bounds_in building) q windows)) (sym (questions_in-finds questions)),
-  ),
-)
+    reads files (query building name windows) (Ok (tasks.Task.query keys (bounds_in building) questions windows))
+asked files building name keys questions windows index script =
+    (keys, index, (map Find questions, script, ap (λ (q : List ℕ). Ok (tasks.Task.query keys (bounds_in building) q windows)) (sym (questions_in-finds questions))))
 
 pub returns-in_ok-finds-in-Query-clause-answer : goal.returns-in_ok-finds-in-Query-clause-answer
 returns-in_ok-finds-in-Query-clause-answer g c =
@@ -132,7 +125,7 @@ returns-in_ok-finds-in-Query-clause-answer g c =
     let two = c.in_ok-finds-in-Query.ensures in
     let quiet = two.answer.unfaulted ∙ one.answer.unfaulted in
     record {
-      ok = rw c.in-Query.is (asked _ building name _ questions c.in-Query.windows _ c.bounds_in-bounds-in-Query.ensures one.answer.ok
+      ok = rw c.in-Query.is (asked _ building name _ questions c.in-Query.windows one.answer.ok
           (subst (λ (files : Files). reads_script ScriptKind.Find files name (Ok (map Find questions))) one.files two.answer.ok));
       unfaulted = quiet;
       stopped = tt;
@@ -140,20 +133,11 @@ returns-in_ok-finds-in-Query-clause-answer g c =
       never_falls = omega (arith, quiet);
     }
 
-asked_relaxed : (files : Files) (building : Building) (name keys questions : List ℕ) (pieces told : ℕ) (bounds : tasks.Bounds) → told ≡ pieces → bounds ≡ bounds_in building →
+asked_relaxed : (files : Files) (building : Building) (name keys questions : List ℕ) (pieces : ℕ) →
     reads_index files building (Ok keys) → reads_script ScriptKind.Find files name (Ok (map Find questions)) →
-    reads files (relax building name pieces) (Ok (tasks.Task.relax keys bounds told questions))
-asked_relaxed files building name keys questions pieces told bounds same is index script = (
-  keys,
-  index,
-  (
-    map Find questions,
-    script,
-    ap (λ (n : ℕ). Ok (tasks.Task.relax keys bounds n questions)) same
-        ∙ ap (λ (b : tasks.Bounds). Ok (tasks.Task.relax keys b pieces questions)) is
-        ∙ ap (λ (q : List ℕ). Ok (tasks.Task.relax keys (bounds_in building) pieces q)) (sym (questions_in-finds questions)),
-  ),
-)
+    reads files (relax building name pieces) (Ok (tasks.Task.relax keys (bounds_in building) pieces questions))
+asked_relaxed files building name keys questions pieces index script =
+    (keys, index, (map Find questions, script, ap (λ (q : List ℕ). Ok (tasks.Task.relax keys (bounds_in building) pieces q)) (sym (questions_in-finds questions))))
 
 pub returns-in_ok-finds-in-Relax-clause-answer : goal.returns-in_ok-finds-in-Relax-clause-answer
 returns-in_ok-finds-in-Relax-clause-answer g c =
@@ -164,7 +148,7 @@ returns-in_ok-finds-in-Relax-clause-answer g c =
     let two = c.in_ok-finds-in-Relax.ensures in
     let quiet = two.answer.unfaulted ∙ one.answer.unfaulted in
     record {
-      ok = rw c.in-Relax.is (asked_relaxed _ building name _ questions _ _ _ c.pieces_in.ensures c.bounds_in-bounds-in-Relax.ensures one.answer.ok
+      ok = rw c.in-Relax.is (asked_relaxed _ building name _ questions _ one.answer.ok
           (subst (λ (files : Files). reads_script ScriptKind.Find files name (Ok (map Find questions))) one.files two.answer.ok));
       unfaulted = quiet;
       stopped = tt;
@@ -299,3 +283,31 @@ returns-in_err-saved-in-Check-clause-answer g c =
     (second_stops (reads_keys (not checking.narrow) files checking.file) (λ numbers. reads_saved files checking.index)
     (λ numbers read. judges numbers read) (λ sorted. sorted.keys.items)
     (λ (read : SavedIndex). read) task_of before middle after c.in_ok-keys-in-Check.keys stopped one.answer two))
+
+-- and where senders send the updates
+pub returns-in_err-mixing-in-Mix-clause-answer : goal.returns-in_err-mixing-in-Mix-clause-answer
+returns-in_err-mixing-in-Mix-clause-answer g c =
+    let before = g.F.Shelf.faults c.args.files.now in
+    let after = g.F.Shelf.faults c.script_lines-in-Mix.new.files in
+    let files = g.F.Shelf.files c.args.files.now in
+    let replaying = replayed_of c.in-Mix.replaying in
+    let stopped = c.in_err-mixing-in-Mix.field-0.0 in
+    let two = subst (λ (lines : List ScriptLine). Answers {B = Mixing} (reads_mixing replaying c.in-Mix.senders.count lines) mix_of after after (Err stopped)) c.deref-in-Mix.ensures.value (c.in_err-mixing-in-Mix.ensures after) in
+    rw c.in-Mix.is (subst (Answers (reads files (mix replaying c.in-Mix.senders.count)) task_of before after)
+    (sym (handed_on _ stopped c.from_residual-in_err-mixing-in-Mix.ensures.1))
+    (then_goes_on (reads_script ScriptKind.Mix files replaying.script) (reads_mixing replaying c.in-Mix.senders.count) (λ (lines : Vec ScriptLine Global). lines.items) task_of
+    before after after c.in_ok-lines-in-Mix.lines (Err stopped) c.in_ok-lines-in-Mix.ensures.answer
+    (stopped_alike (reads_mixing replaying c.in-Mix.senders.count c.in_ok-lines-in-Mix.lines.items) mix_of task_of after after stopped two)))
+
+pub returns-in_ok-mixing-in-Mix-clause-answer : goal.returns-in_ok-mixing-in-Mix-clause-answer
+returns-in_ok-mixing-in-Mix-clause-answer g c =
+    let before = g.F.Shelf.faults c.args.files.now in
+    let after = g.F.Shelf.faults c.script_lines-in-Mix.new.files in
+    let files = g.F.Shelf.files c.args.files.now in
+    let replaying = replayed_of c.in-Mix.replaying in
+    let mixing = c.in_ok-mixing-in-Mix.mixing in
+    let two = subst (λ (lines : List ScriptLine). Answers {B = Mixing} (reads_mixing replaying c.in-Mix.senders.count lines) mix_of after after (Ok mixing)) c.deref-in-Mix.ensures.value (c.in_ok-mixing-in-Mix.ensures after) in
+    rw c.in-Mix.is
+    (then_goes_on (reads_script ScriptKind.Mix files replaying.script) (reads_mixing replaying c.in-Mix.senders.count) (λ (lines : Vec ScriptLine Global). lines.items) task_of
+    before after after c.in_ok-lines-in-Mix.lines (Ok (declared_task.Mix mixing)) c.in_ok-lines-in-Mix.ensures.answer
+    (record { ok = two.ok; unfaulted = two.unfaulted; stopped = tt; faulted = λ rose. absurd (omega (arith, rose)); never_falls = two.never_falls }))

@@ -1,0 +1,70 @@
+-- What is published with the batch that was taken is all that was taken.
+use Rattle.std.proofs.Common.{◌≡◌, ◌+◌, ◌-◌, ◌≤◌, ◌++◌, ◌∷◌, [], ℕ, List, true, Result, Ok, Err, OnOk, is_ok, length, take, drop, ap, sym, subst, ◌∙◌, arith}
+use Rattle.std.proofs.lemmas.Bool.{false≢true}
+use Rattle.std.proofs.lemmas.List.{append-nil, drop_all, length-drop, length-map}
+use Rattle.std.proofs.lemmas.Result.{on_ok_weaker}
+use Rattle.log_levels.specs.declared.update.Update.{Update}
+use Rattle.log_levels.specs.Accepted.{entries_of}
+use Rattle.published.specs.Histories.{updates_of}
+use Rattle.published.proofs.CallerLemmas.{updates_of-snoc}
+use Rattle.senders.specs.Senders.{Origin}
+use Rattle.map_replay.specs.Posts.{AreSeats}
+use Rattle.map_replay.proofs.BatchLemmas.{around}
+use Rattle.map_replay.proofs.MixLemmas.{plain_entries}
+use Rattle.map_replay.proofs.mixing.publish_taken.Goals as goal
+
+where_ok : {T E P : Type 0} (r : Result T E) → is_ok r ≡ true → OnOk r P → P
+where_ok (Ok x) ok holds = holds
+where_ok (Err e) ok holds = absurd (false≢true ok)
+
+-- the batch behind what is published, where the items are read from
+whole : (published before after items : List Update) (from : ℕ) → published ≡ before → items ≡ after → take from after ≡ before →
+    published ++ take (length items - from) (drop from items) ≡ after
+whole published before after items from same is begins =
+    let m = length items - from in
+    let batch = take m (drop from items) in
+    let none : drop m (drop from items) ≡ [] = drop_all m (drop from items) (omega (arith, length-drop from items)) in
+    let first : published ≡ take from items = same ∙ (sym begins ∙ sym (ap (λ (l : List Update). take from l) is)) in
+    ap (λ (l : List Update). l ++ batch) first
+    ∙ (sym (append-nil (take from items ++ batch))
+    ∙ (ap (λ (l : List Update). (take from items ++ batch) ++ l) (sym none) ∙ (around from m items ∙ is)))
+
+pub publish_batch-published-requires-clause-fits : goal.publish_batch-published-requires-clause-fits
+publish_batch-published-requires-clause-fits g c κs within =
+    let inv = c.loop-alloc.invariant in
+    let after = c.take_batch.new.intake.came.updates.items in
+    let items = c.deref.result.now in
+    let from = c.len-from.result in
+    let from_is : from ≡ length c.loop-alloc.intake.came.updates.items = omega (arith, c.loop-alloc.intake.came.updates.ok.0) in
+    let begins = subst (λ (n : ℕ). take n after ≡ c.loop-alloc.intake.came.updates.items) (sym from_is) c.take_batch.ensures.took.begins in
+    let same = where_ok c.loop-alloc.published (sym c.is_ok.ensures.value ∙ c.if-is_ok.true) inv.published in
+    let all = whole (updates_of c.loop-alloc.writer.history) c.loop-alloc.intake.came.updates.items after items from same c.deref.ensures.value begins in
+    let plain = plain_entries after c.take_batch.ensures.intake.plain in
+    let few : length after ≤ length c.args.deck.updates.now = omega (arith, c.take_batch.ensures.intake.within, ap (λ (l : List Update). length l) c.take_batch.ensures.intake.updates ∙ length-map c.take_batch.new.intake.inbox.taken (λ item. item.1)) in
+    omega (arith, ap (λ (l : List Update). length (entries_of l)) all, plain, few, c.requires.fits, inv.capacity)
+
+pub loop-alloc-preserved-then-is_ok : goal.loop-alloc-preserved-then-is_ok
+loop-alloc-preserved-then-is_ok g c =
+    let inv = c.loop-alloc.invariant in
+    let after = c.take_batch.new.intake.came.updates.items in
+    let items = c.deref.result.now in
+    let from = c.len-from.result in
+    let history = c.loop-alloc.writer.history in
+    let batch = take (length items - from) (drop from items) in
+    let from_is : from ≡ length c.loop-alloc.intake.came.updates.items = omega (arith, c.loop-alloc.intake.came.updates.ok.0) in
+    let begins = subst (λ (n : ℕ). take n after ≡ c.loop-alloc.intake.came.updates.items) (sym from_is) c.take_batch.ensures.took.begins in
+    let same = where_ok c.loop-alloc.published (sym c.is_ok.ensures.value ∙ c.if-is_ok.true) inv.published in
+    let all = whole (updates_of history) c.loop-alloc.intake.came.updates.items after items from same c.deref.ensures.value begins in
+    let made = c.publish_batch-published.ensures in
+    record {
+      own = made.own ∙ inv.own;
+      capacity = made.capacity ∙ inv.capacity;
+      origin = c.take_batch.ensures.took.own ∙ inv.origin;
+      intake = c.take_batch.ensures.intake;
+      seats = subst (λ (o : Origin). AreSeats o c.args.deck.senders c.args.deck.updates.now c.take_batch.new.seats.items) inv.origin c.take_batch.ensures.seats;
+      count = c.take_batch.ensures.count ∙ inv.count;
+      number = omega (arith, inv.number, c.take_batch.ensures.took.more);
+      staged = made.none_staged;
+      published = on_ok_weaker c.publish_batch-published.result
+          (λ is. ap updates_of is ∙ (updates_of-snoc history batch ∙ all)) made.published;
+    }

@@ -1,0 +1,39 @@
+// How an index is built, and looked into.
+ghost use Rattle.std.specs.Prelude.{◌≤◌};
+ghost use Rattle.exact_cross.specs.declared.TheConstants.{MAX_EPSILON};
+
+/// The error bounds of an index, in places of the lists that its levels stand on.
+#[derive(Clone, Copy, Debug)]
+pub struct Bounds {
+    /// The bound ε of level 0.
+    pub eps: u32,
+    /// The bound ε' of the levels above.
+    pub eps_rec: u32,
+    pub ghost bounded: { eps ≤ MAX_EPSILON },
+    pub ghost bounded_above: { eps_rec ≤ MAX_EPSILON },
+}
+
+/// How many workers build an index, from 1 to 64, and among how many very many questions are shared
+/// at most. No text depends on it.
+#[derive(Clone, Copy, Debug)]
+pub struct Workers {
+    pub count: u32,
+    pub ghost staffed: { 1 ≤ count },
+    pub ghost few: { count ≤ 64 },
+}
+
+/// Whether a table takes the place of the levels above level 0. No text depends on it.
+#[derive(Clone, Copy, Debug)]
+pub struct Table {
+    /// How many bits of a key the table goes by, at most 20; 0 where there is no table.
+    pub bits: u32,
+    pub ghost few: { bits ≤ 20 },
+}
+
+/// Into how many even pieces the points of a relaxed index are cut, from 1 to 65,536.
+#[derive(Clone, Copy, Debug)]
+pub struct Pieces {
+    pub count: u32,
+    pub ghost some: { 1 ≤ count },
+    pub ghost few: { count ≤ 65536 },
+}
