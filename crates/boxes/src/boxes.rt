@@ -8,18 +8,11 @@ ghost use Rattle.window_search.specs.Searches.{lb};
 ghost use Rattle.boxes.specs.PointCodes.{AreSortedCodes};
 
 use crate::codes::sorted_codes;
-use crate::near::bound_near;
 use budget::NoMemory;
-use levels::{Index, Keys};
+use levels::{EPS, EPS_REC, Index, Keys};
 use std::alloc::Global;
 use std::marker::Model;
 use std::thread::Threads;
-
-/// The error bound of the index's level 0, in places.
-const EPSILON: u32 = 64;
-
-/// The error bound of the levels above, in places of their lists.
-const EPSILON_ABOVE: u32 = 4;
 
 /// Points of two, three or four coordinates, kept for the search of boxes. Seen as a record of
 /// their number of coordinates, of their codes, sorted, each as often as there are points with it,
@@ -74,7 +67,7 @@ impl Boxes {
     {
         let codes = sorted_codes(rt, alloc, d, points)?;
         let keys = Keys::of(alloc, codes)?;
-        let index = Index::of(alloc, keys, EPSILON, EPSILON_ABOVE)?;
+        let index = Index::of(alloc, keys, EPS, EPS_REC)?;
         Ok(Boxes { d, index })
     }
 
@@ -97,24 +90,10 @@ impl Boxes {
     }
 
     /// The lower bound of a code: how many of the codes are below it.
-    ///
-    /// It is searched near where the index says, and where it isn't there, by the index.
     pub(crate) fn lower_bound(&self, code: u64) -> usize
         ensures { result ≡ lb self.now.codes code }
     {
-        match bound_near(self.codes(), self.start_near(code), code) {
-            Some(place) => place,
-            None => self.index.position(code) as usize,
-        }
-    }
-
-    /// Where the places begin among which the lower bound of a code is, by the index. It tells
-    /// nothing.
-    #[inline(always)]
-    fn start_near(&self, code: u64) -> usize {
-        if self.codes().is_empty() {
-            return 0;
-        }
-        self.index.start_near(code) as usize
+        let start = self.index.start_near(code) as usize;
+        self.index.position_near(start, code) as usize
     }
 }

@@ -19,7 +19,6 @@ mod boxes;
 mod cells;
 mod codes;
 mod found;
-mod near;
 mod walk;
 
 pub use answer::one_answer;

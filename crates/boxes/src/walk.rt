@@ -158,7 +158,7 @@ impl Boxes {
 /// They never fall, so all that are below are counted: a branch on where the first other one stands
 /// is foretold wrongly half of the time.
 #[inline(always)]
-pub fn front_below(numbers: &[u64], least: u64) -> usize
+fn front_below(numbers: &[u64], least: u64) -> usize
     requires order { IsNonDecreasing numbers.now }
     ensures within { result ≤ length numbers.now }
     ensures below { (k : ℕ) → k < result → slice_index numbers.now k < least }

@@ -29,4 +29,5 @@ pub use edge::OpenGate;
 pub use grouped::positions_grouped;
 pub use index::{Index, each_index_is_laid, one_index, one_relaxed_index, some_index};
 pub use key_points::{Keys, KeysFault, is_sorted};
+pub use near::{EPS, EPS_REC};
 pub use windows::{one_list_of_windows, some_windows};

@@ -15,8 +15,8 @@ ghost use Rattle.log_levels.specs.Maps.{map_after};
 ghost use Rattle.log_levels.specs.Accepted.{entries_of};
 
 use budget::NoMemory;
-use levels::Index;
-use map_level::{EPS, EPS_REC, Level};
+use levels::{EPS, EPS_REC, Index};
+use map_level::Level;
 use std::alloc::Global;
 use std::marker::Model;
 use std::sync::Arc;

@@ -4,10 +4,9 @@ ghost use Rattle.tombstones.specs.Entries.{IsAscending, entry_at, winner_at, kep
 ghost use Rattle.levels.specs.Indexes.{IsIndex};
 ghost use Rattle.map_level.specs.Builders.{Merges, Builds};
 
-use crate::level::{EPS, EPS_REC};
 use budget::NoMemory;
 use edge::Gate;
-use levels::{Index, Keys};
+use levels::{EPS, EPS_REC, Index, Keys};
 use piece_join::even_cuts;
 use std::alloc::Global;
 use std::thread::Threads;

@@ -12,32 +12,21 @@ use crate::builder::Builder;
 use crate::filter::{Filter, HashedKey, keys_with_filter};
 use crate::grid::Grid;
 use budget::NoMemory;
-use levels::Index;
+use levels::{EPS, EPS_REC, Index};
 use std::alloc::Global;
 use std::marker::Model;
 use tombstones::Entry;
 
-/// The error bound of level 0 of a level's index.
-pub const EPS: u32 = 64;
-
-/// The error bound of the index's levels above.
-pub const EPS_REC: u32 = 4;
-
-/// So many entries are a group.
-const GROUP: usize = 8;
-
-/// A grid leads to one group.
-const GROUPS_BY_GRID: usize = 1;
-
-/// The index leaves `2ε + 3` places, which are in so many groups.
-const GROUPS_BY_INDEX: usize = 17;
+/// So many entries are looked at where a grid leads.
+const NEAR: usize = 8;
 
 /// The entries of a level, by rising key, with the index of their keys, a filter of them, and a
 /// grid where they are even. Seen as the entries. It is never changed.
 ///
 /// A key is searched in three steps: a hint says where to look (`start`, from the grid, or else
-/// from the index); the entries there are looked at; and where the key's place isn't among them,
-/// the index finds it. No clause says that a hint is right: what is found is checked.
+/// from the index); eight entries there are looked at, or where the index led the keys of a window;
+/// and where the key's place isn't among them, the index finds it. No clause says that a hint is
+/// right: what is found is checked.
 #[derive(Drop)]
 pub struct Level {
     entries: Vec<Entry>,
@@ -107,20 +96,7 @@ impl Level {
     pub fn start(&self, key: u64) -> usize {
         match &self.grid {
             Some(grid) => grid.start(key),
-            None if self.entries.is_empty() => 0,
             None => self.index.start_near(key) as usize,
-        }
-    }
-
-    /// How many groups of entries are looked at from the hint on.
-    #[inline(always)]
-    pub(crate) fn groups(&self) -> usize
-        ensures some { 0 < result }
-        ensures few { result ≤ GROUPS_BY_INDEX }
-    {
-        match self.grid {
-            Some(_) => GROUPS_BY_GRID,
-            None => GROUPS_BY_INDEX,
         }
     }
 
@@ -132,7 +108,10 @@ impl Level {
         ensures within { result ≤ length self.now }
     {
         let entries = self.entries();
-        let place = place_near(entries, start, self.groups(), key);
+        if self.grid.is_none() {
+            return self.index.position_near(start, key) as usize;
+        }
+        let place = place_near(entries, start, key);
         if is_place(entries, place, key) {
             return place;
         }
@@ -215,35 +194,25 @@ impl Level {
     }
 }
 
-/// How many keys are below a key, if its place is in so many groups of entries from a place on, or
-/// at their end. No clause says that it is.
-///
-/// The last key of each group but one tells the group, and no branch depends on an answer.
+/// How many keys are below a key, if its place is among eight from a place on or at their end. No
+/// clause says that it is. No branch depends on an answer.
 #[inline(always)]
-pub(crate) fn place_near(entries: &[Entry], start: usize, groups: usize, key: u64) -> usize
-    requires some { 0 < groups }
-    requires few { groups ≤ GROUPS_BY_INDEX }
-{
-    let near = GROUP * groups;
-    if entries.len() < near {
+pub(crate) fn place_near(entries: &[Entry], start: usize, key: u64) -> usize {
+    if entries.len() < NEAR {
         return below(entries, key);
     }
-    let first = start.min(entries.len() - near);
-    let mut at = first;
-    for i in 1..groups {
-        let is_below = entries[first + (GROUP * i - 1)].key < key;
-        at = at.wrapping_add(GROUP * usize::from(is_below));
-    }
-    let at = at.min(entries.len() - GROUP);
-    at.wrapping_add(below(&entries[at..at + GROUP], key))
+    let first = start.min(entries.len() - NEAR);
+    first.wrapping_add(below(&entries[first..first + NEAR], key))
 }
 
 /// How many of some entries' keys are below a key.
+///
+/// Those that aren't are taken off: of a sum of the others the compiler makes more.
 #[inline(always)]
 fn below(entries: &[Entry], key: u64) -> usize {
-    let mut count = 0usize;
+    let mut count = entries.len();
     for entry in entries {
-        count = count.wrapping_add(usize::from(entry.key < key));
+        count = count.wrapping_sub(usize::from(entry.key >= key));
     }
     count
 }

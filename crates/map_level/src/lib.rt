@@ -18,7 +18,7 @@ mod level;
 pub use builder::{Builder, Built, Here, Merged, Workers, index_in_pieces};
 pub use filter::HashedKey;
 pub use latest::latest_of;
-pub use level::{EPS, EPS_REC, Level};
+pub use level::Level;
 
 #[cfg(test)]
 mod tests;

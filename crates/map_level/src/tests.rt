@@ -30,28 +30,22 @@ fn few_pass_a_filter_falsely(rt: HostRuntime) -> Result<(), Fail> {
     Ok(())
 }
 
-// No contract says that a hint leads to a key, so each key is looked for where it leads: by the
-// index among squares, which are uneven, and by a grid among keys of which one is in each 64
-// numbers.
+// No contract says that a grid leads to a key, so each key is looked for where it leads, among keys
+// of which one is in each 64 numbers.
 #[test]
-fn hints_lead_to_each_key(rt: HostRuntime) -> Result<(), Fail> {
-    for count in [8, 9, 64, 100, 136, 137, 1000, 20_000] {
-        lead_to_each(&rt, count, true)?;
-        lead_to_each(&rt, count, false)?;
+fn grids_lead_to_each_key(rt: HostRuntime) -> Result<(), Fail> {
+    for count in [8, 9, 64, 100, 1000, 20_000] {
+        lead_to_each(&rt, count)?;
     }
     Ok(())
 }
 
-/// Looks for each of so many keys where the hint of their level leads.
-fn lead_to_each<R: Abort + AllocGlobal>(
-    rt: &R,
-    count: u64,
-    are_even: bool,
-) -> Result<(), NoMemory> {
+/// Looks for each of so many keys where the grid of their level leads.
+fn lead_to_each<R: Abort + AllocGlobal>(rt: &R, count: u64) -> Result<(), NoMemory> {
     let mut entries = Vec::new(rt.alloc());
     for i in 0..count {
         entries.push(Entry {
-            key: key_of(i, are_even),
+            key: key_of(i),
             value: Some(i),
         })?;
     }
@@ -60,17 +54,13 @@ fn lead_to_each<R: Abort + AllocGlobal>(
     let here = Here { alloc: rt.alloc() };
     let level = Level::of(&here, rt.alloc(), entries)?;
     for i in 0..count {
-        let key = key_of(i, are_even);
-        let place = place_near(level.entries(), level.start(key), level.groups(), key);
+        let key = key_of(i);
+        let place = place_near(level.entries(), level.start(key), key);
         assert_eq!(rt; place as u64, i, "{key} of {count}");
     }
     Ok(())
 }
 
-fn key_of(i: u64, are_even: bool) -> u64 {
-    if are_even {
-        i.wrapping_mul(64).wrapping_add(i.wrapping_mul(37) % 64)
-    } else {
-        i.wrapping_mul(i)
-    }
+fn key_of(i: u64) -> u64 {
+    i.wrapping_mul(64).wrapping_add(i.wrapping_mul(37) % 64)
 }
