@@ -30,7 +30,8 @@ use written::{TextLine, Unfinished, hand_over};
 /// Writes how many updates there are, what each reader was answered beside them, what the map after
 /// all of them answers to each question, and how many keys it has.
 ///
-/// Without readers the map is made at once, by workers; with readers it is published in batches.
+/// Without readers the map is made at once, by workers, unless it is there already; with readers it
+/// is published in batches.
 /// All memory is taken before the first byte.
 pub fn write<R: Threads + Wait + Sync, S: Sink, G: Gate>(
     rt: &R,
@@ -60,9 +61,25 @@ fn write_alone<R: Threads + Sync, S: Sink, G: Gate>(
     ensures { WritesText S.Sink out.old result out.new (IsReplayed history.now.updates.items
         history.now.questions.items history.now.plan.batch history.now.plan.readers) }
 {
-    let map = map_of(rt, alloc, history, gate)?;
+    match &history.map {
+        Some(map) => {
+            let _ = map.accepted();
+            write_by(out, map, history)
+        }
+        None => write_by(out, &map_of(rt, alloc, history, gate)?, history),
+    }
+}
+
+// The same by the map after the updates.
+fn write_by<S: Sink>(out: &mut S, map: &LogMap, history: &History) -> Result<(), Unfinished>
+    requires alone { history.now.plan.readers ≡ 0 }
+    requires map { (updates : List Update) × StandsFor map.now updates
+        × (map_after history.now.updates.items ≡ map_after updates) }
+    ensures { WritesText S.Sink out.old result out.new (IsReplayed history.now.updates.items
+        history.now.questions.items history.now.plan.batch history.now.plan.readers) }
+{
     let none: [Reading; 0] = [];
-    match write_lines(out, &map, &none, &history.updates, &history.questions) {
+    match write_lines(out, map, &none, &history.updates, &history.questions) {
         Ok(()) => Ok(()),
         Err(_) => Err(Unfinished::WriteFault),
     }

@@ -1,13 +1,16 @@
 // What there is to do when all inputs are read.
 ghost use Rattle.std.specs.Prelude.{◌-◌, ◌<◌, ◌≤◌, ◌^◌, vec_len};
 ghost use Rattle.std.specs.List.Sorted.{IsNonDecreasing};
-ghost use Rattle.std.specs.Prelude.{◌≡◌, ◌*◌, ◌/◌, All, length, true};
+ghost use Rattle.std.specs.Prelude.{◌≡◌, ◌*◌, ◌/◌, All, List, Some, length, true};
 ghost use Rattle.zorder.specs.Codes.{IsDimension, IsInRange, coordinate_bits};
+ghost use Rattle.log_levels.specs.declared.update.Update.{Update};
 ghost use Rattle.log_levels.specs.Accepted.{entries_of};
+ghost use Rattle.log_levels.specs.Maps.{map_after};
+ghost use Rattle.log_levels.specs.Shapes.{Held, StandsFor};
 ghost use Rattle.commands.specs.PlainUpdates.{is_plain};
 ghost use Rattle.commands.specs.PointRegions.{IsRegionOf};
 
-use log_levels::Update;
+use log_levels::{LogMap, Update};
 use map_replay::Question;
 use options::{Bounds, Drill, Pieces, Plan, Senders, Table, Workers};
 use zorder::Region;
@@ -69,7 +72,11 @@ pub struct History {
     pub updates: Vec<Update>,
     /// The questions, in order.
     pub questions: Vec<Question>,
+    /// The map after the updates, where it is there already.
+    pub map: Option<LogMap>,
     pub ghost fits: { length (entries_of updates.items) ≤ 64 * 2 ^ plan.levels - 1 },
+    pub ghost after: { (held : Held) (others : List Update) → map ≡ Some held →
+        StandsFor held others → map_after others ≡ map_after updates.items },
 }
 
 /// Updates that are dealt out to senders, and the questions that are asked beside them and after

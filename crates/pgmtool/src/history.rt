@@ -1,11 +1,12 @@
 // What a script of updates and questions asks for.
-ghost use Rattle.std.specs.Prelude.{◌≡◌, ◌++◌, ◌∷◌, ◌≤◌, [], ℕ};
+ghost use Rattle.std.specs.Prelude.{◌≡◌, ◌++◌, ◌∷◌, ◌≤◌, [], ℕ, Some};
 ghost use Rattle.std.specs.Prelude.{List, All, length};
 ghost use Rattle.std.specs.Prelude.{IfOk, IsTrue, IsFalse, OnOk};
 ghost use Rattle.command_line.specs.Requests.{replayed_of};
 ghost use Rattle.log_levels.specs.declared.update.Update.{Update};
 ghost use Rattle.log_levels.specs.Accepted.{IsPlain, entries_of};
-ghost use Rattle.log_levels.specs.Shapes.{StandsFor, capacity_of};
+ghost use Rattle.log_levels.specs.Maps.{map_after};
+ghost use Rattle.log_levels.specs.Shapes.{Held, StandsFor, capacity_of};
 ghost use Rattle.commands.specs.Histories.{mix_of, replay_of};
 ghost use Rattle.pgmtool.specs.Inputs.{map_questions_in, reads_history, reads_mixing};
 ghost use Rattle.pgmtool.specs.Inputs.{room_of, updates_in};
@@ -16,7 +17,7 @@ ghost use Rattle.pgm_script.specs.Scripts.{IsLineOf};
 use crate::refusal::{Refusal, Stopped};
 use command_line::Replaying;
 use commands::{History, Mixing, Question};
-use log_levels::{LogMap, Update};
+use log_levels::{LogMap, Update, one_map};
 use options::Senders;
 use pgm_script::ScriptLine;
 use std::alloc::{AllocError, Global};
@@ -39,7 +40,7 @@ pub fn history_in(
 {
     let updates = updates_in(alloc, lines)?;
     let questions = map_questions_in(alloc, lines)?;
-    let asked = entry_count(alloc, &updates)?;
+    let (asked, map) = counted(alloc, &updates)?;
     let room = room_of(replaying.plan.levels);
     if room < asked {
         return Err(Stopped::Refused(Refusal::Full { asked, room }));
@@ -48,6 +49,7 @@ pub fn history_in(
         plan: replaying.plan,
         updates,
         questions,
+        map: unless_read(replaying.plan.readers, map),
     })
 }
 
@@ -79,6 +81,7 @@ pub fn mixing_in(
             plan: replaying.plan,
             updates,
             questions,
+            map: None,
         },
         senders,
     })
@@ -140,21 +143,33 @@ fn push_map_question(questions: &mut Vec<Question>, line: &ScriptLine) -> Result
     Ok(())
 }
 
-// How many entries the updates have.
+// How many entries the updates have, and the map after them, where it was made.
 //
 // A sweep has one for each key that it takes away, so the updates are made to the greatest map. No
 // script is long enough to fill it: a put is swept away once at most.
-fn entry_count(alloc: Global, updates: &[Update]) -> Result<u64, AllocError>
-    ensures { IfOk result (λ count. count ≡ length (entries_of updates.now)) }
+fn counted(alloc: Global, updates: &[Update]) -> Result<(u64, Option<LogMap>), AllocError>
+    ensures count { IfOk result (λ counted. counted.0 ≡ length (entries_of updates.now)) }
+    ensures after { IfOk result (λ counted. (held : Held) (others : List Update) →
+        counted.1 ≡ Some held → StandsFor held others →
+        map_after others ≡ map_after updates.now) }
 {
     if are_plain(updates) {
-        return Ok(updates.len() as u64);
+        return Ok((updates.len() as u64, None));
     }
     let mut map = LogMap::new(alloc, MOST_LEVELS)?;
     for i in 0..updates.len() {
         accept(alloc, &mut map, updates[i])?;
     }
-    Ok(map.accepted())
+    // Whatever updates it stands for leave the same pairs.
+    one_map();
+    Ok((map.accepted(), Some(map)))
+}
+
+// The map, unless readers ask beside the updates, who look at one of their own.
+fn unless_read(readers: u32, map: Option<LogMap>) -> Option<LogMap>
+    ensures { (held : Held) → result ≡ Some held → map ≡ Some held }
+{
+    if readers > 0 { None } else { map }
 }
 
 // Makes an update to the map.

@@ -78,8 +78,8 @@ fn senders_send_at_once(rt: HostRuntime) -> Result<(), Fail> {
     Ok(())
 }
 
-// What a script of puts to the key 1 is mixed with: the batch, readers, senders, how many puts there
-// are, of the values 1 and up, and how often the key is asked for.
+// What a script of puts to the key 1 is mixed with: the batch, readers, senders, how many puts
+// there are, of the values 1 and up, and how often the key is asked for.
 type Mix = (u64, u64, u64, u64, u64);
 
 const MIXES: [Mix; 8] = [

@@ -1,5 +1,5 @@
 -- What is told of the index is told of the keys.
-use Rattle.std.proofs.Common.{◌≡◌, ◌++◌, ◌∙◌, sym, subst, refl, ℕ, List, Some, false, length}
+use Rattle.std.proofs.Common.{◌++◌, subst, ℕ, List, Some, false}
 use Rattle.levels.specs.Indexes.{PgmIndex}
 use Rattle.commands.specs.Finders.{IsRelaxedOf}
 use Rattle.commands.specs.Tasks.{Bounds, bounds_of}

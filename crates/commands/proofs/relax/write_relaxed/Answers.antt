@@ -1,4 +1,4 @@
-use Rattle.std.proofs.Common.{◌≡◌, ◌++◌, ◌∙◌, ℕ, List, None, false, subst}
+use Rattle.std.proofs.Common.{◌≡◌, ◌∙◌, ℕ, List, None, false, subst}
 use Rattle.std.specs.Prelude.{OnOk, OnErr}
 use Rattle.written.specs.Writing.{Writes, BreaksOff}
 use Rattle.written.proofs.CallerLemmas.{BreaksOff-more}

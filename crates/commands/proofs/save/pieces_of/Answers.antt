@@ -1,7 +1,6 @@
 -- One level more.
-use Rattle.std.proofs.Common.{◌≡◌, ◌∙◌, ◌++◌, ◌∷◌, [], ℕ, List, length, map, take, ap, arith, sym}
+use Rattle.std.proofs.Common.{◌∙◌, ◌++◌, ◌∷◌, [], ℕ, List, length, map, take, ap, arith, sym}
 use Rattle.std.proofs.lemmas.List.{take_all}
-use Rattle.exact_cross.specs.IndexLevels.{level_at}
 use Rattle.index_file.specs.Spelling.{head_bytes, level_bytes}
 use Rattle.index_file.specs.Spelled.{saved_run}
 use Rattle.commands.specs.Texts.Save.{level_pieces}

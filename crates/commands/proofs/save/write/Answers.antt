@@ -1,5 +1,5 @@
 -- The pieces are those of the index of the keys.
-use Rattle.std.proofs.Common.{◌≡◌, ◌∙◌, ℕ, List, Vec, Global, map, ap, length, arith}
+use Rattle.std.proofs.Common.{◌∙◌, ℕ, List, Vec, Global, map, ap, arith}
 use Rattle.commands.specs.Tasks.{bounds_of}
 use Rattle.commands.proofs.SavedTexts.{IsSaved-of}
 use Rattle.commands.proofs.save.write.Goals as goal

@@ -1,6 +1,6 @@
 use Rattle.std.proofs.Common.{take}
 use Rattle.log_levels.specs.Shapes.{StandsFor}
-use Rattle.pgmtool.proofs.history.entry_count.Given as goal
+use Rattle.pgmtool.proofs.history.counted.Given as goal
 
 -- the map stands for the updates before this place
 abbrev pub invariant-loop-i : goal.invariant-loop-i
