@@ -32,7 +32,9 @@ pub struct Searching<'a> {
 pub struct Replaying<'a> {
     /// The name of the script.
     pub script: &'a str,
+    /// A batch has at most 65,536 updates.
     pub plan: Plan,
+    pub ghost few_updates: { plan.batch ≤ 65536 },
 }
 
 /// How many inputs of each kind are drawn, and how an index of the keys is built.

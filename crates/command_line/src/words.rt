@@ -251,6 +251,7 @@ fn plan_in(found: &ArgMatches<'_>) -> Plan
     ensures batch { result.batch ≡ number_in (codes "batch") 16 (rows_of (found_of found.now)) }
     ensures readers { result.readers
         ≡ number_in (codes "readers") 0 (rows_of (found_of found.now)) }
+    ensures few_updates { result.batch ≤ 65536 }
 {
     Plan {
         levels: number_in(found, "levels", 20),

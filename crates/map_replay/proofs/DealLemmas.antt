@@ -1,12 +1,11 @@
 -- Updates that are dealt out in turn, sender by sender.
-use Rattle.std.proofs.Common.{◌≡◌, ◌≢◌, ◌⊎◌, ◌≤◌, ◌<◌, ◌+◌, ◌-◌, ◌*◌, ◌/◌, ◌%◌, ◌++◌, ◌∷◌, [], ℕ, zero, suc, List, length, get_or, drop, map, refl, sym, ap, subst, ◌∙◌, arith, ⊎_elim, eq-eqb}
+use Rattle.std.proofs.Common.{◌≡◌, ◌≢◌, ◌≤◌, ◌<◌, ◌+◌, ◌-◌, ◌*◌, ◌/◌, ◌%◌, ◌∷◌, [], ℕ, zero, suc, List, length, get_or, drop, refl, sym, ap, ◌∙◌, arith, ⊎_elim, eq-eqb}
 use Rattle.std.specs.Prelude.{All}
 use Rattle.std.proofs.lemmas.Bool.{cases_lt, ne_eqb}
-use Rattle.std.proofs.lemmas.List.{append-nil, drop_all, drop-drop, drop_more}
+use Rattle.std.proofs.lemmas.List.{drop_all, drop-drop, drop_more}
 use Rattle.std.proofs.lemmas.List.Elements.{All-nil, All-cons}
 use Rattle.std.proofs.lemmas.Nat.{div-add-mod', mod-mul-add, mod_below}
 use Rattle.log_levels.specs.declared.update.Update.{Update}
-use Rattle.log_levels.specs.declared.update.Update.TheVariants.{Del}
 use Rattle.senders.specs.Senders.{of_sender}
 use Rattle.senders.proofs.Orders.{none_sent}
 use Rattle.map_replay.specs.Mixes.{dealt, dealt_from}

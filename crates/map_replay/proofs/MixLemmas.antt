@@ -1,5 +1,5 @@
 -- Senders on their way, what the writer takes of them, and the order that comes of it.
-use Rattle.std.proofs.Common.{◌≡◌, ◌⊎◌, ◌≤◌, ◌<◌, ◌+◌, ◌-◌, ◌%◌, ◌++◌, ◌∷◌, [], ℕ, zero, suc, List, length, length-append, get_or, take, drop, map, refl, sym, ap, subst, ◌∙◌, arith, ⊎_elim, append_assoc}
+use Rattle.std.proofs.Common.{◌≡◌, ◌≤◌, ◌<◌, ◌+◌, ◌%◌, ◌++◌, ◌∷◌, [], ℕ, List, length, length-append, get_or, take, drop, map, sym, ap, subst, ◌∙◌, arith, ⊎_elim, append_assoc}
 use Rattle.std.specs.Prelude.{All}
 use Rattle.std.proofs.lemmas.Bool.{cases_lt}
 use Rattle.std.proofs.lemmas.List.{append-nil, map-append, length-map, take-append-le}
@@ -11,7 +11,7 @@ use Rattle.senders.specs.Senders.{Origin, Sending, of_sender, fresh_sender}
 use Rattle.map_replay.specs.declared.post.Post.{Post}
 use Rattle.map_replay.specs.declared.intake.Intake.{Intake}
 use Rattle.map_replay.specs.Mixes.{dealt, dealt_from, IsMixed}
-use Rattle.map_replay.specs.Posts.{AreDone, IsDone, IsIntake, IsPost, TookOne}
+use Rattle.map_replay.specs.Posts.{AreDone, IsIntake, IsPost, TookOne}
 use Rattle.map_replay.proofs.DealLemmas.{turn_more, turn_none, turn_first, dealt_none, numbers_up, next_turn, mod_small}
 
 module _ (origin : Origin) (senders : ℕ) (updates : List Update) where
@@ -108,9 +108,3 @@ module _ (total : ℕ) (before after : Intake) (took : TookOne before after) whe
 
   pub one_more : length after.came.updates.items ≡ length before.came.updates.items + 1
   one_more = ap (λ (l : List Update). length l) took.updates ∙ length-append before.came.updates.items (took.item.1 ∷ [])
-
--- there are as many numbers as updates
-pub as_many : (total : ℕ) (intake : Intake) → IsIntake total intake → length intake.came.numbers.items ≡ length intake.came.updates.items
-as_many total intake here =
-    ap (λ (l : List ℕ). length l) here.numbers
-    ∙ (length-map intake.inbox.taken (λ item. item.0) ∙ sym (ap (λ (l : List Update). length l) here.updates ∙ length-map intake.inbox.taken (λ item. item.1)))

@@ -1,7 +1,7 @@
 -- What a reader was answered, as it goes on.
-use Rattle.std.proofs.Common.{◌≡◌, ◌≤◌, ◌-◌, ◌++◌, ◌∷◌, [], ℕ, List, length, suc, ap, refl, arith}
-use Rattle.std.proofs.lemmas.List.Sorted.{IsNonDecreasingBy-push, IsNonDecreasingBy-short}
-use Rattle.std.proofs.lemmas.List.Elements.{All-nil, All-push, All-get_or, All-weaker}
+use Rattle.std.proofs.Common.{◌≡◌, ◌≤◌, ◌-◌, ◌++◌, ◌∷◌, [], List, length, arith}
+use Rattle.std.proofs.lemmas.List.Sorted.{IsNonDecreasingBy-push}
+use Rattle.std.proofs.lemmas.List.Elements.{All-push, All-get_or, All-weaker}
 use mathlib.Core.List.{IsPrefix}
 use Rattle.log_levels.specs.declared.update.Update.{Update}
 use Rattle.log_levels.specs.Maps.{map_after}
@@ -38,14 +38,6 @@ seen_push batches [] [] question sighting seen one = (one, tt)
 seen_push batches [] (s ∷ sightings) question sighting seen one = absurd seen
 seen_push batches (q ∷ questions) [] question sighting seen one = absurd seen
 seen_push batches (q ∷ questions) (s ∷ sightings) question sighting seen one = (seen.0, seen_push batches questions sightings question sighting seen.1 one)
-
--- there are as many answers as questions
-seen_count : (batches : List (List Update)) (questions : List Question) (sightings : List Sighting) → AreSeen batches questions sightings →
-    length sightings ≡ length questions
-seen_count batches [] [] seen = refl
-seen_count batches [] (s ∷ sightings) seen = absurd seen
-seen_count batches (q ∷ questions) [] seen = absurd seen
-seen_count batches (q ∷ questions) (s ∷ sightings) seen = ap (λ (n : ℕ). suc n) (seen_count batches questions sightings seen.1)
 
 -- a look that begins with what was known
 pub asked_push : (known shown : List (List Update)) (questions : List Question) (sightings : List Sighting) (question : Question) (sighting : Sighting) →

@@ -33,10 +33,12 @@ pub fn take_batch<R: Wait, G: Gate>(
     requires some { 1 ≤ size }
     requires left { length intake.old.came.updates.items < length deck.updates.now }
     requires intake { IsIntake (length deck.updates.now) intake.old }
-    requires seats { AreSeats intake.old.inbox.origin deck.senders deck.updates.now seats.old.items }
+    requires seats { AreSeats intake.old.inbox.origin deck.senders deck.updates.now
+        seats.old.items }
     ensures intake { IsIntake (length deck.entry.updates.now) intake.new }
     ensures took { TookBatch intake.old intake.new }
-    ensures seats { AreSeats intake.old.inbox.origin deck.entry.senders deck.entry.updates.now seats.new.items }
+    ensures seats { AreSeats intake.old.inbox.origin deck.entry.senders deck.entry.updates.now
+        seats.new.items }
     ensures count { vec_len seats.new ≡ vec_len seats.old }
 {
     let from = intake.came.updates.len();

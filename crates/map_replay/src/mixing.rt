@@ -2,7 +2,8 @@
 ghost use Rattle.std.specs.Prelude.{◌≡◌, ◌≤◌, ◌<◌, ◌-◌, [], ℕ, length};
 ghost use Rattle.std.specs.Prelude.{IfOk, OnOk, vec_len, vec_capacity};
 ghost use Rattle.map_replay.specs.Mixes.{IsMix};
-ghost use Rattle.map_replay.specs.Posts.{AreDone, AreSeats, IsDone, IsIntake, IsPost, IsSeat, Keeps};
+ghost use Rattle.map_replay.specs.Posts.{AreDone, AreSeats, IsDone, IsIntake, IsPost, IsSeat};
+ghost use Rattle.map_replay.specs.Posts.{Keeps};
 ghost use Rattle.published.specs.Histories.{updates_of};
 ghost use Rattle.senders.specs.Senders.{AreFresh, Origin};
 
@@ -22,7 +23,8 @@ use std::sync::atomic::{AtomicU32, Ordering};
 use std::thread::{Scope, SpawnError, Threads};
 
 /// Publishes all updates as their senders send them, each in a thread of the scope, and leaves each
-/// reader a note of each batch. Answers the updates and their senders, in the order in which they came.
+/// reader a note of each batch. Answers the updates and their senders, in the order in which they
+/// came.
 ///
 /// A sender for which no thread can be had is served here. Where a batch can't be published, the
 /// updates that come from then on are given up, until all came.
@@ -125,7 +127,8 @@ fn seat<'s, E, R: Threads + Wait + Sync + 's, G: Gate + 's>(
     gate: &'s G,
 ) -> Seated<'s>
     requires { number < deck.senders }
-    ensures { (origin : Origin) → IsPost origin deck.entry.senders deck.entry.updates.now number post →
+    ensures { (origin : Origin) →
+        IsPost origin deck.entry.senders deck.entry.updates.now number post →
         IsSeat origin deck.entry.senders deck.entry.updates.now number result }
 {
     let sends = Sends {
@@ -178,11 +181,13 @@ fn publish_taken<M: MapName + Send + Sync, R: Threads + Wait + Sync, G: Gate>(
     requires fits { length deck.updates.now ≤ writer.old.capacity }
     requires none { intake.old.inbox.taken ≡ [] }
     requires intake { IsIntake (length deck.updates.now) intake.old }
-    requires seats { AreSeats intake.old.inbox.origin deck.senders deck.updates.now seats.old.items }
+    requires seats { AreSeats intake.old.inbox.origin deck.senders deck.updates.now
+        seats.old.items }
     ensures own { writer.new.origin ≡ writer.old.origin }
     ensures origin { intake.new.inbox.origin ≡ intake.old.inbox.origin }
     ensures intake { IsIntake (length deck.entry.updates.now) intake.new }
-    ensures seats { AreSeats intake.old.inbox.origin deck.entry.senders deck.entry.updates.now seats.new.items }
+    ensures seats { AreSeats intake.old.inbox.origin deck.entry.senders deck.entry.updates.now
+        seats.new.items }
     ensures count { vec_len seats.new ≡ vec_len seats.old }
     ensures published { OnOk result
         (updates_of writer.new.history ≡ intake.new.came.updates.items) }
@@ -252,7 +257,8 @@ fn closed<R: Wait>(rt: &R, intake: Intake, done: Vec<Sender>, deck: Deck<'_>) ->
     requires intake { IsIntake (length deck.updates.now) intake }
     requires all { length intake.came.updates.items ≡ length deck.updates.now }
     requires done { AreDone intake.inbox.origin deck.senders deck.updates.now done.items }
-    ensures mix { IsMix deck.entry.senders deck.entry.updates.now result.numbers.items result.updates.items }
+    ensures mix { IsMix deck.entry.senders deck.entry.updates.now
+        result.numbers.items result.updates.items }
     ensures same { result.updates.items ≡ intake.came.updates.items }
 {
     let Intake { inbox, came } = intake;

@@ -213,8 +213,8 @@ fn replay_in<M: MapName + Send + Sync, R: Threads + Wait + Sync, G: Gate>(
     requires some { 1 ≤ vec_len readers }
     requires few { vec_len readers ≤ 16 }
     requires readers { All (λ reader. reader.origin ≡ M.origin) readers.items }
-    ensures { IfOk result (IsLeft source.entry.order source.entry.batching.size source.entry.updates.now
-        questions.now (vec_len readers)) }
+    ensures { IfOk result (IsLeft source.entry.order source.entry.batching.size
+        source.entry.updates.now questions.now (vec_len readers)) }
 {
     let mut writer = writer;
     match played::<M, R, G>(rt, alloc, &mut writer, readers, source, questions, gate) {

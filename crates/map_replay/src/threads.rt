@@ -283,8 +283,9 @@ fn publish<'s, E, M: MapName + Send + Sync + 's, R: Threads + Wait + Sync + 's, 
     requires ready { IsReady source.updates.now writer.old }
     requires order { AreForOrder source.order source.updates.now }
     ensures own { writer.new.origin ≡ writer.old.origin }
-    ensures published { IfOk result (λ came. IsPublishedAs source.entry.order source.entry.batching.size
-        source.entry.updates.now came.numbers.items came.updates.items writer.new.history) }
+    ensures published { IfOk result (λ came. IsPublishedAs source.entry.order
+        source.entry.batching.size source.entry.updates.now came.numbers.items came.updates.items
+        writer.new.history) }
 {
     let Source {
         updates,

@@ -1,5 +1,4 @@
 pub mod Prefixes
 pub mod Adding
 pub mod OnlyGrows
-pub mod Knowing
 pub mod CallerLemmas

@@ -4,7 +4,6 @@ use mathlib.Core.Option.{some}
 use lib.ListN.{get_elem?}
 use Rattle.left_right.specs.Register.{Admits, TurnsAt, Forks, Merges}
 use Rattle.atomic_table.proofs.Lists.{at_set, at_snoc, set_again, set_else}
-use Rattle.log_levels.specs.declared.update.Update.{Update}
 use Rattle.published.specs.Histories.{Front}
 use Rattle.published.specs.Rules.{GoesOn, BeginsWithSeen, Sees, told, IsLastOf}
 use Rattle.published.proofs.Prefixes.{prefix_self, prefix_trans}
@@ -12,10 +11,6 @@ use Rattle.published.proofs.Prefixes.{prefix_self, prefix_trans}
 -- a version goes on from itself
 pub goes_on_self : (x : Front) → GoesOn x x
 goes_on_self x = record { own = refl; begins = prefix_self x.batches }
-
--- one batch more goes on
-pub goes_on_more : (x y : Front) (batch : List Update) → y.origin ≡ x.origin → y.batches ≡ x.batches ++ batch ∷ [] → GoesOn x y
-goes_on_more x y batch own more = record { own = sym own; begins = (batch ∷ [], sym more) }
 
 goes_on_trans : (x y z : Front) → GoesOn x y → GoesOn y z → GoesOn x z
 goes_on_trans x y z p q = record { own = p.own ∙ q.own; begins = prefix_trans x.batches y.batches z.batches p.begins q.begins }

@@ -10,7 +10,7 @@ use Rattle.std.proofs.lemmas.List.Elements.{All-contains}
 use Rattle.std.proofs.lemmas.List.Folds.{find-append}
 use Rattle.std.proofs.lemmas.Nat.{div-add-mod', mod_below, mul-add-lt}
 use Rattle.tombstones.specs.declared.entry.Entry.{Entry}
-use Rattle.tombstones.specs.Entries.{IsAscending, entry_at, winner_at, kept}
+use Rattle.tombstones.specs.Entries.{IsAscending, entry_at, kept}
 use Rattle.tombstones.specs.Parts.{IsBelow, IsFrom, IsCutAt, IsBetween, IsMergedPart, merged_at, edge_of, longer_of, no_entry}
 use Rattle.tombstones.proofs.CallerLemmas.{key-entry_at, Contains-entry_at, entry_at-Contains}
 
@@ -167,32 +167,6 @@ edges_rise longer parts (suc i) key ascending few inside from = elim (cases_lt (
   | inr last ↦ absurd (subst (IsFrom key) (edge_end longer parts (suc i + 1) (omega arith) last) from)
 ]
 
--- what the edge of a part is, by the cases of the code
-pub edge_is_first : (longer : List Entry) (parts i : ℕ) → i ≡ 0 → edge_of longer parts i ≡ Some 0
-edge_is_first longer parts i first = ap (edge_of longer parts) first
-
-pub edge_is_end : (longer : List Entry) (parts i : ℕ) → (i ≡ 0 → ⊥) → parts ≤ i → edge_of longer parts i ≡ None
-edge_is_end longer parts i later past = elim (cases_lt 0 i) [
-  | inl more ↦ edge_end longer parts i more past
-  | inr none ↦ absurd (later (omega arith))
-]
-
-pub edge_is_key : (longer : List Entry) (parts i : ℕ) → (i ≡ 0 → ⊥) → i < parts → edge_of longer parts i ≡ Some (get_or longer (i * (length longer / parts)) no_entry).key
-edge_is_key longer parts i later inside = elim (cases_lt 0 i) [
-  | inl more ↦ edge_at longer parts i more inside
-  | inr none ↦ absurd (later (omega arith))
-]
-
--- before the first part nothing is merged
-pub none_merged : (whole : ℕ → Option Entry) (merged : List Entry) → merged ≡ [] → IsBetween (Some 0) (Some 0) whole merged
-none_merged whole merged nothing =
-    let empty : IsBetween (Some 0) (Some 0) whole [] = record {
-      ascending = λ i j d lt inside. absurd (omega arith);
-      inside = λ key from below. absurd (omega arith);
-      before = λ key below. refl;
-      behind = λ key from. refl;
-    } in subst (IsBetween (Some 0) (Some 0) whole) (sym nothing) empty
-
 -- the longer list is ascending where both are
 pub longer_ascends : (newer older : List Entry) → IsAscending newer → IsAscending older → IsAscending (longer_of newer older)
 longer_ascends newer older new old = elim (cases_lt (length newer) (length older)) [
@@ -211,13 +185,6 @@ one_part_more newer older deepest parts i merged part new old few inside so_far 
     let longer = longer_of newer older in
     beside (Some 0) (edge_of longer parts i) (edge_of longer parts (i + 1)) (merged_at newer older deepest) merged part (λ key below. absurd (omega arith))
     (λ key from. edges_rise longer parts i key (longer_ascends newer older new old) (omega (arith, length-longer newer older)) inside from) so_far next
-
--- behind the last part all is merged
-pub all_merged : (newer older : List Entry) (deepest : Bool) (parts n : ℕ) (merged : List Entry) → 0 < parts → parts ≤ n
-    → IsBetween (Some 0) (edge_of (longer_of newer older) parts n) (merged_at newer older deepest) merged → (key : ℕ) → entry_at merged key ≡ kept deepest (winner_at newer older key)
-all_merged newer older deepest parts n merged some past so_far key =
-    let whole = subst (λ (high : Option ℕ). IsBetween (Some 0) high (merged_at newer older deepest) merged) (edge_end (longer_of newer older) parts n (omega arith) past) so_far in
-    whole.inside key (omega arith) tt
 
 -- an ascending list's keys never fall, as a binary search needs them
 pub keys_never_fall : (entries : List Entry) → IsAscending entries → IsNonDecreasingBy (λ entry. entry.key) entries

@@ -133,8 +133,8 @@ impl Heads<'_> {
             length self.new.remaining.newer.now + 1 }
         ensures older_length { length self.old.remaining.older.now ≤
             length self.new.remaining.older.now + 1 }
-        ensures shorter { length self.new.remaining.newer.now + length self.new.remaining.older.now <
-            length self.old.remaining.newer.now + length self.old.remaining.older.now }
+        ensures shorter { length self.new.remaining.newer.now + length self.new.remaining.older.now
+            < length self.old.remaining.newer.now + length self.old.remaining.older.now }
     {
         // A step ahead, so that no comparison waits for a load of its own step.
         let (next_new, next_old) = (self.remaining.newer[1].key, self.remaining.older[1].key);

@@ -1,5 +1,5 @@
 -- The sender at this place stays the one that it is, and the others are as they were.
-use Rattle.std.proofs.Common.{◌≡◌, ◌<◌, ◌+◌, ◌-◌, sym, subst, length, slice_index_or, arith}
+use Rattle.std.proofs.Common.{◌≡◌, ◌<◌, ◌+◌, ◌-◌, subst, length, slice_index_or, arith}
 use Rattle.std.proofs.lemmas.Grind.{common_steps}
 use Rattle.map_replay.specs.declared.post.Seated.{Seated}
 use Rattle.map_replay.specs.Posts.{IsSeat}

@@ -1,5 +1,5 @@
 -- what was taken stands behind what was taken before, and there is room for one more
-use Rattle.std.proofs.Common.{◌≡◌, ◌+◌, ◌≤◌, ◌<◌, take, length, vec_len}
+use Rattle.std.proofs.Common.{◌≡◌, ◌≤◌, ◌<◌, take, length, vec_len}
 use Rattle.map_replay.specs.Posts.{AreSeats, IsIntake}
 use Rattle.map_replay.proofs.intake.take_batch.Given as goal
 

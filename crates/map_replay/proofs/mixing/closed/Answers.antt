@@ -1,5 +1,5 @@
 -- Nothing is left in the queue, and all senders are done.
-use Rattle.std.proofs.Common.{◌≡◌, ◌<◌, ℕ, List, length, sym, subst, arith}
+use Rattle.std.proofs.Common.{◌<◌, ℕ, sym, subst, arith}
 use Rattle.std.specs.Prelude.{All}
 use Rattle.log_levels.specs.declared.update.Update.{Update}
 use Rattle.map_replay.proofs.MixLemmas.{is_mixed}

@@ -1,5 +1,5 @@
 -- What is published with the batch that was taken is all that was taken.
-use Rattle.std.proofs.Common.{◌≡◌, ◌+◌, ◌-◌, ◌≤◌, ◌++◌, ◌∷◌, [], ℕ, List, true, Result, Ok, Err, OnOk, is_ok, length, take, drop, ap, sym, subst, ◌∙◌, arith}
+use Rattle.std.proofs.Common.{◌≡◌, ◌-◌, ◌≤◌, ◌++◌, [], ℕ, List, true, Result, Ok, Err, OnOk, is_ok, length, take, drop, ap, sym, subst, ◌∙◌, arith}
 use Rattle.std.proofs.lemmas.Bool.{false≢true}
 use Rattle.std.proofs.lemmas.List.{append-nil, drop_all, length-drop, length-map}
 use Rattle.std.proofs.lemmas.Result.{on_ok_weaker}

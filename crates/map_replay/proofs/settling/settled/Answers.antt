@@ -1,8 +1,8 @@
-use Rattle.std.proofs.Common.{◌≡◌, ◌∙◌, ◌++◌, ◌∷◌, [], ℕ, List, Some, length, ap, refl, subst, arith}
+use Rattle.std.proofs.Common.{◌≡◌, ◌∙◌, ◌++◌, ◌∷◌, [], List, Some, length, ap, refl, subst, arith}
 use Rattle.std.proofs.lemmas.List.Elements.{All-nil, All-pop, All-push, All-same}
 use mathlib.Core.List.{IsPrefix}
 use Rattle.log_levels.specs.declared.update.Update.{Update}
-use Rattle.published.specs.Histories.{updates_of, count_of}
+use Rattle.published.specs.Histories.{count_of}
 use Rattle.published.specs.Writers.{Written}
 use Rattle.map_replay.specs.declared.question.Question.{Question}
 use Rattle.map_replay.specs.declared.reading.Reading.{Reading}

@@ -1,8 +1,8 @@
 -- The check is made over the points of the keys.
-use Rattle.std.proofs.Common.{◌≡◌, ◌∙◌, ℕ, length, ap, sym, subst, arith}
+use Rattle.std.proofs.Common.{◌∙◌, ℕ, length, ap, sym, subst, arith}
 use Rattle.std.specs.List.Sorted.{IsNonDecreasing, IsStrictlyIncreasing}
 use Rattle.key_points.specs.KeyPoints.{xs_of, ys_of}
-use Rattle.levels.proofs.CallerLemmas.{xs-rise, xs-few, ys-length, ys-never_fall}
+use Rattle.levels.proofs.CallerLemmas.{xs-rise, xs-few, ys-never_fall}
 use Rattle.commands.specs.Tasks.{task_of}
 use Rattle.commands.specs.Tasks as tasks
 use Rattle.pgmtool.proofs.SavedInputs.{judged_right, judged_stopped}

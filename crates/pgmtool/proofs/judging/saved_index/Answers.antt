@@ -1,5 +1,5 @@
 -- What was read of the taken file.
-use Rattle.std.proofs.Common.{◌≡◌, ◌∙◌, ℕ, sym, subst}
+use Rattle.std.proofs.Common.{◌∙◌, ℕ, subst}
 use Rattle.index_file.specs.Stops.{HasCauseOf}
 use Rattle.pgmtool.proofs.SavedInputs.{saved_came, saved_stopped}
 use Rattle.pgmtool.proofs.judging.saved_index.Goals as goal
