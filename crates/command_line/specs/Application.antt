@@ -80,12 +80,19 @@ drill_rules = drawn_rules ++ bounds_rules
 abbrev pub check_rules : List Rule
 check_rules = positional (codes "FILE") ∷ positional (codes "INDEX") ∷ flag (codes "narrow") ∷ []
 
+-- the commands over the index of a key file
+abbrev pub index_commands : List Shape
+index_commands = command (codes "build") build_rules ∷ command (codes "explain") build_rules
+    ∷ command (codes "query") query_rules ∷ command (codes "relax") relax_rules ∷ []
+
+-- over points, and over a map
+abbrev pub script_commands : List Shape
+script_commands = command (codes "box") points_rules ∷ command (codes "near") points_rules
+    ∷ command (codes "replay") replay_rules ∷ command (codes "mix") mix_rules ∷ []
+
+-- and the others
 abbrev pub commands : List Shape
-commands = command (codes "build") build_rules ∷ command (codes "explain") build_rules
-    ∷ command (codes "query") query_rules ∷ command (codes "relax") relax_rules
-    ∷ command (codes "box") points_rules ∷ command (codes "near") points_rules
-    ∷ command (codes "replay") replay_rules ∷ command (codes "mix") mix_rules
-    ∷ command (codes "drill") drill_rules
+commands = index_commands ++ script_commands ++ command (codes "drill") drill_rules
     ∷ command (codes "save") build_rules ∷ command (codes "check") check_rules ∷ []
 
 -- the program before its commands. No public clause cites it
@@ -100,9 +107,9 @@ bare_program = record {
   subs = [];
 }
 
--- the program: one of its commands has to be given, and it tells no help and no version
-abbrev pub application : App
-application = record {
+-- the program with these commands: one of them has to be given, and it tells no help and no version
+abbrev pub program_with : List Shape → App
+program_with commands = record {
   top = record (new_shape (codes "pgmtool")) {
     is_leaf = false;
     disable_help_flag = true;
@@ -112,3 +119,6 @@ application = record {
   };
   subs = commands;
 }
+
+abbrev pub application : App
+application = program_with commands

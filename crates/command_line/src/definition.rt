@@ -1,8 +1,9 @@
 // The definition of the command line, as `clap` takes it.
 ghost use Rattle.std.specs.Prelude.{◌≡◌, ◌<◌, ◌∷◌, ◌++◌, ◌^◌, [], ℕ, IfOk, false, codes};
-ghost use Rattle.clap.specs.Words.{app_of, rule_of};
+ghost use Rattle.clap.specs.Words.{App, Shape, app_of, rule_of, with_subcommand};
 ghost use Rattle.clap.specs.declared.builder.command.Command.TheViews.{out-Command};
 ghost use Rattle.command_line.specs.Application.{application, build_rules, index_rules};
+ghost use Rattle.command_line.specs.Application.{index_commands, program_with, script_commands};
 ghost use Rattle.command_line.specs.Application.{query_rules, relax_rules, points_rules};
 ghost use Rattle.command_line.specs.Application.{mix_rules, replay_rules, command};
 ghost use Rattle.command_line.specs.Application.{flag, number, positional};
@@ -41,18 +42,44 @@ const GREATEST_SEED: u32 = 0x7fff_ffff;
 pub fn application<'a>(alloc: Global) -> Result<Command<'a>, AllocError>
     ensures { IfOk result (λ program. app_of program ≡ application) }
 {
-    bare_program(alloc)
-        .subcommand(index_command(alloc, "build")?)?
-        .subcommand(index_command(alloc, "explain")?)?
-        .subcommand(query_command(alloc)?)?
-        .subcommand(relax_command(alloc)?)?
-        .subcommand(points_command(alloc, "box")?)?
-        .subcommand(points_command(alloc, "near")?)?
-        .subcommand(replay_command(alloc, "replay")?)?
-        .subcommand(mix_command(alloc)?)?
-        .subcommand(drill_command(alloc)?)?
-        .subcommand(index_command(alloc, "save")?)?
-        .subcommand(check_command(alloc)?)
+    let program = added(with_script_commands(alloc)?, drill_command(alloc))?;
+    let program = added(program, index_command(alloc, "save"))?;
+    added(program, check_command(alloc))
+}
+
+// The program with its commands over an index, over points and over a map.
+fn with_script_commands<'a>(alloc: Global) -> Result<Command<'a>, AllocError>
+    ensures { IfOk result
+        (λ program. app_of program ≡ program_with (index_commands ++ script_commands)) }
+{
+    let program = added(with_index_commands(alloc)?, points_command(alloc, "box"))?;
+    let program = added(program, points_command(alloc, "near"))?;
+    let program = added(program, replay_command(alloc, "replay"))?;
+    added(program, mix_command(alloc))
+}
+
+// The program with its commands over the index of a key file.
+fn with_index_commands<'a>(alloc: Global) -> Result<Command<'a>, AllocError>
+    ensures { IfOk result (λ program. app_of program ≡ program_with index_commands) }
+{
+    let program = added(bare_program(alloc), index_command(alloc, "build"))?;
+    let program = added(program, index_command(alloc, "explain"))?;
+    let program = added(program, query_command(alloc))?;
+    added(program, relax_command(alloc))
+}
+
+// The program with a command more. A command that wasn't made is handed in too, so that a step of
+// `application` holds nothing that is dropped where memory isn't found.
+fn added<'a>(
+    program: Command<'a>,
+    command: Result<Command<'a>, AllocError>,
+) -> Result<Command<'a>, AllocError>
+    ensures { (before : App) (shape : Shape) → app_of program.entry ≡ before
+        → IfOk command.entry (λ made. app_of made ≡ record { top = shape; subs = [] })
+        → IfOk command.entry (λ made. (out-Command made).has_globals ≡ false)
+        → IfOk result (λ more. app_of more ≡ with_subcommand before shape) }
+{
+    program.subcommand(command?)
 }
 
 // The program before its commands.

@@ -44,3 +44,31 @@ pub fn never_falls(ys: &[u32]) -> bool
     }
     true
 }
+
+/// Fails with what was asked, where it wasn't answered as wanted.
+pub fn expect<R: Abort>(rt: &R, name: &str, same: bool) {
+    assert!(rt; same, "{name}");
+}
+
+/// The same of keys.
+pub fn expect_of<R: Abort>(rt: &R, name: &str, keys: &[u64], same: bool) {
+    assert!(rt; same, "{name} of {keys:?}");
+}
+
+/// Fails with the keys, and the question among them that wasn't answered as wanted.
+pub fn expect_none<R: Abort>(rt: &R, name: &str, keys: &[u64], wrong: Option<u64>) {
+    assert!(rt; wrong.is_none(), "{name} of {keys:?}: {wrong:?}");
+}
+
+/// Fails with which of three answers aren't as wanted.
+pub fn expect_answers<R: Abort>(rt: &R, name: &str, answers: [bool; 3]) {
+    assert!(rt;
+        answers[0] && answers[1] && answers[2],
+        "{name}: {answers:?}"
+    );
+}
+
+/// Whether the numbers found are those that are wanted.
+pub fn are_same(found: &[u32], wanted: &[u32]) -> bool {
+    found == wanted
+}

@@ -1,159 +1,242 @@
 // Worked lists: which places are witnesses and which segments pass was found by hand from the
 // definitions.
-use crate::common::{never_falls, rises};
+use crate::common::expect_of;
+use crate::piece_join_rows::expect_points;
 use cut_witness::{check_cover, holds, is_flat, is_steep, slack};
 use exact_cross::{Line, Segment, Side, Witness};
 use std::process::Abort;
 
-fn witness(p: u32, q: u32, r: u32, side: Side) -> Witness {
-    Witness { p, q, r, side }
-}
-
-fn row(start: u32, a: u32, b: u32, line: Line, cut: Option<Witness>) -> Segment {
-    Segment {
-        start,
-        a,
-        b,
-        line,
-        cut,
-    }
-}
-
-fn line(x0: u64, y0: i64, rise: u64, run: u64) -> Line {
-    Line { x0, y0, rise, run }
-}
-
 /// Points, their x and their y.
-type Points<'a> = (&'a [u64], &'a [u32]);
+type Points = (&'static [u64], &'static [u32]);
 
-fn expect_holds<R: Abort>(rt: &R, points: Points, eps: u32, w: Witness, want: bool) {
-    let (xs, ys) = points;
-    assert!(rt; rises(xs) && never_falls(ys));
-    assert!(rt; eps <= 1_048_576 && xs.len() < 1000 && xs.len() == ys.len());
-    assert_eq!(rt; holds(&w, xs, ys, eps), want);
+const FOUR: Points = (&[0, 1, 2, 10], &[0, 1, 2, 3]);
+
+/// Points, the error bound, three places with the side of the last one, and whether they hold.
+type HoldsRow = (Points, u32, (u32, u32, u32, Side), bool);
+
+static HOLDS: [HoldsRow; 13] = [
+    // At the key 1 the chord from 0 to 10 stands at 0.3, below the rank 1.
+    (FOUR, 0, (0, 1, 3, Side::Under), true),
+    (FOUR, 0, (0, 1, 3, Side::Over), false),
+    (FOUR, 1, (0, 1, 3, Side::Under), false),
+    (FOUR, 0, (1, 1, 3, Side::Under), false),
+    (FOUR, 0, (0, 1, 4, Side::Under), false),
+    // Three places on one line.
+    (FOUR, 0, (0, 1, 2, Side::Under), false),
+    (FOUR, 0, (0, 1, 2, Side::Over), false),
+    // At the key 8 the chord from 0 to 9 stands at 16/9, above the rank 1.
+    (LATE, 0, (0, 1, 2, Side::Over), true),
+    (LATE, 1, (0, 1, 2, Side::Over), false),
+    // Heights that repeat and jump: at 2 the chord from (0, 5) to (4, 9) stands at 7, two above 5
+    // and two below 9.
+    (FLAT, 0, (0, 1, 2, Side::Over), true),
+    (FLAT, 1, (0, 1, 2, Side::Over), false),
+    (LEAP, 0, (0, 1, 2, Side::Under), true),
+    (LEAP, 1, (0, 1, 2, Side::Under), false),
+];
+
+const LATE: Points = (&[0, 8, 9], &[0, 1, 2]);
+
+const FLAT: Points = (&[0, 2, 4], &[5, 5, 9]);
+
+const LEAP: Points = (&[0, 2, 4], &[5, 9, 9]);
+
+/// Fails with the numbers of a row.
+fn expect_numbers<R: Abort>(rt: &R, name: &str, numbers: &[u32; 4], same: bool) {
+    assert!(rt; same, "{name}: {numbers:?}");
 }
 
-/// Compares the slack that segments show. A least cover is one that shows none.
-fn expect_slack<R: Abort>(
-    rt: &R,
-    points: Points,
-    eps: u32,
-    segments: &[Segment],
-    want: Option<u32>,
-) {
-    let (xs, ys) = points;
-    assert!(rt; rises(xs) && never_falls(ys));
-    assert!(rt; eps <= 1_048_576 && xs.len() < 1000 && xs.len() == ys.len());
-    assert_eq!(rt; slack(xs, ys, eps, segments), want);
-    assert_eq!(rt; check_cover(xs, ys, eps, segments), want == Some(0));
+fn expect_holds<R: Abort>(rt: &R, row: &HoldsRow) {
+    let ((xs, ys), eps, (p, q, r, side), want) = *row;
+    expect_points(rt, xs, ys);
+    assert!(rt; eps <= 1_048_576);
+    let found = holds(&Witness { p, q, r, side }, xs, ys, eps);
+    expect_numbers(rt, "witness and bound", &[p, q, r, eps], found == want);
 }
 
 #[test]
 fn worked_witnesses(rt: HostRuntime) {
-    // At the key 1 the chord from 0 to 10 stands at 0.3, below the rank 1.
-    let four: Points = (&[0, 1, 2, 10], &[0, 1, 2, 3]);
-    expect_holds(&rt, four, 0, witness(0, 1, 3, Side::Under), true);
-    expect_holds(&rt, four, 0, witness(0, 1, 3, Side::Over), false);
-    expect_holds(&rt, four, 1, witness(0, 1, 3, Side::Under), false);
-    expect_holds(&rt, four, 0, witness(1, 1, 3, Side::Under), false);
-    expect_holds(&rt, four, 0, witness(0, 1, 4, Side::Under), false);
-    // Three places on one line.
-    expect_holds(&rt, four, 0, witness(0, 1, 2, Side::Under), false);
-    expect_holds(&rt, four, 0, witness(0, 1, 2, Side::Over), false);
-    // At the key 8 the chord from 0 to 9 stands at 16/9, above the rank 1.
-    let late: Points = (&[0, 8, 9], &[0, 1, 2]);
-    expect_holds(&rt, late, 0, witness(0, 1, 2, Side::Over), true);
-    expect_holds(&rt, late, 1, witness(0, 1, 2, Side::Over), false);
-    // Heights that repeat and jump: at 2 the chord from (0, 5) to (4, 9) stands at 7, two above 5
-    // and two below 9.
-    let flat: Points = (&[0, 2, 4], &[5, 5, 9]);
-    expect_holds(&rt, flat, 0, witness(0, 1, 2, Side::Over), true);
-    expect_holds(&rt, flat, 1, witness(0, 1, 2, Side::Over), false);
-    let leap: Points = (&[0, 2, 4], &[5, 9, 9]);
-    expect_holds(&rt, leap, 0, witness(0, 1, 2, Side::Under), true);
-    expect_holds(&rt, leap, 1, witness(0, 1, 2, Side::Under), false);
+    for row in &HOLDS {
+        expect_holds(&rt, row);
+    }
+}
+
+const CUT: Option<Witness> = Some(Witness {
+    p: 0,
+    q: 1,
+    r: 3,
+    side: Side::Under,
+});
+
+const ONES: Line = Line {
+    x0: 0,
+    y0: 0,
+    rise: 1,
+    run: 1,
+};
+
+const LEVEL: Line = Line {
+    x0: 10,
+    y0: 3,
+    rise: 0,
+    run: 1,
+};
+
+const FIRST: Segment = Segment {
+    start: 0,
+    a: 0,
+    b: 1,
+    line: ONES,
+    cut: CUT,
+};
+
+const LAST: Segment = Segment {
+    start: 3,
+    a: 3,
+    b: 3,
+    line: LEVEL,
+    cut: None,
+};
+
+const UNCUT: Segment = Segment {
+    start: 0,
+    a: 0,
+    b: 1,
+    line: ONES,
+    cut: None,
+};
+
+const CUT_AT_THE_END: Segment = Segment {
+    start: 3,
+    a: 3,
+    b: 3,
+    line: LEVEL,
+    cut: CUT,
+};
+
+const NO_RUN: Segment = Segment {
+    start: 3,
+    a: 3,
+    b: 3,
+    line: Line {
+        x0: 10,
+        y0: 3,
+        rise: 0,
+        run: 0,
+    },
+    cut: None,
+};
+
+const TOO_LOW: Segment = Segment {
+    start: 3,
+    a: 3,
+    b: 3,
+    line: Line {
+        x0: 10,
+        y0: -1_048_577,
+        rise: 0,
+        run: 1,
+    },
+    cut: None,
+};
+
+const OF_ONE_POINT: Segment = Segment {
+    start: 0,
+    a: 0,
+    b: 0,
+    line: Line {
+        x0: 7,
+        y0: 0,
+        rise: 0,
+        run: 1,
+    },
+    cut: None,
+};
+
+/// Points, the error bound, segments, and the slack that they show.
+type SlackRow = (&'static str, Points, u32, &'static [Segment], Option<u32>);
+
+static COVERS: [SlackRow; 12] = [
+    ("the cover", FOUR, 0, &[FIRST, LAST], Some(0)),
+    ("a greater bound", FOUR, 1, &[FIRST, LAST], None),
+    ("no segment", FOUR, 0, &[], None),
+    ("the first alone", FOUR, 0, &[FIRST], None),
+    ("the last alone", FOUR, 0, &[LAST], None),
+    ("a first without a cut", FOUR, 0, &[UNCUT, LAST], Some(1)),
+    ("a cut at the end", FOUR, 0, &[FIRST, CUT_AT_THE_END], None),
+    ("a line without a run", FOUR, 0, &[FIRST, NO_RUN], None),
+    ("a line too low", FOUR, 0, &[FIRST, TOO_LOW], None),
+    ("no point and no segment", (&[], &[]), 0, &[], Some(0)),
+    ("no point and a segment", (&[], &[]), 0, &[LAST], None),
+    ("one point", (&[7], &[0]), 0, &[OF_ONE_POINT], Some(0)),
+];
+
+/// Compares the slack that segments show. A least cover is one that shows none.
+fn expect_slack<R: Abort>(rt: &R, row: &SlackRow) {
+    let (name, (xs, ys), eps, segments, want) = *row;
+    expect_points(rt, xs, ys);
+    assert!(rt; eps <= 1_048_576);
+    let found = slack(xs, ys, eps, segments);
+    let covers = check_cover(xs, ys, eps, segments);
+    expect_of(rt, name, xs, found == want && covers == (want == Some(0)));
 }
 
 #[test]
 fn worked_covers(rt: HostRuntime) {
-    let four: Points = (&[0, 1, 2, 10], &[0, 1, 2, 3]);
-    let cut = Some(witness(0, 1, 3, Side::Under));
-    let first = row(0, 0, 1, line(0, 0, 1, 1), cut);
-    let last = row(3, 3, 3, line(10, 3, 0, 1), None);
-    expect_slack(&rt, four, 0, &[first, last], Some(0));
-    expect_slack(&rt, four, 1, &[first, last], None);
-    expect_slack(&rt, four, 0, &[], None);
-    expect_slack(&rt, four, 0, &[first], None);
-    expect_slack(&rt, four, 0, &[last], None);
-
-    let uncut = row(0, 0, 1, line(0, 0, 1, 1), None);
-    let cut_at_the_end = row(3, 3, 3, line(10, 3, 0, 1), cut);
-    let no_run = row(3, 3, 3, line(10, 3, 0, 0), None);
-    let too_low = row(3, 3, 3, line(10, -1_048_577, 0, 1), None);
-    expect_slack(&rt, four, 0, &[uncut, last], Some(1));
-    expect_slack(&rt, four, 0, &[first, cut_at_the_end], None);
-    expect_slack(&rt, four, 0, &[first, no_run], None);
-    expect_slack(&rt, four, 0, &[first, too_low], None);
-
-    expect_slack(&rt, (&[], &[]), 0, &[], Some(0));
-    expect_slack(&rt, (&[], &[]), 0, &[last], None);
-    expect_slack(
-        &rt,
-        (&[7], &[0]),
-        0,
-        &[row(0, 0, 0, line(7, 0, 0, 1), None)],
-        Some(0),
-    );
+    for row in &COVERS {
+        expect_slack(&rt, row);
+    }
 }
 
-/// Whether the pair is the steep one of the run, and whether the flat one.
-fn expect_pair<R: Abort>(
-    rt: &R,
-    points: Points,
-    eps: u32,
-    run: (u32, u32),
-    pair: (u32, u32),
-    want: (bool, bool),
-) {
-    let (xs, ys) = points;
-    let (s, e) = run;
-    let (a, b) = pair;
-    let (steep, flat) = want;
-    assert!(rt; rises(xs) && never_falls(ys));
-    assert!(rt; eps <= 1_048_576 && xs.len() < 1000 && xs.len() == ys.len());
+/// Points, the error bound, a run, a pair, and whether it is the steep one of the run, and whether
+/// the flat one.
+type PairRow = (Points, u32, (u32, u32), (u32, u32), (bool, bool));
+
+static PAIRS: [PairRow; 17] = [
+    // Of equal slopes the first; no line fits all four exactly.
+    (FOUR, 0, (0, 3), (0, 1), (true, true)),
+    (FOUR, 0, (0, 3), (0, 2), (false, false)),
+    (FOUR, 0, (0, 3), (1, 2), (false, false)),
+    (FOUR, 0, (0, 4), (0, 1), (false, false)),
+    (FOUR, 0, (0, 4), (2, 3), (false, false)),
+    // The steep slopes up to the place 3 are 5/10, 4/9 and 3/8, the flat ones 1/10, 0 and -1/8.
+    (FOUR, 1, (0, 4), (2, 3), (true, false)),
+    (FOUR, 1, (0, 4), (0, 3), (false, true)),
+    // One place, and pairs that aren't of the run.
+    (FOUR, 0, (2, 3), (2, 2), (true, false)),
+    (FOUR, 0, (2, 3), (2, 3), (false, false)),
+    (FOUR, 0, (1, 3), (0, 1), (false, false)),
+    (FOUR, 0, (0, 2), (0, 2), (false, false)),
+    (FOUR, 0, (0, 2), (1, 0), (false, false)),
+    // Two pairs up to the last place have the steep slope 1, 3/3 and 2/2, or the flat slope 1.
+    (EVEN_END, 1, (0, 3), (0, 2), (true, true)),
+    (EVEN_END, 1, (0, 3), (1, 2), (false, false)),
+    (LEAP_END, 1, (0, 3), (0, 2), (true, true)),
+    (LEAP_END, 1, (0, 3), (1, 2), (false, false)),
+    // The greatest x and heights.
+    (ENDS, 1_048_576, (0, 2), (0, 1), (true, true)),
+];
+
+const EVEN_END: Points = (&[0, 1, 3], &[0, 1, 1]);
+
+const LEAP_END: Points = (&[0, 1, 3], &[0, 1, 5]);
+
+const ENDS: Points = (&[0, u64::MAX], &[0, u32::MAX]);
+
+fn expect_pair<R: Abort>(rt: &R, row: &PairRow) {
+    let ((xs, ys), eps, (s, e), (a, b), (steep, flat)) = *row;
+    expect_points(rt, xs, ys);
+    assert!(rt; eps <= 1_048_576);
     assert!(rt; s < e && e as usize <= xs.len());
-    assert_eq!(rt; is_steep(xs, ys, eps, s, e, a, b), steep);
-    if e - s > 1 {
-        assert_eq!(rt; is_flat(xs, ys, eps, s, e, a, b), flat);
-    }
+    let same_steep = is_steep(xs, ys, eps, s, e, a, b) == steep;
+    let same_flat = e - s == 1 || is_flat(xs, ys, eps, s, e, a, b) == flat;
+    expect_numbers(rt, "run and steep pair", &[s, e, a, b], same_steep);
+    expect_numbers(rt, "run and flat pair", &[s, e, a, b], same_flat);
 }
 
 #[test]
 fn worked_pairs(rt: HostRuntime) {
-    let four: Points = (&[0, 1, 2, 10], &[0, 1, 2, 3]);
-    // Of equal slopes the first; no line fits all four exactly.
-    expect_pair(&rt, four, 0, (0, 3), (0, 1), (true, true));
-    expect_pair(&rt, four, 0, (0, 3), (0, 2), (false, false));
-    expect_pair(&rt, four, 0, (0, 3), (1, 2), (false, false));
-    expect_pair(&rt, four, 0, (0, 4), (0, 1), (false, false));
-    expect_pair(&rt, four, 0, (0, 4), (2, 3), (false, false));
-    // The steep slopes up to the place 3 are 5/10, 4/9 and 3/8, the flat ones 1/10, 0 and -1/8.
-    expect_pair(&rt, four, 1, (0, 4), (2, 3), (true, false));
-    expect_pair(&rt, four, 1, (0, 4), (0, 3), (false, true));
-    // One place, and pairs that aren't of the run.
-    expect_pair(&rt, four, 0, (2, 3), (2, 2), (true, false));
-    expect_pair(&rt, four, 0, (2, 3), (2, 3), (false, false));
-    expect_pair(&rt, four, 0, (1, 3), (0, 1), (false, false));
-    expect_pair(&rt, four, 0, (0, 2), (0, 2), (false, false));
-    expect_pair(&rt, four, 0, (0, 2), (1, 0), (false, false));
-    // Two pairs up to the last place have the steep slope 1, 3/3 and 2/2, or the flat slope 1.
-    let level: Points = (&[0, 1, 3], &[0, 1, 1]);
-    expect_pair(&rt, level, 1, (0, 3), (0, 2), (true, true));
-    expect_pair(&rt, level, 1, (0, 3), (1, 2), (false, false));
-    let leap: Points = (&[0, 1, 3], &[0, 1, 5]);
-    expect_pair(&rt, leap, 1, (0, 3), (0, 2), (true, true));
-    expect_pair(&rt, leap, 1, (0, 3), (1, 2), (false, false));
-    // The greatest x and heights.
-    let ends: Points = (&[0, u64::MAX], &[0, u32::MAX]);
-    expect_pair(&rt, ends, 1_048_576, (0, 2), (0, 1), (true, true));
+    for row in &PAIRS {
+        expect_pair(&rt, row);
+    }
 }

@@ -2,7 +2,8 @@
 ghost use Rattle.std.specs.Prelude.{◌≡◌, ◌<◌, ◌≤◌, IsTrue, length};
 ghost use Rattle.std.specs.List.Sorted.{IsStrictlyIncreasing, IsNonDecreasing};
 
-use crate::common::{never_falls, rises};
+use crate::common::expect_of;
+use crate::piece_join_rows::expect_points;
 use budget::{NoMemory, Steps};
 use exact_cross::{Line, Side, Witness};
 use hulls::{Hulls, Offer};
@@ -10,7 +11,6 @@ use std::alloc::Global;
 use std::marker::Brand;
 use std::process::Abort;
 use std::sync::ledger::{Blank, Ledger};
-use std::test::Fail;
 
 /// Points, their x and their y.
 type Points<'a> = (&'a [u64], &'a [u32]);
@@ -49,58 +49,101 @@ fn fit<L: Ledger>(
     Ok((len, None, hulls.line()))
 }
 
-fn expect_fit<R: Abort + AllocGlobal>(
-    rt: &R,
-    points: Points,
-    eps: u32,
-    want: Fitted,
-) -> Result<(), NoMemory> {
-    let (xs, ys) = points;
-    assert!(rt; rises(xs) && never_falls(ys));
-    assert!(rt; xs.len() == ys.len() && !xs.is_empty() && xs.len() < 1000);
-    assert!(rt; eps <= 1_048_576);
-    let fitted = fit::<Brand>(rt.alloc(), xs, ys, eps, Blank::new(1))?;
-    assert_eq!(rt; fitted, want);
-    Ok(())
+/// Points, the error bound, how many were taken in, the cut as three places and the side of the
+/// last one, the pair, and the line as x0, y0, rise and run.
+type Row = (
+    Points<'static>,
+    u32,
+    u32,
+    Option<(u32, u32, u32, Side)>,
+    (u32, u32),
+    (u64, i64, u64, u64),
+);
+
+fn fitted_of(row: &Row) -> Fitted {
+    let (_, _, count, cut, (a, b), (x0, y0, rise, run)) = *row;
+    let cut = match cut {
+        Some((p, q, r, side)) => Some(Witness { p, q, r, side }),
+        None => None,
+    };
+    (count, cut, (a, b, Line { x0, y0, rise, run }))
 }
 
-fn line(x0: u64, y0: i64, rise: u64, run: u64) -> Line {
-    Line { x0, y0, rise, run }
+/// Whether the points are taken in as the row says.
+fn fits<R: Abort + AllocGlobal>(rt: &R, row: &Row) -> Result<bool, NoMemory> {
+    let (xs, ys) = row.0;
+    let eps = row.1;
+    expect_points(rt, xs, ys);
+    assert!(rt; !xs.is_empty() && eps <= 1_048_576);
+    Ok(fit::<Brand>(rt.alloc(), xs, ys, eps, Blank::new(1))? == fitted_of(row))
 }
 
-fn cut(p: u32, q: u32, r: u32, side: Side) -> Option<Witness> {
-    Some(Witness { p, q, r, side })
-}
+const EVEN: [u32; 7] = [0, 1, 2, 3, 4, 5, 6];
 
-#[test]
-fn worked_points(rt: HostRuntime) -> Result<(), Fail> {
-    let four: Points = (&[0, 1, 2, 10], &[0, 1, 2, 3]);
-    let ones = line(0, 0, 1, 1);
-    expect_fit(&rt, four, 0, (3, cut(0, 1, 3, Side::Under), (0, 1, ones)))?;
-    let jump: Points = (&[0, 10, 11, 12], &[0, 1, 2, 3]);
-    let tenth = line(0, 0, 1, 10);
-    expect_fit(&rt, jump, 0, (2, cut(0, 1, 2, Side::Over), (0, 1, tenth)))?;
-    expect_fit(&rt, jump, 1, (4, None, (0, 1, line(0, -1, 3, 10))))?;
+const JUMP: Points = (&[0, 10, 11, 12], &[0, 1, 2, 3]);
+
+static ROWS: [Row; 8] = [
+    (
+        (&[0, 1, 2, 10], &[0, 1, 2, 3]),
+        0,
+        3,
+        Some((0, 1, 3, Side::Under)),
+        (0, 1),
+        (0, 0, 1, 1),
+    ),
+    (
+        JUMP,
+        0,
+        2,
+        Some((0, 1, 2, Side::Over)),
+        (0, 1),
+        (0, 0, 1, 10),
+    ),
+    (JUMP, 1, 4, None, (0, 1), (0, -1, 3, 10)),
     // One point, and as many on one line, of which the first pair is taken.
-    expect_fit(&rt, (&[7], &[9]), 3, (1, None, (0, 0, line(7, 9, 0, 1))))?;
-    let even: Points = (&[0, 1, 2, 3], &[0, 1, 2, 3]);
-    expect_fit(&rt, even, 0, (4, None, (0, 1, ones)))?;
+    ((&[7], &[9]), 3, 1, None, (0, 0), (7, 9, 0, 1)),
+    (
+        (&[0, 1, 2, 3], &[0, 1, 2, 3]),
+        0,
+        4,
+        None,
+        (0, 1),
+        (0, 0, 1, 1),
+    ),
     // The tangents move on: over, 0 * 3 + 4 * 10 is above 3 * 13, and under, 2 * 10 + 7 * 5 is
     // below 4 * 15.
-    let rising: Points = (&[3, 4, 14, 15, 16, 17, 20], &[0, 1, 2, 3, 4, 5, 6]);
-    let third = line(4, 0, 3, 10);
-    expect_fit(&rt, rising, 1, (5, cut(1, 2, 5, Side::Over), (1, 2, third)))?;
-    let slowing: Points = (&[1, 4, 5, 6, 7, 9, 19], &[0, 1, 2, 3, 4, 5, 6]);
-    let whole = line(1, -1, 7, 8);
-    expect_fit(
-        &rt,
-        slowing,
+    (
+        (&[3, 4, 14, 15, 16, 17, 20], &EVEN),
         1,
-        (6, cut(1, 5, 6, Side::Under), (0, 5, whole)),
-    )?;
+        5,
+        Some((1, 2, 5, Side::Over)),
+        (1, 2),
+        (4, 0, 3, 10),
+    ),
+    (
+        (&[1, 4, 5, 6, 7, 9, 19], &EVEN),
+        1,
+        6,
+        Some((1, 5, 6, Side::Under)),
+        (0, 5),
+        (1, -1, 7, 8),
+    ),
     // Equal heights, and one far above them.
-    let stairs: Points = (&[0, 1, 2, 3], &[5, 5, 5, 90]);
-    let level = line(0, 5, 0, 1);
-    expect_fit(&rt, stairs, 0, (3, cut(0, 1, 3, Side::Over), (0, 1, level)))?;
+    (
+        (&[0, 1, 2, 3], &[5, 5, 5, 90]),
+        0,
+        3,
+        Some((0, 1, 3, Side::Over)),
+        (0, 1),
+        (0, 5, 0, 1),
+    ),
+];
+
+#[test]
+fn worked_points(rt: HostRuntime) -> Result<(), NoMemory> {
+    for row in &ROWS {
+        let same = fits(&rt, row)?;
+        expect_of(&rt, "fit", row.0.0, same);
+    }
     Ok(())
 }

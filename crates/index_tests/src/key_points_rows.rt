@@ -1,8 +1,9 @@
 //! The points of keys worked out by hand, and where each distinct key begins.
+use crate::common::{expect_of, keys_of};
 use budget::NoMemory;
-use key_points::{Keys, is_sorted};
+use levels::Keys;
+use std::alloc::Global;
 use std::process::Abort;
-use std::test::Fail;
 
 /// Keys, their points, and where each distinct key begins, then how many keys there are.
 struct Row<'a> {
@@ -15,7 +16,7 @@ struct Row<'a> {
 const LAST: u64 = u64::MAX;
 
 // No key, rising keys, equal keys, and equal keys at both ends of 64 bits.
-const ROWS: [Row; 5] = [
+static ROWS: [Row; 5] = [
     Row {
         keys: &[],
         xs: &[],
@@ -48,29 +49,46 @@ const ROWS: [Row; 5] = [
     },
 ];
 
-fn expect_row<R: Abort + AllocGlobal>(rt: &R, row: &Row) -> Result<(), NoMemory> {
-    assert!(rt; is_sorted(row.keys));
-    assert!(rt; row.keys.len() < 1000 && row.firsts.len() < 1000);
-    let keys = Keys::of(rt.alloc(), Vec::from_slice(rt.alloc(), row.keys)?)?;
-    assert_eq!(rt; keys.file(), row.keys);
-    assert_eq!(rt; keys.len() as usize, row.keys.len());
-    assert_eq!(rt; keys.is_empty(), row.keys.is_empty());
-    assert_eq!(rt; keys.xs(), row.xs, "x of {:?}", row.keys);
-    assert_eq!(rt; keys.ys(), row.ys, "y of {:?}", row.keys);
-    let distinct = keys.distinct(rt.alloc())?;
-    assert_eq!(rt; distinct.len(), keys.distinct_count() as usize);
-    assert_eq!(rt; distinct.len() + 1, row.firsts.len());
-    for (j, first) in row.firsts.iter().enumerate() {
-        assert!(rt; j <= distinct.len());
-        assert_eq!(rt; keys.first(j as u32), *first, "{j} of {:?}", row.keys);
+/// Whether the keys have the row's file and as many keys.
+fn has_file(keys: &Keys, row: &Row) -> bool {
+    let file = row.keys;
+    keys.file() == file && keys.len() as usize == file.len() && keys.is_empty() == file.is_empty()
+}
+
+/// Whether they have the row's points.
+fn has_points(keys: &Keys, row: &Row) -> bool {
+    keys.xs() == row.xs && keys.ys() == row.ys
+}
+
+/// Whether each distinct key begins where the row says.
+fn has_firsts(alloc: Global, keys: &Keys, row: &Row) -> Result<bool, NoMemory> {
+    let distinct = keys.distinct(alloc)?.len();
+    let count = keys.distinct_count();
+    if distinct != count as usize || count as usize >= row.firsts.len() {
+        return Ok(false);
     }
-    Ok(())
+    for j in 0..=count {
+        if keys.first(j) != row.firsts[j as usize] {
+            return Ok(false);
+        }
+    }
+    Ok(row.firsts.len() - 1 == distinct)
+}
+
+/// Whether the keys of a row have its file, its points and its firsts.
+fn compared<R: Abort + AllocGlobal>(rt: &R, row: &Row) -> Result<(bool, bool, bool), NoMemory> {
+    let keys = keys_of(rt, row.keys)?;
+    let firsts = has_firsts(rt.alloc(), &keys, row)?;
+    Ok((has_file(&keys, row), has_points(&keys, row), firsts))
 }
 
 #[test]
-fn points(rt: HostRuntime) -> Result<(), Fail> {
+fn points(rt: HostRuntime) -> Result<(), NoMemory> {
     for row in &ROWS {
-        expect_row(&rt, row)?;
+        let (file, points, firsts) = compared(&rt, row)?;
+        expect_of(&rt, "file", row.keys, file);
+        expect_of(&rt, "points", row.keys, points);
+        expect_of(&rt, "firsts", row.keys, firsts);
     }
     Ok(())
 }

@@ -1,79 +1,163 @@
 //! Indexes worked out by hand: how many runs each level has, and positions of questions.
 ghost use Rattle.std.specs.Prelude.{◌≡◌, ◌+◌, ◌<◌, ◌≤◌};
-ghost use Rattle.std.specs.Prelude.{◌^◌, length, vec_len};
+ghost use Rattle.std.specs.Prelude.{◌^◌, length, vec_len, IfOk};
+ghost use Rattle.key_points.specs.KeyPoints.{xs_of};
+ghost use Rattle.piece_join.specs.Cuttings.{AreCuts};
 
-use crate::common::{index_of, keys_of};
-use crate::piece_join_rows::expect_points;
+use crate::common::{expect_answers, expect_none, expect_of, index_of, keys_of};
+use crate::piece_join_rows::{expect_points, has_starts};
 use budget::NoMemory;
 use cut_witness::slack;
 use edge::OpenGate;
-use exact_cross::MAX_EPSILON;
 use levels::{Index, Keys, is_sorted, positions_among, positions_grouped};
 use piece_join::even_cuts;
 use std::alloc::Global;
 use std::process::Abort;
-use std::test::Fail;
 use std::thread::Threads;
 
-/// Compares how many runs each level has.
-fn expect_runs(rt: &impl Abort, index: &Index, runs: &[usize]) {
-    assert_eq!(rt; index.levels() as usize, runs.len());
-    for (level, count) in runs.iter().enumerate() {
-        assert!(rt; level < index.levels() as usize);
-        assert_eq!(rt; index.level(level as u32).len(), *count);
-    }
-}
+/// Keys, the error bound of level 0, how many runs each level has, and positions of questions.
+type IndexRow = (&'static [u64], u32, &'static [usize], &'static [(u64, u32)]);
 
-/// Builds the index of these keys, and compares its runs by level and the positions.
-fn expect_index<R: Abort + AllocGlobal>(
-    rt: &R,
-    keys: &[u64],
-    eps: u32,
-    runs: &[usize],
-    positions: &[(u64, u32)],
-) -> Result<Index, NoMemory> {
-    let index = index_of(rt, keys, eps)?;
-    expect_runs(rt, &index, runs);
-    assert!(rt; positions.len() < 1000);
-    let mut together = Vec::with_capacity(rt.alloc(), positions.len())?;
-    let mut qs = Vec::with_capacity(rt.alloc(), positions.len())?;
-    for (q, position) in positions {
-        assert_eq!(rt; index.position(*q), *position);
-        qs.push(*q)?;
-    }
-    assert_eq!(rt; qs.len(), positions.len());
-    index.positions(&qs, &mut together);
-    assert_eq!(rt; together.len(), positions.len());
-    for ((_, position), found) in positions.iter().zip(&together) {
-        assert_eq!(rt; *found, *position);
-    }
-    Ok(index)
-}
+const LAST: u64 = u64::MAX;
 
-#[test]
-fn worked_lists(rt: HostRuntime) -> Result<(), Fail> {
-    let _ = expect_index(&rt, &[], 0, &[], &[(5, 0)])?;
-    let _ = expect_index(&rt, &[7], 0, &[1], &[(6, 0), (7, 0), (8, 1)])?;
-    let four = [(0, 0), (1, 1), (2, 2), (3, 3), (9, 3), (10, 3), (11, 4)];
-    let _ = expect_index(&rt, &[0, 1, 2, 10], 0, &[2, 1], &four)?;
-    let _ = expect_index(
-        &rt,
+static WORKED_LISTS: [IndexRow; 7] = [
+    (&[], 0, &[], &[(5, 0)]),
+    (&[7], 0, &[1], &[(6, 0), (7, 0), (8, 1)]),
+    (
+        &[0, 1, 2, 10],
+        0,
+        &[2, 1],
+        &[(0, 0), (1, 1), (2, 2), (3, 3), (9, 3), (10, 3), (11, 4)],
+    ),
+    (
         &[0, 10, 11, 12],
         0,
         &[2, 1],
         &[(9, 1), (10, 1), (11, 2), (99, 4)],
-    )?;
-    let _ = expect_index(
-        &rt,
+    ),
+    (
         &[0, 10, 11, 12],
         1,
         &[1],
         &[(9, 1), (10, 1), (11, 2), (99, 4)],
-    )?;
-    let squares = [(0, 0), (3, 2), (4, 2), (16, 4), (17, 5), (25, 5), (26, 6)];
-    let _ = expect_index(&rt, &[0, 1, 4, 9, 16, 25], 0, &[3, 2, 1], &squares)?;
-    let last = u64::MAX;
-    let _ = expect_index(&rt, &[0, last], 1_048_576, &[1], &[(1, 1), (last, 1)])?;
+    ),
+    (
+        &SQUARES,
+        0,
+        &[3, 2, 1],
+        &[(0, 0), (3, 2), (4, 2), (16, 4), (17, 5), (25, 5), (26, 6)],
+    ),
+    (&[0, LAST], 1_048_576, &[1], &[(1, 1), (LAST, 1)]),
+];
+
+const SQUARES: [u64; 6] = [0, 1, 4, 9, 16, 25];
+
+// Equal keys have a closing point, at both ends of 64 bits too.
+static REPEATED_LISTS: [IndexRow; 2] = [
+    (
+        &[5, 5, 5, 9],
+        0,
+        &[2, 1],
+        &[(4, 0), (5, 0), (6, 3), (8, 3), (9, 3), (10, 4)],
+    ),
+    (
+        &[0, 0, 0, LAST, LAST],
+        0,
+        &[2, 1],
+        &[(0, 0), (1, 3), (LAST - 1, 3), (LAST, 3)],
+    ),
+];
+
+/// Whether the levels have that many runs.
+fn has_runs(index: &Index, runs: &[usize]) -> bool {
+    let levels = index.levels();
+    if levels as usize != runs.len() {
+        return false;
+    }
+    for level in 0..levels {
+        if index.level(level).len() != runs[level as usize] {
+            return false;
+        }
+    }
+    true
+}
+
+/// The first question whose position is another one.
+fn misplaced(index: &Index, asked: &[(u64, u32)]) -> Option<u64> {
+    for (q, position) in asked {
+        if index.position(*q) != *position {
+            return Some(*q);
+        }
+    }
+    None
+}
+
+/// The positions of questions that are asked together.
+fn together(alloc: Global, index: &Index, qs: &[u64]) -> Result<Vec<u32>, NoMemory> {
+    let mut found = Vec::with_capacity(alloc, qs.len())?;
+    index.positions(qs, &mut found);
+    Ok(found)
+}
+
+/// Questions without their positions.
+fn questions(alloc: Global, asked: &[(u64, u32)]) -> Result<Vec<u64>, NoMemory> {
+    let mut qs = Vec::new(alloc);
+    for (q, _) in asked {
+        qs.push(*q)?;
+    }
+    Ok(qs)
+}
+
+/// Whether the positions found are those of the questions.
+fn are_positions(found: &[u32], asked: &[(u64, u32)]) -> bool {
+    if found.len() != asked.len() {
+        return false;
+    }
+    for i in 0..found.len() {
+        if found[i] != asked[i].1 {
+            return false;
+        }
+    }
+    true
+}
+
+/// Whether the questions have these positions where they are asked together.
+fn placed_together(alloc: Global, index: &Index, asked: &[(u64, u32)]) -> Result<bool, NoMemory> {
+    let qs = questions(alloc, asked)?;
+    let found = together(alloc, index, &qs)?;
+    Ok(are_positions(&found, asked))
+}
+
+/// Whether an index has the row's runs, the first question that it answers otherwise, and whether
+/// it answers them together.
+type Compared = (bool, Option<u64>, bool);
+
+fn compared_with(alloc: Global, index: &Index, row: &IndexRow) -> Result<Compared, NoMemory> {
+    let (_, _, runs, asked) = *row;
+    let placed = placed_together(alloc, index, asked)?;
+    Ok((has_runs(index, runs), misplaced(index, asked), placed))
+}
+
+fn compared<R: Abort + AllocGlobal>(rt: &R, row: &IndexRow) -> Result<Compared, NoMemory> {
+    let index = index_of(rt, row.0, row.1)?;
+    compared_with(rt.alloc(), &index, row)
+}
+
+/// Builds the index of a row's keys, and compares its runs by level and the positions.
+fn expect_index<R: Abort + AllocGlobal>(rt: &R, row: &IndexRow) -> Result<(), NoMemory> {
+    let keys = row.0;
+    let (same_runs, misplaced, placed) = compared(rt, row)?;
+    expect_of(rt, "runs", keys, same_runs);
+    expect_none(rt, "position", keys, misplaced);
+    expect_of(rt, "positions together", keys, placed);
+    Ok(())
+}
+
+#[test]
+fn worked_lists(rt: HostRuntime) -> Result<(), NoMemory> {
+    for row in &WORKED_LISTS {
+        expect_index(&rt, row)?;
+    }
     Ok(())
 }
 
@@ -84,29 +168,56 @@ fn built_in_pieces<R: Threads + Abort + AllocGlobal + Sync>(
     cut: u32,
     workers: u32,
 ) -> Result<Index, NoMemory> {
+    assert!(rt; 1 <= workers && workers <= 64);
     let keys = keys_of(rt, keys)?;
     assert!(rt; 0 < cut && (cut as usize) < keys.xs().len());
-    assert!(rt; 1 <= workers && workers <= 64);
     Index::build(rt, rt.alloc(), keys, 0, 0, &[cut], workers, &OpenGate)
 }
 
+/// The first level that isn't the same in both.
+fn other_level(one: &Index, two: &Index) -> Option<u32> {
+    let levels = one.levels().max(two.levels());
+    for level in 0..levels {
+        if level >= one.levels() || level >= two.levels() || one.level(level) != two.level(level) {
+            return Some(level);
+        }
+    }
+    None
+}
+
+/// Whether both have the runs of the squares, and the first level that isn't the same in both.
+fn squares_compared(one: &Index, two: &Index) -> (bool, Option<u32>) {
+    let same_runs = has_runs(one, &[3, 2, 1]) && has_runs(two, &[3, 2, 1]);
+    (same_runs, other_level(one, two))
+}
+
+/// The same of the index of the squares that is built here and the one that workers build.
+fn squares_in_pieces<R: Threads + Abort + AllocGlobal + Sync>(
+    rt: &R,
+    workers: u32,
+) -> Result<(bool, Option<u32>), NoMemory> {
+    let here = index_of(rt, &SQUARES, 0)?;
+    let index = built_in_pieces(rt, &SQUARES, 3, workers)?;
+    Ok(squares_compared(&here, &index))
+}
+
+/// Fails with the level that workers built otherwise.
+fn expect_levels<R: Abort>(rt: &R, workers: u32, same_runs: bool, other: Option<u32>) {
+    assert!(rt;
+        same_runs && other.is_none(),
+        "level {other:?} by {workers}"
+    );
+}
+
+/// How many workers build an index.
+static WORKERS: [u32; 4] = [1, 2, 3, 64];
+
 // The runs of level 0 are 0..2, 2..4 and 4..6, so that no run starts at the cut.
 #[test]
-fn any_number_of_workers(rt: HostRuntime) -> Result<(), Fail> {
-    let squares = [0, 1, 4, 9, 16, 25];
-    let here = index_of(&rt, &squares, 0)?;
-    expect_runs(&rt, &here, &[3, 2, 1]);
-    for workers in [1, 2, 3, 64] {
-        let index = built_in_pieces(&rt, &squares, 3, workers)?;
-        expect_runs(&rt, &index, &[3, 2, 1]);
-        for level in 0..3 {
-            assert!(rt; level < index.levels() && level < here.levels());
-            assert_eq!(rt;
-                index.level(level),
-                here.level(level),
-                "level {level} by {workers}"
-            );
-        }
+fn any_number_of_workers(rt: HostRuntime) -> Result<(), NoMemory> {
+    for workers in &WORKERS {
+        let (same_runs, other) = squares_in_pieces(&rt, *workers)?;
+        expect_levels(&rt, *workers, same_runs, other);
     }
     Ok(())
 }
@@ -123,9 +234,9 @@ struct RelaxedRow {
 
 // Two pieces; a piece for each point, where more are asked for; the one piece of all; equal keys,
 // whose closing point is cut off; and no keys.
-const RELAXED_ROWS: [RelaxedRow; 6] = [
+static RELAXED_ROWS: [RelaxedRow; 6] = [
     RelaxedRow {
-        keys: &[0, 1, 4, 9, 16, 25],
+        keys: &SQUARES,
         pieces: 2,
         slack: 1,
         runs: &[4, 2, 1],
@@ -146,7 +257,7 @@ const RELAXED_ROWS: [RelaxedRow; 6] = [
         found: (9, 3),
     },
     RelaxedRow {
-        keys: &[0, 1, 4, 9, 16, 25],
+        keys: &SQUARES,
         pieces: 1,
         slack: 0,
         runs: &[3, 2, 1],
@@ -168,6 +279,17 @@ const RELAXED_ROWS: [RelaxedRow; 6] = [
     },
 ];
 
+/// Even cuts of the points of keys.
+fn cuts_of<R: Abort + AllocGlobal>(rt: &R, keys: &Keys, pieces: u32) -> Result<Vec<u32>, NoMemory>
+    ensures cuts { IfOk result (λ cuts. AreCuts (length (xs_of keys.now)) cuts.items) }
+    ensures few { IfOk result (λ cuts. vec_len cuts < 64) }
+{
+    let points = keys.xs().len();
+    assert!(rt; points < 2000);
+    assert!(rt; 1 <= pieces && pieces <= 64);
+    even_cuts(rt.alloc(), points as u32, pieces)
+}
+
 /// The relaxed index of these keys, built by workers, with both bounds 0.
 fn relaxed_of<R: Threads + Abort + AllocGlobal + Sync>(
     rt: &R,
@@ -175,13 +297,32 @@ fn relaxed_of<R: Threads + Abort + AllocGlobal + Sync>(
     pieces: u32,
     workers: u32,
 ) -> Result<Index, NoMemory> {
-    let keys = keys_of(rt, keys)?;
-    let points = keys.xs().len();
-    assert!(rt; points < 2000);
-    assert!(rt; 1 <= pieces && pieces <= 64);
     assert!(rt; 1 <= workers && workers <= 64);
-    let cuts = even_cuts(rt.alloc(), points as u32, pieces)?;
+    let keys = keys_of(rt, keys)?;
+    let cuts = cuts_of(rt, &keys, pieces)?;
     Index::build_relaxed(rt, rt.alloc(), keys, 0, 0, &cuts, workers, &OpenGate)
+}
+
+/// The slack that level 0 shows, which is 0 where there is none.
+fn slack_of(rt: &impl Abort, index: &Index) -> Option<u32> {
+    if index.levels() == 0 {
+        return Some(0);
+    }
+    let (xs, ys) = (index.list(0), index.ranks(0));
+    expect_points(rt, xs, ys);
+    slack(xs, ys, 0, index.level(0))
+}
+
+/// Whether workers build an index with the row's runs and position, and its slack.
+fn compared_relaxed<R: Threads + Abort + AllocGlobal + Sync>(
+    rt: &R,
+    row: &RelaxedRow,
+    workers: u32,
+) -> Result<(bool, bool, Option<u32>), NoMemory> {
+    let index = relaxed_of(rt, row.keys, row.pieces, workers)?;
+    let (q, position) = row.found;
+    let found = index.position(q) == position;
+    Ok((has_runs(&index, row.runs), found, slack_of(rt, &index)))
 }
 
 fn expect_relaxed<R: Threads + Abort + AllocGlobal + Sync>(
@@ -189,79 +330,113 @@ fn expect_relaxed<R: Threads + Abort + AllocGlobal + Sync>(
     row: &RelaxedRow,
     workers: u32,
 ) -> Result<(), NoMemory> {
-    let index = relaxed_of(rt, row.keys, row.pieces, workers)?;
-    expect_runs(rt, &index, row.runs);
-    let (q, position) = row.found;
-    assert_eq!(rt; index.position(q), position);
-    if index.levels() > 0 {
-        let (xs, ys) = (index.list(0), index.ranks(0));
-        expect_points(rt, xs, ys);
-        assert_eq!(rt; slack(xs, ys, 0, index.level(0)), Some(row.slack));
-    }
+    let (same_runs, found, slack) = compared_relaxed(rt, row, workers)?;
+    expect_of(rt, "relaxed runs", row.keys, same_runs);
+    expect_of(rt, "relaxed position", row.keys, found);
+    expect_of(rt, "slack", row.keys, slack == Some(row.slack));
     Ok(())
 }
 
 #[test]
-fn pieces_that_are_not_joined(rt: HostRuntime) -> Result<(), Fail> {
+fn pieces_that_are_not_joined(rt: HostRuntime) -> Result<(), NoMemory> {
     for row in &RELAXED_ROWS {
-        for workers in [1, 2, 3, 64] {
-            expect_relaxed(&rt, row, workers)?;
+        for workers in &WORKERS {
+            expect_relaxed(&rt, row, *workers)?;
         }
     }
     Ok(())
 }
 
-/// The starts of the runs of level 0.
-fn starts_of(alloc: Global, index: &Index) -> Result<Vec<u32>, NoMemory> {
-    let mut starts = Vec::new(alloc);
-    if index.levels() > 0 {
-        for segment in index.level(0) {
-            starts.push(segment.start)?;
-        }
-    }
-    Ok(starts)
+/// Questions over the squares, and their positions.
+static ASKED_SQUARES: [(u64, u32); 17] = [
+    (0, 0),
+    (1, 1),
+    (2, 2),
+    (4, 2),
+    (5, 3),
+    (9, 3),
+    (10, 4),
+    (16, 4),
+    (17, 5),
+    (25, 5),
+    (26, 6),
+    (3, 2),
+    (8, 3),
+    (15, 4),
+    (24, 5),
+    (99, 6),
+    (17, 5),
+];
+
+/// Whether the windows along a lookup are these: level, first and last place.
+fn has_windows(
+    alloc: Global,
+    index: &Index,
+    q: u64,
+    wanted: &[(u32, u32, u32)],
+) -> Result<bool, NoMemory> {
+    let windows = index.windows(alloc, q)?;
+    Ok(windows.as_slice() == wanted)
+}
+
+/// Whether an index of the squares in two pieces has their starts, windows and positions.
+fn relaxed_squares(alloc: Global, index: &Index) -> Result<[bool; 3], NoMemory> {
+    let same_starts = index.levels() > 0 && has_starts(index.level(0), &[0, 2, 3, 5]);
+    let windows = has_windows(alloc, index, 17, &[(2, 0, 2), (1, 1, 3), (0, 3, 5)])?;
+    let placed = placed_together(alloc, index, &ASKED_SQUARES)?;
+    Ok([same_starts, windows, placed])
+}
+
+/// Compares them where so many workers built the index.
+fn expect_squares<R: Threads + Abort + AllocGlobal + Sync>(
+    rt: &R,
+    workers: u32,
+) -> Result<(), NoMemory> {
+    let answers = relaxed_squares(rt.alloc(), &relaxed_of(rt, &SQUARES, 2, workers)?)?;
+    expect_answers(rt, "starts, windows and positions", answers);
+    Ok(())
 }
 
 // Each number of workers gives the same pieces, and their questions the same windows.
 #[test]
-fn relaxed_windows(rt: HostRuntime) -> Result<(), Fail> {
-    let squares = [0, 1, 4, 9, 16, 25];
-    for workers in [1, 2, 3, 64] {
-        let index = relaxed_of(&rt, &squares, 2, workers)?;
-        assert_eq!(rt;
-            starts_of(rt.alloc(), &index)?.as_slice(),
-            [0, 2, 3, 5].as_slice()
-        );
-        let windows = index.windows(rt.alloc(), 17)?;
-        assert_eq!(rt;
-            windows.as_slice(),
-            [(2, 0, 2), (1, 1, 3), (0, 3, 5)].as_slice()
-        );
-        let mut found = Vec::with_capacity(rt.alloc(), 17)?;
-        let qs = [0, 1, 2, 4, 5, 9, 10, 16, 17, 25, 26, 3, 8, 15, 24, 99, 17];
-        index.positions(&qs, &mut found);
-        let positions = [0, 1, 2, 2, 3, 3, 4, 4, 5, 5, 6, 2, 3, 4, 5, 6, 5];
-        assert_eq!(rt; found.as_slice(), positions.as_slice());
+fn relaxed_windows(rt: HostRuntime) -> Result<(), NoMemory> {
+    for workers in &WORKERS {
+        expect_squares(&rt, *workers)?;
     }
     Ok(())
 }
 
-/// Compares the points of a level.
-fn expect_lists(rt: &impl Abort, index: &Index, level: u32, xs: &[u64], ys: &[u32]) {
-    assert!(rt; level < index.levels());
-    assert!(rt; index.list(level) == xs && index.ranks(level) == ys);
+/// The points of the levels of keys that repeat: level, x and y.
+static REPEATED_POINTS: [(u32, &[u64], &[u32]); 2] = [
+    (0, &[5, 6, 9], &[0, 3, 3]),
+    (1, &[5, 9], &[0, 1]),
+];
+
+/// Whether a level has these points.
+fn has_level(index: &Index, points: &(u32, &[u64], &[u32])) -> bool {
+    let (level, xs, ys) = *points;
+    level < index.levels() && index.list(level) == xs && index.ranks(level) == ys
 }
 
-// Equal keys have a closing point, at both ends of 64 bits too.
+/// Compares the points of a level of the index of these keys.
+fn expect_level<R: Abort + AllocGlobal>(
+    rt: &R,
+    keys: &[u64],
+    points: &(u32, &[u64], &[u32]),
+) -> Result<(), NoMemory> {
+    let same = has_level(&index_of(rt, keys, 0)?, points);
+    expect_of(rt, "points", keys, same);
+    Ok(())
+}
+
 #[test]
-fn keys_that_repeat(rt: HostRuntime) -> Result<(), Fail> {
-    let rows = [(4, 0), (5, 0), (6, 3), (8, 3), (9, 3), (10, 4)];
-    let index = expect_index(&rt, &[5, 5, 5, 9], 0, &[2, 1], &rows)?;
-    expect_lists(&rt, &index, 0, &[5, 6, 9], &[0, 3, 3]);
-    expect_lists(&rt, &index, 1, &[5, 9], &[0, 1]);
-    let last = u64::MAX;
-    let rows = [(0, 0), (1, 3), (last - 1, 3), (last, 3)];
-    let _ = expect_index(&rt, &[0, 0, 0, last, last], 0, &[2, 1], &rows)?;
+fn keys_that_repeat(rt: HostRuntime) -> Result<(), NoMemory> {
+    for row in &REPEATED_LISTS {
+        expect_index(&rt, row)?;
+    }
+    for points in &REPEATED_POINTS {
+        expect_level(&rt, REPEATED_LISTS[0].0, points)?;
+    }
     Ok(())
 }
 
@@ -273,7 +448,7 @@ struct WindowRow<'a> {
 }
 
 // Both error bounds are 0: a question below the first key, equal keys, and three levels.
-const WINDOW_ROWS: [WindowRow; 6] = [
+static WINDOW_ROWS: [WindowRow; 6] = [
     WindowRow {
         keys: &[],
         q: 4,
@@ -300,114 +475,139 @@ const WINDOW_ROWS: [WindowRow; 6] = [
         windows: &[(1, 0, 2), (0, 2, 4)],
     },
     WindowRow {
-        keys: &[0, 1, 4, 9, 16, 25],
+        keys: &SQUARES,
         q: 17,
         windows: &[(2, 0, 2), (1, 1, 3), (0, 3, 5)],
     },
 ];
 
+/// The question of a row whose windows are others.
+fn other_windows<R: Abort + AllocGlobal>(rt: &R, row: &WindowRow) -> Result<Option<u64>, NoMemory> {
+    let index = index_of(rt, row.keys, 0)?;
+    let same = has_windows(rt.alloc(), &index, row.q, row.windows)?;
+    Ok(if same { None } else { Some(row.q) })
+}
+
 #[test]
-fn windows_along_lookups(rt: HostRuntime) -> Result<(), Fail> {
+fn windows_along_lookups(rt: HostRuntime) -> Result<(), NoMemory> {
     for row in &WINDOW_ROWS {
-        let index = index_of(&rt, row.keys, 0)?;
-        let windows = index.windows(rt.alloc(), row.q)?;
-        assert_eq!(rt; windows.as_slice(), row.windows, "question {}", row.q);
+        let other = other_windows(&rt, row)?;
+        expect_none(&rt, "windows", row.keys, other);
     }
     Ok(())
 }
 
-/// Compares the positions found by an index with those found among the keys alone.
-fn expect_among<R: Abort + AllocGlobal>(
-    rt: &R,
-    keys: &[u64],
-    qs: &[u64],
-    found: &[u32],
-) -> Result<(), NoMemory> {
-    assert!(rt; is_sorted(keys));
-    assert!(rt; keys.len() < 1000);
-    let mut among = Vec::with_capacity(rt.alloc(), qs.len())?;
-    positions_among(keys, qs, &mut among);
-    assert_eq!(rt; among.as_slice(), found, "without an index");
-    Ok(())
-}
+// More questions than are interleaved, of which the last ones go one by one.
+static NUMBERS: [u64; 37] = [
+    0, 1, 2, 3, 4, 5, 6, 7, 8, 9, 10, 11, 12, 13, 14, 15, 16, 17, 18, 19, 20, 21, 22, 23, 24, 25,
+    26, 27, 28, 29, 30, 31, 32, 33, 34, 35, 36,
+];
 
-/// The same with the questions in groups.
-fn expect_grouped<R: Abort + AllocGlobal>(
-    rt: &R,
-    keys: &[u64],
-    qs: &[u64],
-    found: &[u32],
-) -> Result<(), NoMemory> {
-    assert!(rt; is_sorted(keys));
-    assert!(rt; keys.len() < 1000 && qs.len() < 1000);
-    let mut grouped = Vec::with_capacity(rt.alloc(), qs.len())?;
-    positions_grouped(rt.alloc(), keys, qs, &mut grouped);
-    assert_eq!(rt; grouped.as_slice(), found, "without an index, grouped");
-    Ok(())
-}
-
-/// Compares positions with how many keys are below each question, counted one by one.
-fn expect_counted(rt: &impl Abort, keys: &[u64], qs: &[u64], found: &[u32]) {
-    for (q, position) in qs.iter().zip(found) {
+/// The first number whose position isn't how many keys are below it, counted one by one.
+fn miscounted(keys: &[u64], found: &[u32]) -> Option<u64> {
+    if found.len() != NUMBERS.len() {
+        return Some(0);
+    }
+    for (q, position) in NUMBERS.iter().zip(found) {
         let below = keys.iter().filter(|key| **key < *q).count();
-        assert_eq!(rt; *position as usize, below, "question {q} of {keys:?}");
+        if *position as usize != below {
+            return Some(*q);
+        }
     }
+    None
 }
 
-/// The questions 0 to 36 over these keys, by each way.
-fn expect_ways<R: Abort + AllocGlobal>(rt: &R, keys: &[u64]) -> Result<(), NoMemory> {
-    let mut qs = Vec::new(rt.alloc());
-    for q in 0..37 {
-        qs.push(q)?;
-    }
-    let found = positions_of(rt, keys, &qs)?;
-    assert_eq!(rt; found.len(), qs.len());
-    expect_counted(rt, keys, &qs, &found);
-    expect_among(rt, keys, &qs, &found)?;
-    expect_grouped(rt, keys, &qs, &found)
-}
-
-/// The positions of questions, by an index.
-fn positions_of<R: Abort + AllocGlobal>(
-    rt: &R,
-    keys: &[u64],
-    qs: &[u64],
-) -> Result<Vec<u32>, NoMemory> {
-    let index = index_of(rt, keys, 0)?;
+/// The positions of questions among keys, without an index.
+fn among<R: Abort + AllocGlobal>(rt: &R, keys: &[u64], qs: &[u64]) -> Result<Vec<u32>, NoMemory> {
+    assert!(rt; is_sorted(keys) && keys.len() < 1000);
     let mut found = Vec::with_capacity(rt.alloc(), qs.len())?;
-    index.positions(qs, &mut found);
+    positions_among(keys, qs, &mut found);
     Ok(found)
 }
 
-// More questions than are interleaved, of which the last ones go one by one: the numbers 0, 1, 2
-// and so on, whose positions are counted one key at a time. By an index and without one.
+/// The same with the questions in groups.
+fn grouped<R: Abort + AllocGlobal>(rt: &R, keys: &[u64], qs: &[u64]) -> Result<Vec<u32>, NoMemory> {
+    assert!(rt; is_sorted(keys) && keys.len() < 1000 && qs.len() < 1000);
+    let mut found = Vec::with_capacity(rt.alloc(), qs.len())?;
+    positions_grouped(rt.alloc(), keys, qs, &mut found);
+    Ok(found)
+}
+
+/// The positions of questions, by an index.
+fn indexed<R: Abort + AllocGlobal>(rt: &R, keys: &[u64], qs: &[u64]) -> Result<Vec<u32>, NoMemory> {
+    let index = index_of(rt, keys, 0)?;
+    together(rt.alloc(), &index, qs)
+}
+
+/// The first number that is miscounted by an index, among the keys alone, and in groups.
+fn miscounted_by_ways<R: Abort + AllocGlobal>(
+    rt: &R,
+    keys: &[u64],
+) -> Result<[Option<u64>; 3], NoMemory> {
+    let by_index = miscounted(keys, &indexed(rt, keys, &NUMBERS)?);
+    let alone = miscounted(keys, &among(rt, keys, &NUMBERS)?);
+    let in_groups = miscounted(keys, &grouped(rt, keys, &NUMBERS)?);
+    Ok([by_index, alone, in_groups])
+}
+
+static INTERLEAVED: [&[u64]; 3] = [&SQUARES, &[3, 5, 5, 5, 9, 9, 10, 20, 20, 30], &[]];
+
+// The numbers 0, 1, 2 and so on, whose positions are counted one key at a time. By an index and
+// without one.
 #[test]
-fn interleaved_questions(rt: HostRuntime) -> Result<(), Fail> {
-    expect_ways(&rt, &[0, 1, 4, 9, 16, 25])?;
-    expect_ways(&rt, &[3, 5, 5, 5, 9, 9, 10, 20, 20, 30])?;
-    expect_ways(&rt, &[])?;
+fn interleaved_questions(rt: HostRuntime) -> Result<(), NoMemory> {
+    for keys in &INTERLEAVED {
+        let [by_index, alone, in_groups] = miscounted_by_ways(&rt, keys)?;
+        expect_none(&rt, "by an index", keys, by_index);
+        expect_none(&rt, "without an index", keys, alone);
+        expect_none(&rt, "without an index, grouped", keys, in_groups);
+    }
     Ok(())
 }
 
-// Scattered questions, several in each part of the keys: of the multiples of 10 from 0 on, as many
-// are below a number as it has tens, a begun one too.
-#[test]
-fn groups_questions(rt: HostRuntime) -> Result<(), NoMemory> {
-    let mut keys = Vec::with_capacity(rt.alloc(), 900)?;
+/// The multiples of 10 from 0 on.
+fn tens(alloc: Global) -> Result<Vec<u64>, NoMemory> {
+    let mut keys = Vec::new(alloc);
     for i in 0..900 {
         keys.push(i * 10)?;
     }
-    let mut qs = Vec::with_capacity(rt.alloc(), 700)?;
+    Ok(keys)
+}
+
+/// Scattered questions, several in each part of those keys.
+fn scattered(alloc: Global) -> Result<Vec<u64>, NoMemory> {
+    let mut qs = Vec::new(alloc);
     for i in 0..700 {
         qs.push(i * 7919 % 8991)?;
     }
-    let mut found = Vec::with_capacity(rt.alloc(), qs.len())?;
-    assert!(rt; is_sorted(&keys));
-    assert!(rt; keys.len() == 900 && qs.len() == 700);
-    positions_grouped(rt.alloc(), &keys, &qs, &mut found);
-    assert_eq!(rt; found.len(), qs.len());
-    for (q, position) in qs.iter().zip(&found) {
-        assert_eq!(rt; u64::from(*position), q.div_ceil(10), "question {q}");
+    Ok(qs)
+}
+
+/// The first question whose position isn't how many tens it has, a begun one too.
+fn miscounted_tens(qs: &[u64], found: &[u32]) -> Option<u64> {
+    if qs.len() != 700 || found.len() != 700 {
+        return Some(0);
     }
+    for (q, position) in qs.iter().zip(found) {
+        if u64::from(*position) != q.div_ceil(10) {
+            return Some(*q);
+        }
+    }
+    None
+}
+
+/// The first of the scattered questions that is answered otherwise in groups.
+fn misplaced_in_groups<R: Abort + AllocGlobal>(rt: &R) -> Result<Option<u64>, NoMemory> {
+    let keys = tens(rt.alloc())?;
+    let qs = scattered(rt.alloc())?;
+    let found = grouped(rt, &keys, &qs)?;
+    Ok(miscounted_tens(&qs, &found))
+}
+
+// Of the multiples of 10 from 0 on as many are below a number as it has tens, a begun one too.
+#[test]
+fn groups_questions(rt: HostRuntime) -> Result<(), NoMemory> {
+    let wrong = misplaced_in_groups(&rt)?;
+    expect_none(&rt, "grouped tens", &[], wrong);
     Ok(())
 }

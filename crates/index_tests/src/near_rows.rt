@@ -1,16 +1,18 @@
 //! Nearest points, with answers worked out by hand or by going through all points.
 
-ghost use Rattle.std.specs.Prelude.{◌≡◌};
+ghost use Rattle.std.specs.Prelude.{◌≡◌, ◌<◌, ◌≤◌};
+ghost use Rattle.zorder.specs.Codes.{IsInRange};
 
 use crate::boxes_rows::{SQUARE, boxes_of, is_corner};
 use boxes::Boxes;
 use budget::NoMemory;
 use near::{nearest, nearest_into, room_for};
+use std::alloc::Global;
 use std::process::Abort;
-use std::test::Fail;
+use std::thread::Threads;
 
 /// A centre, k, the distances and codes of the nearest points, and the number of boxes.
-type Row = ([u32; 4], u32, &'static [(u32, u64)], u32);
+type Row<'a> = ([u32; 4], u32, &'a [(u32, u64)], u32);
 
 /// Around (1, 1): itself, the eight beside it, and the other seven, each ring by codes.
 const RINGS: [(u32, u64); 16] = [
@@ -32,7 +34,7 @@ const RINGS: [(u32, u64); 16] = [
     (2, 15),
 ];
 
-const SQUARE_ROWS: [Row; 10] = [
+static SQUARE_ROWS: [Row; 10] = [
     ([0, 0, 0, 0], 3, &[(0, 0), (1, 1), (1, 2)], 2),
     ([1, 1, 0, 0], 0, &[], 0),
     ([1, 1, 0, 0], 1, &[(0, 3)], 1),
@@ -51,18 +53,18 @@ const SQUARE_ROWS: [Row; 10] = [
 ];
 
 /// The points (2, 0) and (1, 3), with the codes 4 and 11.
-const PAIR: [u32; 4] = [2, 0, 1, 3];
+static PAIR: [u32; 4] = [2, 0, 1, 3];
 
-const PAIR_ROWS: [Row; 3] = [
+static PAIR_ROWS: [Row; 3] = [
     ([2, 2, 0, 0], 5, &[(1, 11), (2, 4)], 3),
     ([2, 2, 0, 0], 1, &[(1, 11)], 2),
     ([2, 2, 0, 0], 0, &[], 0),
 ];
 
 /// Three times the point (6, 5).
-const REPEATED: [u32; 6] = [6, 5, 6, 5, 6, 5];
+static REPEATED: [u32; 6] = [6, 5, 6, 5, 6, 5];
 
-const REPEATED_ROWS: [Row; 4] = [
+static REPEATED_ROWS: [Row; 4] = [
     ([6, 5, 0, 0], 1, &[(0, 54)], 1),
     ([6, 5, 0, 0], 3, &[(0, 54), (0, 54), (0, 54)], 1),
     ([2, 2, 0, 0], 2, &[(4, 54), (4, 54)], 4),
@@ -71,7 +73,9 @@ const REPEATED_ROWS: [Row; 4] = [
 
 /// Of each number of coordinates: it, their end, and for each coordinate the code of the point that
 /// has it alone at the end; and the code of the point in the middle.
-const RANGES: [(u32, u32, [u64; 4], u64); 3] = [
+type Range = (u32, u32, [u64; 4], u64);
+
+static RANGES: [Range; 3] = [
     (
         2,
         0xffff_ffff,
@@ -102,20 +106,56 @@ const RANGES: [(u32, u32, [u64; 4], u64); 3] = [
     ),
 ];
 
+/// Whether a search finds these points and looks in so many boxes.
+fn finds(alloc: Global, boxes: &Boxes, row: &Row) -> Result<bool, NoMemory>
+    requires { IsInRange boxes.now.dims row.now.0 }
+{
+    let (centre, k, points, count) = *row;
+    let near = nearest(alloc, boxes, &centre, k)?;
+    Ok(near.points() == points && near.boxes() == count)
+}
+
+/// Whether a search in room that was taken before does.
+fn finds_in_room(alloc: Global, boxes: &Boxes, row: &Row) -> Result<bool, NoMemory>
+    requires { IsInRange boxes.now.dims row.now.0 }
+{
+    let (centre, k, points, count) = *row;
+    let room = room_for(boxes, &centre, k) as usize;
+    let mut codes = Vec::with_capacity(alloc, room)?;
+    let mut found = Vec::with_capacity(alloc, room)?;
+    let looked = nearest_into(boxes, &centre, k, &mut codes, &mut found);
+    Ok(found.as_slice() == points && looked == count)
+}
+
+/// Fails with the centre, with k, and whether it was in room that was taken before.
+fn expect_found(rt: &impl Abort, row: &Row, in_room: bool, same: bool) {
+    assert!(rt; same, "{:?}, {}, in room: {in_room}", row.0, row.1);
+}
+
+fn check_row<R: Abort + AllocGlobal>(rt: &R, boxes: &Boxes, row: &Row) -> Result<(), NoMemory> {
+    is_corner(rt, boxes.dims(), row.0);
+    let found = finds(rt.alloc(), boxes, row)?;
+    expect_found(rt, row, false, found);
+    let found = finds_in_room(rt.alloc(), boxes, row)?;
+    expect_found(rt, row, true, found);
+    Ok(())
+}
+
 fn check_rows<R: Abort + AllocGlobal>(rt: &R, boxes: &Boxes, rows: &[Row]) -> Result<(), NoMemory> {
-    for (centre, k, points, count) in rows {
-        is_corner(rt, boxes.dims(), *centre);
-        let near = nearest(rt.alloc(), boxes, centre, *k)?;
-        assert_eq!(rt; near.points(), *points, "{centre:?}, {k}");
-        assert_eq!(rt; near.boxes(), *count, "{centre:?}, {k}");
-        let room = room_for(boxes, centre, *k) as usize;
-        let mut codes = Vec::with_capacity(rt.alloc(), room)?;
-        let mut found = Vec::with_capacity(rt.alloc(), room)?;
-        let looked = nearest_into(boxes, centre, *k, &mut codes, &mut found);
-        assert_eq!(rt; found.as_slice(), *points, "in room: {centre:?}, {k}");
-        assert_eq!(rt; looked, *count, "in room: {centre:?}, {k}");
+    for row in rows {
+        check_row(rt, boxes, row)?;
     }
     Ok(())
+}
+
+/// Checks each row over these points of `d` coordinates.
+fn check_points<R: Abort + Threads + AllocGlobal + Sync>(
+    rt: &R,
+    d: u32,
+    points: &[u32],
+    rows: &[Row],
+) -> Result<(), NoMemory> {
+    check_rows(rt, &boxes_of(rt, d, points)?, rows)
 }
 
 /// The corner of the range that has the coordinates of these bits at their end.
@@ -141,56 +181,112 @@ fn code_of(bits: usize, ends: &[u64; 4]) -> u64 {
 }
 
 #[test]
-fn a_square(rt: HostRuntime) -> Result<(), Fail> {
-    check_rows(&rt, &boxes_of(&rt, 2, &SQUARE)?, &SQUARE_ROWS)?;
-    Ok(())
+fn a_square(rt: HostRuntime) -> Result<(), NoMemory> {
+    check_points(&rt, 2, &SQUARE, &SQUARE_ROWS)
 }
 
 #[test]
-fn two_points(rt: HostRuntime) -> Result<(), Fail> {
-    check_rows(&rt, &boxes_of(&rt, 2, &PAIR)?, &PAIR_ROWS)?;
-    Ok(())
+fn two_points(rt: HostRuntime) -> Result<(), NoMemory> {
+    check_points(&rt, 2, &PAIR, &PAIR_ROWS)
 }
 
 #[test]
-fn all_points_equal(rt: HostRuntime) -> Result<(), Fail> {
-    check_rows(&rt, &boxes_of(&rt, 2, &REPEATED)?, &REPEATED_ROWS)?;
-    Ok(())
+fn all_points_equal(rt: HostRuntime) -> Result<(), NoMemory> {
+    check_points(&rt, 2, &REPEATED, &REPEATED_ROWS)
 }
 
-#[test]
-fn no_point(rt: HostRuntime) -> Result<(), Fail> {
-    let rows: [Row; 2] = [([0, 0, 0, 0], 0, &[], 0), ([9, 9, 9, 0], 7, &[], 0)];
-    check_rows(&rt, &boxes_of(&rt, 3, &[])?, &rows)?;
-    Ok(())
-}
+static NO_POINT_ROWS: [Row; 2] = [([0, 0, 0, 0], 0, &[], 0), ([9, 9, 9, 0], 7, &[], 0)];
 
 #[test]
-fn corners_of_the_range(rt: HostRuntime) -> Result<(), Fail> {
-    for (d, end, ends, middle) in RANGES {
-        assert!(rt; d == 2 || d == 3 || d == 4);
-        let corners = 1usize << d;
-        let half = end / 2 + 1;
-        let mut points = Vec::new(rt.alloc());
-        points.extend_from_slice(&[half; 4][..d as usize])?;
-        for bits in 0..corners {
-            points.extend_from_slice(&corner_of(bits, end)[..d as usize])?;
+fn no_point(rt: HostRuntime) -> Result<(), NoMemory> {
+    check_points(&rt, 3, &[], &NO_POINT_ROWS)
+}
+
+/// The point in the middle of the range, and all its corners.
+fn corner_points(alloc: Global, d: usize, end: u32) -> Result<Vec<u32>, NoMemory>
+    requires { d ≤ 4 }
+{
+    let mut points = Vec::new(alloc);
+    points.extend_from_slice(&[end / 2 + 1; 4][..d])?;
+    for bits in 0..1usize << d {
+        points.extend_from_slice(&corner_of(bits, end)[..d])?;
+    }
+    Ok(points)
+}
+
+/// How far the middle is from a corner, and in how many boxes is looked: from the last corner the
+/// middle is one nearer than from the others.
+fn far_and_count(d: u32, end: u32, bits: usize) -> (u32, u32)
+    requires few { bits < 16 }
+    requires least { 2 ≤ d }
+    requires greatest { d ≤ 4 }
+{
+    if bits + 1 == 1 << d {
+        (end / 2, 64 / d)
+    } else {
+        (end / 2 + 1, 64 / d + 1)
+    }
+}
+
+/// Whether the two points nearest to a corner are itself and the middle.
+fn check_corner<R: Abort + AllocGlobal>(
+    rt: &R,
+    boxes: &Boxes,
+    range: &Range,
+    bits: usize,
+) -> Result<bool, NoMemory> {
+    let (d, end, ends, middle) = *range;
+    assert!(rt; 2 <= d && d <= 4 && bits < 16);
+    let centre = corner_of(bits, end);
+    is_corner(rt, boxes.dims(), centre);
+    let (far, count) = far_and_count(d, end, bits);
+    let points = [(0, code_of(bits, &ends)), (far, middle)];
+    finds(rt.alloc(), boxes, &(centre, 2, &points, count))
+}
+
+/// The boxes of a range's middle and corners.
+fn range_boxes<R: Abort + Threads + AllocGlobal + Sync>(
+    rt: &R,
+    range: &Range,
+) -> Result<Boxes, NoMemory> {
+    let (d, end, _, _) = *range;
+    assert!(rt; d == 2 || d == 3 || d == 4);
+    boxes_of(rt, d, &corner_points(rt.alloc(), d as usize, end)?)
+}
+
+/// The first corner of a range whose nearest points are others.
+fn other_corner<R: Abort + AllocGlobal>(
+    rt: &R,
+    boxes: &Boxes,
+    range: &Range,
+) -> Result<Option<usize>, NoMemory> {
+    assert!(rt; range.0 <= 4);
+    for bits in 0..1usize << range.0 {
+        if !check_corner(rt, boxes, range, bits)? {
+            return Ok(Some(bits));
         }
-        let boxes = boxes_of(&rt, d, &points)?;
-        for bits in 0..corners {
-            let centre = corner_of(bits, end);
-            is_corner(&rt, boxes.dims(), centre);
-            // From the last corner the middle is one nearer than from the others.
-            let (far, count) = if bits + 1 == corners {
-                (half - 1, 64 / d)
-            } else {
-                (half, 64 / d + 1)
-            };
-            let near = nearest(rt.alloc(), &boxes, &centre, 2)?;
-            let code = code_of(bits, &ends);
-            assert_eq!(rt; near.points(), [(0, code), (far, middle)].as_slice());
-            assert_eq!(rt; near.boxes(), count);
-        }
+    }
+    Ok(None)
+}
+
+/// The same over boxes of their own.
+fn check_range<R: Abort + Threads + AllocGlobal + Sync>(
+    rt: &R,
+    range: &Range,
+) -> Result<Option<usize>, NoMemory> {
+    other_corner(rt, &range_boxes(rt, range)?, range)
+}
+
+/// Fails with the number of coordinates, and the bits of the corner.
+fn expect_corners(rt: &impl Abort, d: u32, other: Option<usize>) {
+    assert!(rt; other.is_none(), "{d} coordinates: {other:?}");
+}
+
+#[test]
+fn corners_of_the_range(rt: HostRuntime) -> Result<(), NoMemory> {
+    for range in &RANGES {
+        let other = check_range(&rt, range)?;
+        expect_corners(&rt, range.0, other);
     }
     Ok(())
 }

@@ -6,7 +6,7 @@ ghost use Rattle.exact_cross.specs.Points.{points_of};
 ghost use Rattle.exact_cross.specs.Segmentation.{IsSegmentation};
 ghost use Rattle.piece_join.specs.Cuttings.{AreCuts};
 
-use crate::common::{never_falls, rises};
+use crate::common::{are_same, expect, never_falls, rises};
 use budget::NoMemory;
 use cut_witness::slack;
 use edge::{Gate, OpenGate, Place};
@@ -16,7 +16,6 @@ use segmenter::segment;
 use std::alloc::Global;
 use std::process::Abort;
 use std::sync::atomic::{AtomicBool, Ordering};
-use std::test::Fail;
 use std::thread;
 use std::thread::Threads;
 
@@ -50,32 +49,69 @@ pub fn expect_points(rt: &impl Abort, xs: &[u64], ys: &[u32])
     assert!(rt; never_falls(ys));
 }
 
-/// The first places of segments.
-fn starts_of(alloc: Global, segments: &[Segment]) -> Result<Vec<u32>, NoMemory> {
-    segments.iter().map(|segment| segment.start).collect(alloc)
+/// Whether segments have these first places.
+pub fn has_starts(segments: &[Segment], starts: &[u32]) -> bool {
+    if segments.len() != starts.len() {
+        return false;
+    }
+    for i in 0..starts.len() {
+        if segments[i].start != starts[i] {
+            return false;
+        }
+    }
+    true
 }
 
-/// The starts that pieces give, with `ε = 0`. The segments are those that one thread makes.
-fn starts_in_pieces<R: Threads + Abort + Sync, G: Gate>(
+/// Points, their x and their y.
+type Points = (&'static [u64], &'static [u32]);
+
+/// Whether these are the segments that one thread makes, with `ε = 0`.
+fn are_whole(alloc: Global, xs: &[u64], ys: &[u32], segments: &[Segment]) -> Result<bool, NoMemory>
+    requires same_length { length ys.now ≡ length xs.now }
+    requires rising { IsStrictlyIncreasing xs.now }
+    requires never_falls { IsNonDecreasing ys.now }
+    requires few { length xs.now < 2 ^ 32 }
+{
+    let whole = segment(alloc, xs, ys, 0, 0, xs.len() as u32)?;
+    Ok(segments == whole.as_slice())
+}
+
+/// Whether pieces give segments with these starts, with `ε = 0`, and whether they are those that
+/// one thread makes.
+fn compared<R: Threads + Abort + AllocGlobal + Sync, G: Gate>(
     rt: &R,
-    alloc: Global,
-    xs: &[u64],
-    ys: &[u32],
+    points: Points,
     cuts: &[u32],
     workers: u32,
     gate: &G,
-) -> Result<Vec<u32>, NoMemory> {
+    starts: &[u32],
+) -> Result<(bool, bool), NoMemory> {
+    let (xs, ys) = points;
     expect_points(rt, xs, ys);
     assert!(rt; are_cuts(xs.len(), cuts) && cuts.len() < 100);
     assert!(rt; 1 <= workers && workers <= 64);
-    let segments = segment_in_pieces(rt, alloc, xs, ys, 0, cuts, workers, gate)?;
-    let whole = segment(alloc, xs, ys, 0, 0, xs.len() as u32)?;
-    assert_eq!(rt;
-        segments.as_slice(),
-        whole.as_slice(),
-        "{cuts:?} by {workers}"
-    );
-    starts_of(alloc, &segments)
+    let segments = segment_in_pieces(rt, rt.alloc(), xs, ys, 0, cuts, workers, gate)?;
+    let same = are_whole(rt.alloc(), xs, ys, &segments)?;
+    Ok((has_starts(&segments, starts), same))
+}
+
+/// Fails with the cuts and the workers.
+fn expect_same<R: Abort>(rt: &R, cuts: &[u32], workers: u32, same: bool) {
+    assert!(rt; same, "{cuts:?} by {workers}");
+}
+
+/// Compares the starts that pieces give, with `ε = 0`, and the segments with those of one thread.
+fn expect_starts<R: Threads + Abort + AllocGlobal + Sync, G: Gate>(
+    rt: &R,
+    points: Points,
+    cuts: &[u32],
+    workers: u32,
+    gate: &G,
+    starts: &[u32],
+) -> Result<(), NoMemory> {
+    let (same_starts, same) = compared(rt, points, cuts, workers, gate, starts)?;
+    expect_same(rt, cuts, workers, same_starts && same);
+    Ok(())
 }
 
 /// The segments of a part, with `ε = 0`.
@@ -92,66 +128,136 @@ fn part(alloc: Global, xs: &[u64], ys: &[u32], from: u32, to: u32) -> Result<Vec
     segment(alloc, xs, ys, 0, from, to)
 }
 
+const SQUARE_POINTS: Points = (&SQUARES, &PLACES);
+
+/// Points, cuts, how many workers there are, and the starts.
+type PieceRow = (Points, &'static [u32], u32, &'static [u32]);
+
+/// Compares the pieces of a row.
+fn check_pieces<R: Threads + Abort + AllocGlobal + Sync>(
+    rt: &R,
+    row: &PieceRow,
+) -> Result<(), NoMemory> {
+    let (points, cuts, workers, starts) = *row;
+    expect_starts(rt, points, cuts, workers, &OpenGate, starts)
+}
+
 // The right piece speculates 3 and 5, and the runs from the left start at 2 and 4: they never meet.
+static NEVER_MEETING: [PieceRow; 4] = [
+    (SQUARE_POINTS, &[3], 1, &[0, 2, 4]),
+    (SQUARE_POINTS, &[3], 2, &[0, 2, 4]),
+    (SQUARE_POINTS, &[3], 3, &[0, 2, 4]),
+    (SQUARE_POINTS, &[3], 64, &[0, 2, 4]),
+];
+
 #[test]
-fn pieces_that_never_meet(rt: HostRuntime) -> Result<(), Fail> {
-    for workers in [1, 2, 3, 64] {
-        let alloc = rt.alloc();
-        let starts = starts_in_pieces(&rt, alloc, &SQUARES, &PLACES, &[3], workers, &OpenGate)?;
-        assert_eq!(rt; starts.as_slice(), [0, 2, 4].as_slice(), "{workers}");
+fn pieces_that_never_meet(rt: HostRuntime) -> Result<(), NoMemory> {
+    for row in &NEVER_MEETING {
+        check_pieces(&rt, row)?;
     }
     Ok(())
 }
 
-// One place a piece, more pieces than points, and no cut at all.
+// One place a piece, as of more pieces than points, no cut at all, and no point; and one run over
+// all pieces.
+static ANY_CUTS: [PieceRow; 7] = [
+    (SQUARE_POINTS, &[1, 2, 3, 4, 5], 3, &[0, 2, 4]),
+    (SQUARE_POINTS, &[], 3, &[0, 2, 4]),
+    (SQUARE_POINTS, &[1], 3, &[0, 2, 4]),
+    (SQUARE_POINTS, &[5], 3, &[0, 2, 4]),
+    (SQUARE_POINTS, &[2, 4], 3, &[0, 2, 4]),
+    ((&[], &[]), &[], 2, &[]),
+    ((&[7, 8, 9, 10, 11, 12], &PLACES), &[1, 3, 4], 2, &[0]),
+];
+
 #[test]
-fn any_cuts(rt: HostRuntime) -> Result<(), Fail> {
-    let alloc = rt.alloc();
-    let each = even_cuts(alloc, 6, 10)?;
-    assert_eq!(rt; each.as_slice(), [1, 2, 3, 4, 5].as_slice());
-    for cuts in [each.as_slice(), &[], &[1], &[5], &[2, 4]] {
-        let starts = starts_in_pieces(&rt, alloc, &SQUARES, &PLACES, cuts, 3, &OpenGate)?;
-        assert_eq!(rt; starts.as_slice(), [0, 2, 4].as_slice(), "{cuts:?}");
+fn any_cuts(rt: HostRuntime) -> Result<(), NoMemory> {
+    for row in &ANY_CUTS {
+        check_pieces(&rt, row)?;
     }
-    let none = starts_in_pieces(&rt, alloc, &[], &[], &[], 2, &OpenGate)?;
-    assert_eq!(rt; none.len(), 0);
-    // One run over all pieces.
-    let xs = [7, 8, 9, 10, 11, 12];
-    let starts = starts_in_pieces(&rt, alloc, &xs, &PLACES, &[1, 3, 4], 2, &OpenGate)?;
-    assert_eq!(rt; starts.as_slice(), [0].as_slice());
     Ok(())
 }
 
-// The run from 0 goes past the edge and ends at the second start of the right.
+/// An edge in the points of four keys, and the starts on the left, on the right, and joined.
+type JoinRow = (u32, &'static [u32], &'static [u32], &'static [u32]);
+
+// The run from 0 goes past the edge and ends at the second start of the right; and nothing on the
+// right.
+static JOINS: [JoinRow; 2] = [(1, &[0], &[1, 3], &[0, 3]), (4, &[0, 3], &[], &[0, 3])];
+
+/// Whether the left part, the right part and both joined at an edge have the row's starts.
+fn join_compared<R: Abort + AllocGlobal>(rt: &R, row: &JoinRow) -> Result<[bool; 3], NoMemory> {
+    let (xs, ys) = (&FOUR, &[0, 1, 2, 3]);
+    let (edge, left_starts, right_starts, starts) = *row;
+    expect_points(rt, xs, ys);
+    assert!(rt; xs.len() == 4 && 1 <= edge && edge <= 4);
+    let left = part(rt.alloc(), xs, ys, 0, edge)?;
+    let right = part(rt.alloc(), xs, ys, edge, 4)?;
+    let same_left = has_starts(&left, left_starts);
+    let same_right = has_starts(&right, right_starts);
+    let joined = join(rt.alloc(), xs, ys, 0, left, &right, edge, 4)?;
+    Ok([same_left, same_right, has_starts(&joined, starts)])
+}
+
+const FOUR: [u64; 4] = [0, 1, 2, 10];
+
 #[test]
-fn a_join_that_meets(rt: HostRuntime) -> Result<(), Fail> {
-    let alloc = rt.alloc();
-    let xs = [0, 1, 2, 10];
-    let ys = [0, 1, 2, 3];
-    expect_points(&rt, &xs, &ys);
-    let left = part(alloc, &xs, &ys, 0, 1)?;
-    let right = part(alloc, &xs, &ys, 1, 4)?;
-    assert_eq!(rt; starts_of(alloc, &left)?.as_slice(), [0].as_slice());
-    assert_eq!(rt; starts_of(alloc, &right)?.as_slice(), [1, 3].as_slice());
-    let joined = join(alloc, &xs, &ys, 0, left, &right, 1, 4)?;
-    assert_eq!(rt; starts_of(alloc, &joined)?.as_slice(), [0, 3].as_slice());
-    // Nothing on the right.
-    let left = part(alloc, &xs, &ys, 0, 4)?;
-    let joined = join(alloc, &xs, &ys, 0, left, &[], 4, 4)?;
-    assert_eq!(rt; starts_of(alloc, &joined)?.as_slice(), [0, 3].as_slice());
+fn a_join_that_meets(rt: HostRuntime) -> Result<(), NoMemory> {
+    for row in &JOINS {
+        let [left, right, joined] = join_compared(&rt, row)?;
+        expect(&rt, "left", left);
+        expect(&rt, "right", right);
+        expect(&rt, "joined", joined);
+    }
     Ok(())
 }
 
-// 10k/4 is 2.5, 5 and 7.5; 2k/4 is 0.5, 1 and 1.5; of 72 points the places are k(k + 1).
+/// Points, pieces or workers, and the cuts.
+type CutRow = (u32, u32, &'static [u32]);
+
+// 10k/4 is 2.5, 5 and 7.5; 2k/4 is 0.5, 1 and 1.5; 6k/10 is 0.6, 1.2, 1.8, 2.4, 3, 3.6, 4.2, 4.8
+// and 5.4.
+static EVEN: [CutRow; 6] = [
+    (10, 4, &[2, 5, 7]),
+    (2, 4, &[1]),
+    (0, 4, &[]),
+    (9, 1, &[]),
+    (6, 10, &[1, 2, 3, 4, 5]),
+    (6, 2, &[3]),
+];
+
+// Of 72 points the places are k(k + 1), and of 6 points k(k + 1)/12.
+static UNEVEN: [CutRow; 2] = [
+    (72, 1, &[2, 6, 12, 20, 30, 42, 56]),
+    (6, 2, &[1, 2, 3, 4, 5]),
+];
+
+/// Whether points are cut evenly so.
+fn cuts_evenly<R: Abort + AllocGlobal>(rt: &R, row: &CutRow) -> Result<bool, NoMemory> {
+    let (points, pieces, wanted) = *row;
+    assert!(rt; 1 <= pieces && pieces <= 64);
+    let cuts = even_cuts(rt.alloc(), points, pieces)?;
+    Ok(are_same(&cuts, wanted))
+}
+
+/// Whether points are cut unevenly so.
+fn cuts_unevenly<R: Abort + AllocGlobal>(rt: &R, row: &CutRow) -> Result<bool, NoMemory> {
+    let (points, workers, wanted) = *row;
+    assert!(rt; 1 <= workers && workers <= 64);
+    let cuts = uneven_cuts(rt.alloc(), points, workers)?;
+    Ok(are_same(&cuts, wanted))
+}
+
 #[test]
-fn cuttings(rt: HostRuntime) -> Result<(), Fail> {
-    let alloc = rt.alloc();
-    assert_eq!(rt; even_cuts(alloc, 10, 4)?.as_slice(), [2, 5, 7].as_slice());
-    assert_eq!(rt; even_cuts(alloc, 2, 4)?.as_slice(), [1].as_slice());
-    assert_eq!(rt; even_cuts(alloc, 0, 4)?.len(), 0);
-    assert_eq!(rt; even_cuts(alloc, 9, 1)?.len(), 0);
-    let uneven = uneven_cuts(alloc, 72, 1)?;
-    assert_eq!(rt; uneven.as_slice(), [2, 6, 12, 20, 30, 42, 56].as_slice());
+fn cuttings(rt: HostRuntime) -> Result<(), NoMemory> {
+    for row in &EVEN {
+        let same = cuts_evenly(&rt, row)?;
+        expect_same(&rt, row.2, row.1, same);
+    }
+    for row in &UNEVEN {
+        let same = cuts_unevenly(&rt, row)?;
+        expect_same(&rt, row.2, row.1, same);
+    }
     Ok(())
 }
 
@@ -216,28 +322,34 @@ impl Gate for Holding {
     }
 }
 
+/// Whether two workers pass a gate over the squares, and compares their starts.
+fn passes<R: Threads + Abort + AllocGlobal + Sync>(
+    rt: &R,
+    held: Place,
+    until: Place,
+    both: bool,
+    cuts: &[u32],
+) -> Result<bool, NoMemory> {
+    let gate = Holding::new(held, until, both);
+    expect_starts(rt, SQUARE_POINTS, cuts, 2, &gate, &[0, 2, 4])?;
+    Ok(gate.was_passed())
+}
+
 // Two pieces wait for each other, so that two workers are at work at once.
 #[test]
-fn two_pieces_at_once(rt: HostRuntime) -> Result<(), Fail> {
-    let alloc = rt.alloc();
-    let gate = Holding::new(Place::PieceBegun(0), Place::PieceBegun(1), true);
-    let cuts = even_cuts(alloc, 6, 2)?;
-    let starts = starts_in_pieces(&rt, alloc, &SQUARES, &PLACES, &cuts, 2, &gate)?;
-    assert_eq!(rt; starts.as_slice(), [0, 2, 4].as_slice());
-    assert!(rt; gate.was_passed());
+fn two_pieces_at_once(rt: HostRuntime) -> Result<(), NoMemory> {
+    let (first, second) = (Place::PieceBegun(0), Place::PieceBegun(1));
+    let passed = passes(&rt, first, second, true, &[3])?;
+    expect(&rt, "both pieces", passed);
     Ok(())
 }
 
 // Of six pieces the first is held until the third is done: the other worker draws on meanwhile.
 #[test]
-fn a_worker_draws_on_while_another_is_held(rt: HostRuntime) -> Result<(), Fail> {
-    let alloc = rt.alloc();
-    let gate = Holding::new(Place::PieceBegun(0), Place::PieceDone(2), false);
-    let cuts = uneven_cuts(alloc, 6, 2)?;
-    assert_eq!(rt; cuts.as_slice(), [1, 2, 3, 4, 5].as_slice());
-    let starts = starts_in_pieces(&rt, alloc, &SQUARES, &PLACES, &cuts, 2, &gate)?;
-    assert_eq!(rt; starts.as_slice(), [0, 2, 4].as_slice());
-    assert!(rt; gate.was_passed());
+fn a_worker_draws_on_while_another_is_held(rt: HostRuntime) -> Result<(), NoMemory> {
+    let (first, third) = (Place::PieceBegun(0), Place::PieceDone(2));
+    let passed = passes(&rt, first, third, false, &[1, 2, 3, 4, 5])?;
+    expect(&rt, "the first piece", passed);
     Ok(())
 }
 
@@ -250,7 +362,7 @@ struct SideBySide {
     slack: u32,
 }
 
-const SIDE_BY_SIDE: [SideBySide; 6] = [
+static SIDE_BY_SIDE: [SideBySide; 6] = [
     SideBySide {
         xs: &SQUARES,
         ys: &PLACES,
@@ -295,26 +407,43 @@ const SIDE_BY_SIDE: [SideBySide; 6] = [
     },
 ];
 
-fn expect_side_by_side<R: Threads + Abort + AllocGlobal + Sync>(
+/// Whether the pieces have the row's starts, and the slack that they show.
+fn compared_side_by_side<R: Threads + Abort + AllocGlobal + Sync>(
     rt: &R,
     row: &SideBySide,
     workers: u32,
-) -> Result<(), NoMemory> {
+) -> Result<(bool, Option<u32>), NoMemory> {
     let (xs, ys) = (row.xs, row.ys);
     expect_points(rt, xs, ys);
     assert!(rt; are_cuts(xs.len(), row.cuts) && row.cuts.len() < 100);
     assert!(rt; 1 <= workers && workers <= 64);
     let segments = relaxed(rt, rt.alloc(), xs, ys, 0, row.cuts, workers, &OpenGate)?;
-    assert_eq!(rt; starts_of(rt.alloc(), &segments)?.as_slice(), row.starts);
-    assert_eq!(rt; slack(xs, ys, 0, &segments), Some(row.slack));
+    Ok((
+        has_starts(&segments, row.starts),
+        slack(xs, ys, 0, &segments),
+    ))
+}
+
+fn expect_side_by_side<R: Threads + Abort + AllocGlobal + Sync>(
+    rt: &R,
+    row: &SideBySide,
+    workers: u32,
+) -> Result<(), NoMemory> {
+    let (same_starts, slack) = compared_side_by_side(rt, row, workers)?;
+    expect_same(
+        rt,
+        row.cuts,
+        workers,
+        same_starts && slack == Some(row.slack),
+    );
     Ok(())
 }
 
 #[test]
-fn pieces_side_by_side(rt: HostRuntime) -> Result<(), Fail> {
+fn pieces_side_by_side(rt: HostRuntime) -> Result<(), NoMemory> {
     for row in &SIDE_BY_SIDE {
-        for workers in [1, 2, 3, 64] {
-            expect_side_by_side(&rt, row, workers)?;
+        for workers in &[1, 2, 3, 64] {
+            expect_side_by_side(&rt, row, *workers)?;
         }
     }
     Ok(())

@@ -2,7 +2,7 @@
 ghost use Rattle.std.specs.Prelude.{◌≡◌, ◌^◌, ◌<◌, ◌≤◌, IsTrue, length};
 ghost use Rattle.std.specs.List.Sorted.{IsStrictlyIncreasing, IsNonDecreasing};
 
-use crate::common::{never_falls, rises};
+use crate::common::{expect_of, never_falls, rises};
 use budget::{NoMemory, Steps};
 use exact_cross::{Line, Segment, Side, Witness};
 use segmenter::{segment, segment_counted};
@@ -10,16 +10,26 @@ use std::alloc::Global;
 use std::marker::Brand;
 use std::process::Abort;
 use std::sync::ledger::{Blank, Ledger};
-use std::test::Fail;
 
 /// Points, their x and their y.
 type Points<'a> = (&'a [u64], &'a [u32]);
 
-fn line(x0: u64, y0: i64, rise: u64, run: u64) -> Line {
-    Line { x0, y0, rise, run }
-}
+/// Three places and the side of the last one.
+type Cut = (u32, u32, u32, Side);
 
-fn row(start: u32, a: u32, b: u32, line: Line, cut: Option<Witness>) -> Segment {
+/// A segment: its start, its pair, its line as x0, y0, rise and run, and its cut.
+type Row = (u32, u32, u32, (u64, i64, u64, u64), Option<Cut>);
+
+/// Points, the error bound, the places of the part, and its segments.
+type Case = (Points<'static>, u32, (u32, u32), &'static [Row]);
+
+fn segment_of(row: &Row) -> Segment {
+    let (start, a, b, (x0, y0, rise, run), cut) = *row;
+    let line = Line { x0, y0, rise, run };
+    let cut = match cut {
+        Some((p, q, r, side)) => Some(Witness { p, q, r, side }),
+        None => None,
+    };
     Segment {
         start,
         a,
@@ -29,160 +39,272 @@ fn row(start: u32, a: u32, b: u32, line: Line, cut: Option<Witness>) -> Segment 
     }
 }
 
-fn over(p: u32, q: u32, r: u32) -> Option<Witness> {
-    let side = Side::Over;
-    Some(Witness { p, q, r, side })
+/// Whether the segments are these.
+fn are_rows(segments: &[Segment], rows: &[Row]) -> bool {
+    if segments.len() != rows.len() {
+        return false;
+    }
+    for i in 0..rows.len() {
+        if segments[i] != segment_of(&rows[i]) {
+            return false;
+        }
+    }
+    true
 }
 
-fn under(p: u32, q: u32, r: u32) -> Option<Witness> {
-    let side = Side::Under;
-    Some(Witness { p, q, r, side })
+/// Whether a part has these segments.
+fn has_rows(
+    alloc: Global,
+    points: Points,
+    eps: u32,
+    range: (u32, u32),
+    rows: &[Row],
+) -> Result<bool, NoMemory>
+    requires same_length { length points.1.now ≡ length points.0.now }
+    requires rising { IsStrictlyIncreasing points.0.now }
+    requires never_falls { IsNonDecreasing points.1.now }
+    requires few { length points.0.now < 2 ^ 32 }
+    requires bounded { eps ≤ 1048576 }
+    requires range { range.0 ≤ range.1 }
+    requires within { range.1 ≤ length points.0.now }
+{
+    let segments = segment(alloc, points.0, points.1, eps, range.0, range.1)?;
+    Ok(are_rows(&segments, rows))
 }
 
-fn expect_rows<R: Abort + AllocGlobal>(
+/// Whether a part has these segments, also where steps are counted.
+fn compared<R: Abort + AllocGlobal>(
     rt: &R,
     points: Points,
     eps: u32,
     range: (u32, u32),
-    want: &[Segment],
-) -> Result<(), NoMemory> {
+    rows: &[Row],
+) -> Result<(bool, bool), NoMemory> {
     let (xs, ys) = points;
     let (from, to) = range;
     assert!(rt; rises(xs) && never_falls(ys));
     assert!(rt; eps <= 1_048_576 && xs.len() < 1000 && xs.len() == ys.len());
     assert!(rt; from <= to && to as usize <= xs.len());
-    let segments = segment(rt.alloc(), xs, ys, eps, from, to)?;
-    assert_eq!(rt; segments.as_slice(), want);
-    let counted = counted_from::<Brand>(rt.alloc(), xs, ys, eps, from, to, Blank::new(1))?;
-    assert_eq!(rt; counted.as_slice(), want);
+    let same = has_rows(rt.alloc(), points, eps, range, rows)?;
+    let counted = counts_rows::<Brand>(rt.alloc(), points, eps, range, rows, Blank::new(1))?;
+    Ok((same, counted))
+}
+
+/// Compares the segments of a part, also where steps are counted.
+fn expect_rows<R: Abort + AllocGlobal>(
+    rt: &R,
+    points: Points,
+    eps: u32,
+    range: (u32, u32),
+    rows: &[Row],
+) -> Result<(), NoMemory> {
+    let (same, counted) = compared(rt, points, eps, range, rows)?;
+    expect_of(rt, "segments", points.0, same);
+    expect_of(rt, "counted segments", points.0, counted);
     Ok(())
 }
 
-/// Counts with a counter of its own.
-fn counted_from<L: Ledger>(
+fn expect_cases<R: Abort + AllocGlobal>(rt: &R, cases: &[Case]) -> Result<(), NoMemory> {
+    for (points, eps, range, rows) in cases {
+        expect_rows(rt, *points, *eps, *range, rows)?;
+    }
+    Ok(())
+}
+
+/// Whether it has them where a counter of its own counts the steps.
+fn counts_rows<L: Ledger>(
     alloc: Global,
-    xs: &[u64],
-    ys: &[u32],
+    points: Points,
     eps: u32,
-    from: u32,
-    to: u32,
+    range: (u32, u32),
+    rows: &[Row],
     blank: Blank,
-) -> Result<Vec<Segment>, NoMemory>
-    requires same_length { length ys.now ≡ length xs.now }
-    requires rising { IsStrictlyIncreasing xs.now }
-    requires never_falls { IsNonDecreasing ys.now }
-    requires few { length xs.now < 2 ^ 32 }
+) -> Result<bool, NoMemory>
+    requires same_length { length points.1.now ≡ length points.0.now }
+    requires rising { IsStrictlyIncreasing points.0.now }
+    requires never_falls { IsNonDecreasing points.1.now }
+    requires few { length points.0.now < 2 ^ 32 }
     requires bounded { eps ≤ 1048576 }
-    requires range { from ≤ to }
-    requires within { to ≤ length xs.now }
+    requires range { range.0 ≤ range.1 }
+    requires within { range.1 ≤ length points.0.now }
     requires name { blank.name ≡ L.name }
     requires parts { blank.parts ≡ L.parts }
     requires one { blank.parts ≡ 1 }
 {
     let mut steps = Steps::<L>::new(blank);
-    segment_counted(alloc, xs, ys, eps, from, to, &mut steps)
+    let (xs, ys) = points;
+    let segments = segment_counted(alloc, xs, ys, eps, range.0, range.1, &mut steps)?;
+    Ok(are_rows(&segments, rows))
 }
 
-#[test]
-fn worked_lists(rt: HostRuntime) -> Result<(), Fail> {
+const FOUR: Points = (&[0, 1, 2, 10], &[0, 1, 2, 3]);
+
+const JUMP: Points = (&[0, 10, 11, 12], &[0, 1, 2, 3]);
+
+const SQUARES: Points = (&[0, 1, 4, 9, 16, 25], &[0, 1, 2, 3, 4, 5]);
+
+static WORKED_LISTS: [Case; 8] = [
     // The line through 0 and 1 fits 2 too, and passes far above the point of 10.
-    let four: Points = (&[0, 1, 2, 10], &[0, 1, 2, 3]);
-    let ones = line(0, 0, 1, 1);
-    let last = row(3, 3, 3, line(10, 3, 0, 1), None);
-    let rows = [row(0, 0, 1, ones, under(0, 1, 3)), last];
-    expect_rows(&rt, four, 0, (0, 4), &rows)?;
-    let rows = [row(1, 1, 2, line(1, 1, 1, 1), under(1, 2, 3)), last];
-    expect_rows(&rt, four, 0, (1, 4), &rows)?;
-    expect_rows(&rt, four, 0, (2, 2), &[])?;
-
-    let jump: Points = (&[0, 10, 11, 12], &[0, 1, 2, 3]);
-    let rows = [
-        row(0, 0, 1, line(0, 0, 1, 10), over(0, 1, 2)),
-        row(2, 2, 3, line(11, 2, 1, 1), None),
-    ];
-    expect_rows(&rt, jump, 0, (0, 4), &rows)?;
-    let rows = [row(0, 0, 1, line(0, -1, 3, 10), None)];
-    expect_rows(&rt, jump, 1, (0, 4), &rows)?;
-
-    let squares: Points = (&[0, 1, 4, 9, 16, 25], &[0, 1, 2, 3, 4, 5]);
-    let rows = [
-        row(0, 0, 1, ones, under(0, 1, 2)),
-        row(2, 2, 3, line(4, 2, 1, 5), under(2, 3, 4)),
-        row(4, 4, 5, line(16, 4, 1, 9), None),
-    ];
-    expect_rows(&rt, squares, 0, (0, 6), &rows)?;
-
+    (
+        FOUR,
+        0,
+        (0, 4),
+        &[
+            (0, 0, 1, (0, 0, 1, 1), Some((0, 1, 3, Side::Under))),
+            (3, 3, 3, (10, 3, 0, 1), None),
+        ],
+    ),
+    (
+        FOUR,
+        0,
+        (1, 4),
+        &[
+            (1, 1, 2, (1, 1, 1, 1), Some((1, 2, 3, Side::Under))),
+            (3, 3, 3, (10, 3, 0, 1), None),
+        ],
+    ),
+    (FOUR, 0, (2, 2), &[]),
+    (
+        JUMP,
+        0,
+        (0, 4),
+        &[
+            (0, 0, 1, (0, 0, 1, 10), Some((0, 1, 2, Side::Over))),
+            (2, 2, 3, (11, 2, 1, 1), None),
+        ],
+    ),
+    (JUMP, 1, (0, 4), &[(0, 0, 1, (0, -1, 3, 10), None)]),
+    (
+        SQUARES,
+        0,
+        (0, 6),
+        &[
+            (0, 0, 1, (0, 0, 1, 1), Some((0, 1, 2, Side::Under))),
+            (2, 2, 3, (4, 2, 1, 5), Some((2, 3, 4, Side::Under))),
+            (4, 4, 5, (16, 4, 1, 9), None),
+        ],
+    ),
     // All pairs have one slope, and the first of them is taken.
-    let rows = [row(0, 0, 1, ones, None)];
-    expect_rows(&rt, (&[0, 1, 2, 3], &[0, 1, 2, 3]), 0, (0, 4), &rows)?;
-    let ends: Points = (&[0, u64::MAX], &[0, 1]);
-    let rows = [row(0, 0, 1, line(0, -1_048_576, 2_097_153, u64::MAX), None)];
-    expect_rows(&rt, ends, 1_048_576, (0, 2), &rows)?;
-    Ok(())
+    (
+        (&[0, 1, 2, 3], &[0, 1, 2, 3]),
+        0,
+        (0, 4),
+        &[(0, 0, 1, (0, 0, 1, 1), None)],
+    ),
+    (
+        (&[0, u64::MAX], &[0, 1]),
+        1_048_576,
+        (0, 2),
+        &[(0, 0, 1, (0, -1_048_576, 2_097_153, u64::MAX), None)],
+    ),
+];
+
+#[test]
+fn worked_lists(rt: HostRuntime) -> Result<(), NoMemory> {
+    expect_cases(&rt, &WORKED_LISTS)
 }
 
 // Runs whose steep pair and flat pair differ, neither of them at the first two places.
-#[test]
-fn cuts_by_the_pair_of_their_side(rt: HostRuntime) -> Result<(), Fail> {
+static CUT_BY_SIDE: [Case; 2] = [
     // Over: 0 * 3 + 4 * 10 is above 3 * 13.
-    let rising: Points = (&[3, 4, 14, 15, 16, 17, 20], &[0, 1, 2, 3, 4, 5, 6]);
-    let rows = [
-        row(0, 1, 2, line(4, 0, 3, 10), over(1, 2, 5)),
-        row(5, 5, 6, line(17, 4, 3, 3), None),
-    ];
-    expect_rows(&rt, rising, 1, (0, 7), &rows)?;
+    (
+        (&[3, 4, 14, 15, 16, 17, 20], &[0, 1, 2, 3, 4, 5, 6]),
+        1,
+        (0, 7),
+        &[
+            (0, 1, 2, (4, 0, 3, 10), Some((1, 2, 5, Side::Over))),
+            (5, 5, 6, (17, 4, 3, 3), None),
+        ],
+    ),
     // Under: 2 * 10 + 7 * 5 is below 4 * 15.
-    let slowing: Points = (&[1, 4, 5, 6, 7, 9, 19], &[0, 1, 2, 3, 4, 5, 6]);
-    let rows = [
-        row(0, 0, 5, line(1, -1, 7, 8), under(1, 5, 6)),
-        row(6, 6, 6, line(19, 6, 0, 1), None),
-    ];
-    expect_rows(&rt, slowing, 1, (0, 7), &rows)?;
-    Ok(())
+    (
+        (&[1, 4, 5, 6, 7, 9, 19], &[0, 1, 2, 3, 4, 5, 6]),
+        1,
+        (0, 7),
+        &[
+            (0, 0, 5, (1, -1, 7, 8), Some((1, 5, 6, Side::Under))),
+            (6, 6, 6, (19, 6, 0, 1), None),
+        ],
+    ),
+];
+
+#[test]
+fn cuts_by_the_pair_of_their_side(rt: HostRuntime) -> Result<(), NoMemory> {
+    expect_cases(&rt, &CUT_BY_SIDE)
 }
 
 // Heights that repeat and jump: y is not the place.
-#[test]
-fn heights_of_their_own(rt: HostRuntime) -> Result<(), Fail> {
-    let stairs: Points = (&[0, 1, 2, 3], &[5, 5, 5, 90]);
-    let rows = [
-        row(0, 0, 1, line(0, 5, 0, 1), over(0, 1, 3)),
-        row(3, 3, 3, line(3, 90, 0, 1), None),
-    ];
-    expect_rows(&rt, stairs, 0, (0, 4), &rows)?;
+static HEIGHTS: [Case; 3] = [
+    (
+        (&[0, 1, 2, 3], &[5, 5, 5, 90]),
+        0,
+        (0, 4),
+        &[
+            (0, 0, 1, (0, 5, 0, 1), Some((0, 1, 3, Side::Over))),
+            (3, 3, 3, (3, 90, 0, 1), None),
+        ],
+    ),
     // Of the steep slopes 5/2, 5/4, 8/6, 2/2, 5/4 and 5/2 that of the places 1 and 2 is the least.
-    let leaps: Points = (&[0, 2, 4, 6], &[0, 3, 3, 6]);
-    let rows = [row(0, 1, 2, line(2, 2, 2, 2), None)];
-    expect_rows(&rt, leaps, 1, (0, 4), &rows)?;
+    (
+        (&[0, 2, 4, 6], &[0, 3, 3, 6]),
+        1,
+        (0, 4),
+        &[(0, 1, 2, (2, 2, 2, 2), None)],
+    ),
     // The greatest heights that a list can have.
-    let high: Points = (&[0, 10, 20, 21], &[0, 0, u32::MAX, u32::MAX]);
-    let rows = [
-        row(0, 0, 1, line(0, 0, 0, 10), over(0, 1, 2)),
-        row(2, 2, 3, line(20, 4_294_967_295, 0, 1), None),
-    ];
-    expect_rows(&rt, high, 0, (0, 4), &rows)?;
-    Ok(())
+    (
+        (&[0, 10, 20, 21], &[0, 0, u32::MAX, u32::MAX]),
+        0,
+        (0, 4),
+        &[
+            (0, 0, 1, (0, 0, 0, 10), Some((0, 1, 2, Side::Over))),
+            (2, 2, 3, (20, 4_294_967_295, 0, 1), None),
+        ],
+    ),
+];
+
+#[test]
+fn heights_of_their_own(rt: HostRuntime) -> Result<(), NoMemory> {
+    expect_cases(&rt, &HEIGHTS)
+}
+
+/// A hundred keys, 10 apart but for a jump after 48 places.
+fn hundred(jump: u32) -> [u64; 100] {
+    let mut xs = [0u64; 100];
+    for i in 0..100 {
+        let moved = if i < 48 { 0 } else { u64::from(jump) };
+        xs[i] = moved + 10 * i as u64;
+    }
+    xs
+}
+
+/// The numbers from 0 on.
+fn places() -> [u32; 100] {
+    let mut ys = [0u32; 100];
+    for i in 0..100 {
+        ys[i] = i as u32;
+    }
+    ys
 }
 
 // The steep slope of two places is 1 / 10 and 8 over their distance, so the ends are the pair.
-#[test]
-fn runs_of_many_places(rt: HostRuntime) -> Result<(), Fail> {
-    let mut xs = [0u64; 100];
-    let mut ys = [0u32; 100];
-    for i in 0..100 {
-        xs[i] = 10 * i as u64;
-        ys[i] = i as u32;
-    }
-    let rows = [row(0, 0, 99, line(0, -4, 107, 990), None)];
-    expect_rows(&rt, (&xs, &ys), 4, (0, 100), &rows)?;
+static MANY_PLACES: [(u32, &[Row]); 2] = [
+    (0, &[(0, 0, 99, (0, -4, 107, 990), None)]),
     // A jump of the keys after 48 places. The line of the least slope passes far above the next.
-    for i in 48..100 {
-        xs[i] = 100_000 + 10 * i as u64;
+    (
+        100_000,
+        &[
+            (0, 0, 47, (0, -4, 55, 470), Some((0, 47, 48, Side::Under))),
+            (48, 48, 99, (100_480, 44, 59, 510), None),
+        ],
+    ),
+];
+
+#[test]
+fn runs_of_many_places(rt: HostRuntime) -> Result<(), NoMemory> {
+    for (jump, rows) in &MANY_PLACES {
+        let points: Points = (&hundred(*jump), &places());
+        expect_rows(&rt, points, 4, (0, 100), rows)?;
     }
-    let rows = [
-        row(0, 0, 47, line(0, -4, 55, 470), under(0, 47, 48)),
-        row(48, 48, 99, line(100_480, 44, 59, 510), None),
-    ];
-    expect_rows(&rt, (&xs, &ys), 4, (0, 100), &rows)?;
     Ok(())
 }

@@ -9,10 +9,10 @@ use budget::Steps;
 use std::marker::Brand;
 use std::sync::ledger::{Blank, Ledger};
 
-/// The error bound of level 0 for which [`Index::position_near`] is made.
+/// The error bound of level 0, in places, for which [`Index::position_near`] is made.
 pub const EPS: u32 = 64;
 
-/// The error bound of the levels above it.
+/// That of the levels above it, in places.
 pub const EPS_REC: u32 = 4;
 
 /// So many keys are a group.

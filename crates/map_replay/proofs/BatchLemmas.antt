@@ -1,4 +1,4 @@
--- Updates cut into batches, and what prefixes of them show.
+-- What prefixes of batches show.
 use Rattle.std.proofs.Common.{◌≡◌, ◌≤◌, ◌<◌, ◌+◌, ◌-◌, ◌++◌, ◌∷◌, [], ℕ, List, length, take, drop, min, zero, suc, ap, sym, refl, ◌∙◌, subst, arith, append_assoc, length-append}
 use Rattle.std.specs.Prelude.{All, ⊤}
 use Rattle.std.proofs.lemmas.List.{take-append-drop, take_min, length-drop}
@@ -16,23 +16,8 @@ use Rattle.map_replay.specs.declared.reading.Reading.{Reading}
 use Rattle.map_replay.specs.Crews.{HasSeen}
 use Rattle.map_replay.specs.Questions.{answer_of}
 use Rattle.map_replay.specs.Readings.{IsAmong, IsPublished, AreAnswers, IsReadingOf, IsWholeReading, IsWholeReadingOf, IsWholeMixedReading}
-use Rattle.map_replay.specs.Watching.{AreBatches, IsSeen, AreSeen, WasAsked}
-
--- batches that all have this size
-abbrev pub AreFull : ℕ → List (List Update) → Type 0
-AreFull size [] = ⊤
-AreFull size (batch ∷ later) = (length batch ≡ size) × AreFull size later
-
-pub full_more : (size : ℕ) (batches : List (List Update)) (batch : List Update) → AreFull size batches → length batch ≡ size → AreFull size (batches ++ batch ∷ [])
-full_more size [] batch full same = (same, tt)
-full_more size (b ∷ batches) batch full same = (full.0, full_more size batches batch full.1 same)
-
--- behind full batches one more may be shorter
-pub batches_more : (size : ℕ) (batches : List (List Update)) (batch : List Update) → AreFull size batches → 0 < length batch → length batch ≤ size →
-    AreBatches size (batches ++ batch ∷ [])
-batches_more size [] batch full some few = (some, few)
-batches_more size (b ∷ []) batch full some few = (full.0, (some, few))
-batches_more size (b ∷ c ∷ batches) batch full some few = (full.0, batches_more size (c ∷ batches) batch full.1 some few)
+use Rattle.batches.specs.Batches.{AreBatches}
+use Rattle.map_replay.specs.Watching.{IsSeen, AreSeen, WasAsked}
 
 count_of-cons : (batch : List Update) (batches : List (List Update)) → count_of (batch ∷ batches) ≡ length batch + count_of batches
 count_of-cons batch batches = length-append batch (updates_of batches)
@@ -92,10 +77,6 @@ same_updates history shown begins same =
     let none = no_update (updates_of begins.0) (omega (arith, same, ap (λ (l : List Update). length l) split, length-append (updates_of history) (updates_of begins.0))) in
     split ∙ ap (λ (l : List Update). updates_of history ++ l) none ∙ append_nil (updates_of history)
 
--- entries of fewer updates are fewer
-pub fewer_entries : (xs ys : List Update) → length (entries_of xs) ≤ length (entries_of (xs ++ ys))
-fewer_entries xs ys = omega (arith, ap (λ l. length l) (entries_of-append xs ys), length-append (entries_of xs) (entries_from (map_after xs) ys))
-
 -- what was seen in a history that has the updates is a reading of them
 module _ (updates : List Update) (history shown : List (List Update)) (all : updates_of history ≡ updates) (begins : IsPrefix history shown)
     (same : count_of shown ≡ count_of history) (IsLength : ℕ → Type 0) (lengths : (prefix : List (List Update)) → IsPrefix prefix shown → IsLength (count_of prefix)) where
@@ -150,24 +131,3 @@ module _ (updates : List Update) (history : List (List Update)) (all : updates_o
   whole_as_they_came =
       whole_reading (IsAmong (length updates)) (λ shown prefix begins same starts.
       omega (arith, prefix_count prefix shown starts, same, ap (λ (l : List Update). length l) all))
-
--- a batch, between the updates before it and those behind it
-pub around : (n m : ℕ) (xs : List Update) → (take n xs ++ take m (drop n xs)) ++ drop m (drop n xs) ≡ xs
-around n m xs =
-    append_assoc (take n xs) (take m (drop n xs)) (drop m (drop n xs))
-    ∙ (ap (λ (l : List Update). take n xs ++ l) (take-append-drop m (drop n xs)) ∙ take-append-drop n xs)
-
-take-add : (n m : ℕ) (xs : List Update) → take (n + m) xs ≡ take n xs ++ take m (drop n xs)
-take-add zero m xs = let none : 0 + m ≡ m = omega arith in ap (λ (k : ℕ). take k xs) none
-take-add (suc n) zero [] = let same : suc n + 0 ≡ suc n = omega arith in ap (λ (k : ℕ). take k []) same
-take-add (suc n) (suc m) [] = let same : suc n + suc m ≡ suc (n + suc m) = omega arith in ap (λ (k : ℕ). take k []) same
-take-add (suc n) m (x ∷ xs) =
-    let more : suc n + m ≡ suc (n + m) = omega arith in
-    ap (λ (k : ℕ). take k (x ∷ xs)) more ∙ ap (λ (l : List Update). x ∷ l) (take-add n m xs)
-
--- the first updates with one batch more, which the end may cut off
-pub batch_more : (from size to : ℕ) (xs : List Update) → from ≤ length xs → to ≡ min (length xs) (from + size) →
-    take (from + size) xs ≡ take from xs ++ take (to - from) (drop from xs)
-batch_more from size to xs within to_is =
-    take-add from size xs ∙ ap (λ (l : List Update). take from xs ++ l)
-    (sym (take_min size (drop from xs)) ∙ ap (λ (n : ℕ). take n (drop from xs)) (omega (arith, length-drop from xs, within, to_is)))

@@ -1,6 +1,5 @@
 pub mod WatchingLemmas
 pub mod BatchLemmas
-pub mod ThreePuts
 pub mod DealLemmas
 pub mod PlaceLemmas
 pub mod MixLemmas

@@ -20,7 +20,8 @@ use Rattle.map_replay.specs.declared.source.Played.{Played}
 use Rattle.map_replay.specs.declared.reading.Reading.{Reading}
 use Rattle.map_replay.specs.Mixes.{IsMix}
 use Rattle.map_replay.specs.Readings.{Left}
-use Rattle.map_replay.specs.Watching.{AreBatches, WasAsked}
+use Rattle.batches.specs.Batches.{AreBatches}
+use Rattle.map_replay.specs.Watching.{WasAsked}
 
 -- a reader that was asked these questions
 abbrev pub HasAsked : {M : Type 0} {name : Ghosts M} → List Question → Watched M name → Type 0

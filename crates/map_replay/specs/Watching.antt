@@ -25,9 +25,3 @@ pub record WasAsked (batches : List (List Update)) (questions : List Question) (
   pub seen : AreSeen batches questions sightings
   pub never_falls : IsNonDecreasingBy (λ (sighting : Sighting). sighting.length) sightings
   pub known : All (λ (sighting : Sighting). sighting.length ≤ count_of batches) sightings
-
--- batches of one size, of which the last may be shorter
-abbrev pub AreBatches : ℕ → List (List Update) → Type 0
-AreBatches size [] = ⊤
-AreBatches size (batch ∷ []) = (0 < length batch) × (length batch ≤ size)
-AreBatches size (batch ∷ next ∷ later) = (length batch ≡ size) × AreBatches size (next ∷ later)

@@ -25,13 +25,9 @@ mod replaying;
 mod settling;
 mod source;
 mod threads;
-mod updating;
 
 pub use options::Plan;
 pub use question::{Answer, Asked, Question};
 pub use reading::{Reading, Sighting};
 pub use replaying::{Replayed, mix, replay};
 pub use source::Dealing;
-
-#[cfg(test)]
-mod tests;

@@ -9,8 +9,9 @@ ghost use Rattle.map_replay.specs.Crews.{IsPlayed, IsReady};
 use crate::crew::{Ended, Hall, Seat};
 use crate::question::{Answer, Asked, Question};
 use crate::reading::{Reading, Sighting};
-use crate::source::{Batching, Came, Dealing, Order, Played, Source};
+use crate::source::{Came, Dealing, Order, Played, Source};
 use crate::threads::read_beside;
+use batches::{Batching, slots_for};
 use budget::NoMemory;
 use edge::Gate;
 use log_levels::Update;
@@ -305,15 +306,4 @@ fn seats_for<M: MapName>(
         })?;
     }
     Ok(seats)
-}
-
-/// So many empty slots.
-pub fn slots_for<M: MapName>(alloc: Global, count: usize) -> Result<Vec<Slot<M>>, AllocError>
-    ensures { IfOk result (λ slots. vec_len slots ≡ count) }
-{
-    let mut slots = Vec::with_capacity(alloc, count)?;
-    for _number in 0..count {
-        slots.push(Slot::new())?;
-    }
-    Ok(slots)
 }

@@ -8,7 +8,7 @@ ghost use Rattle.map_replay.specs.Crews.{HasAsked, IsEnd};
 
 use crate::crew::{Ended, Watched};
 use crate::reading::{Reading, Sighting};
-use crate::threads::look_until;
+use batches::look_until;
 use published::{Look, MapName, Note, PlainDoor, Reader, Writer};
 use std::sync::Wait;
 

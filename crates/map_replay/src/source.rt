@@ -2,17 +2,8 @@
 ghost use Rattle.std.specs.Prelude.{◌≤◌};
 
 use crate::crew::Ended;
+use batches::Batching;
 use log_levels::Update;
-
-/// How updates are published: in batches of so many, each built by so many workers.
-#[derive(Clone, Copy, Debug)]
-pub struct Batching {
-    pub size: u32,
-    pub workers: u32,
-    pub ghost some: { 1 ≤ size },
-    pub ghost staffed: { 1 ≤ workers },
-    pub ghost few: { workers ≤ 64 },
-}
 
 /// How updates are dealt out to senders.
 #[derive(Clone, Copy, Debug)]
@@ -28,7 +19,7 @@ pub struct Dealing {
 }
 
 /// In which order the updates come.
-#[derive(Clone, Copy, Debug)]
+#[derive(Clone, Copy)]
 pub enum Order {
     /// In turn.
     InTurn,

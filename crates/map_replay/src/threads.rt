@@ -1,7 +1,6 @@
 // Readers in threads of their own, beside the writer.
 ghost use Rattle.std.specs.Prelude.{◌≡◌, ◌+◌, ◌≤◌, ◌<◌, ◌++◌, ◌∷◌, [], List, All, length};
 ghost use Rattle.std.specs.Prelude.{IfOk, OnOk, vec_len, vec_capacity};
-ghost use mathlib.Core.List.{IsPrefix};
 ghost use Rattle.map_replay.specs.declared.question.Question.{Question};
 ghost use Rattle.map_replay.specs.Watching.{WasAsked};
 ghost use Rattle.map_replay.specs.Crews.{AreForOrder, HasAsked, HasRoom, HoldsAll};
@@ -14,10 +13,10 @@ use crate::question::{Asked, Question};
 use crate::reading::Sighting;
 use crate::settling::settled;
 use crate::source::{Came, Order, Played, Source};
-use crate::updating::publish_all;
+use batches::{learn_newest, look_until, publish_all};
 use budget::NoMemory;
 use edge::{Gate, Place};
-use published::{Look, MapName, PlainDoor, Reader, Slot, Writer};
+use published::{MapName, PlainDoor, Slot, Writer};
 use std::alloc::Global;
 use std::sync::Wait;
 use std::sync::atomic::AtomicU32;
@@ -63,32 +62,6 @@ fn watch<M: MapName + Send + Sync, R: Wait + Sync, G: Gate>(
         sightings,
         of,
     }
-}
-
-/// Takes the newest note out of the reader's slot, if there is one, and learns it.
-pub fn learn_newest<M: MapName + Send + Sync, R: Wait>(rt: &R, reader: &mut Reader, slot: &Slot<M>)
-    requires { reader.old.origin ≡ M.origin }
-    ensures seen { IsPrefix reader.old.batches reader.new.batches }
-    ensures own { reader.new.origin ≡ reader.old.origin }
-{
-    if let Some(note) = slot.take(rt) {
-        reader.learn(note);
-    }
-}
-
-/// Looks until the door lets the reader in.
-pub fn look_until<R: Wait>(rt: &R, reader: Reader, door: &mut PlainDoor) -> Look
-    ensures shown { IsPrefix reader.batches result.batches }
-    ensures own { result.origin ≡ reader.origin }
-{
-    let mut reader = reader;
-    for _turn in rt.forever() {
-        match reader.look(door) {
-            Ok(look) => return look,
-            Err(back) => reader = back,
-        }
-    }
-    unreachable!()
 }
 
 /// Starts a reader in a thread of the scope, or lets it go through its questions here.

@@ -6,6 +6,8 @@
 #![tactic(auto)]
 
 #[cfg(test)]
+mod batches_rows;
+#[cfg(test)]
 mod drill_inputs_rows;
 #[cfg(test)]
 mod log_levels_draws;

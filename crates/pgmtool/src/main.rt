@@ -1,39 +1,11 @@
 //! `pgmtool` builds a PGM-index over a key file, writes it as text, and answers questions by it.
 //!
-//! `pgmtool build FILE` writes how many levels the index has and how many segments each level,
-//! `pgmtool explain FILE` each segment too, with three places that show why it ends,
-//! `pgmtool query FILE SCRIPT` how many keys are below each question of the script, `pgmtool relax
-//! FILE SCRIPT` both, of an index whose pieces aren't joined, `pgmtool box FILE SCRIPT` the points
-//! in each box of the script, `pgmtool near FILE SCRIPT` those nearest to each centre,
-//! `pgmtool replay SCRIPT` what a map says after the updates of the script, `pgmtool save FILE` the
-//! index as bytes, and `pgmtool check FILE INDEX` whether such bytes are the index of the keys. Of
-//! the keys 0, 1, 2, 10, `explain` writes with both bounds 0:
-//!
-//! ```text
-//! keys 4 distinct 4 levels 2
-//! level 0 list 4 eps 0 runs 2
-//! run 0 3 pair 0 1 line 0 0 1 1 cut under 0 1 3
-//! run 3 4 pair 3 3 line 10 3 0 1 end
-//! level 1 list 2 eps 0 runs 1
-//! run 0 2 pair 0 1 line 0 0 1 10 end
-//! ```
-//!
-//! Everything that is claimed of the program stands on [`run`]. The words of its clauses are in
-//! `specs/`.
+//! Makes the real objects, the words, the files and the output, and calls [`run`] of the crate
+//! `program`, on which everything stands that is claimed of the program.
 #![tactic(auto)]
 
-mod history;
-mod inputs;
-mod judging;
-mod refusal;
-mod run;
-mod status;
-#[cfg(test)]
-mod tests;
-
 use edge::{FileShelf, OpenGate, OutSink};
-pub use run::run;
-pub use status::Status;
+use program::{Status, run};
 use std::alloc::AllocError;
 use std::process::ExitCode;
 use std::rt::{Env, Files};

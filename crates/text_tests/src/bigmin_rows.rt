@@ -1,18 +1,20 @@
 //! Next codes that a plain program found by going through all points of each box, and each call
 //! once.
 
-ghost use Rattle.zorder.specs.Codes.{IsDimension, IsInRange};
+ghost use Rattle.zorder.specs.Regions.{IsEmpty, IsRegion};
 
+use crate::expected::expect;
+use crate::zorder_rows::{expect_code, expect_range};
 use bigmin::{next_by_corners, next_in_box};
 use std::process::Abort;
-use zorder::{Corners, Region, fits_range, is_empty};
+use zorder::{Corners, Region, is_empty};
 
 /// A dimension, a box by its low and its high corner, a code, and the next code in the box.
 type Row = (u32, [u32; 4], [u32; 4], u64, Option<u64>);
 
 /// The square from (1, 1) to (2, 2), empty boxes and boxes of one point, both ends of the
 /// coordinates, and some boxes by chance.
-const ROWS: [Row; 45] = [
+static ROWS: [Row; 45] = [
     (2, [1, 1, 0, 0], [2, 2, 0, 0], 0, Some(3)),
     (2, [1, 1, 0, 0], [2, 2, 0, 0], 2, Some(3)),
     (2, [1, 1, 0, 0], [2, 2, 0, 0], 3, Some(6)),
@@ -132,34 +134,38 @@ const ROWS: [Row; 45] = [
     (4, [9, 1, 7, 0], [10, 3, 8, 1], 52153, None),
 ];
 
-fn in_range(d: u32, corner: [u32; 4], rt: &impl Abort)
-    requires dimension { IsDimension d }
-    ensures { IsInRange d corner }
+/// The next code, from the corners that are made once for a box.
+fn by_corners(z: u64, region: &Region) -> Option<u64>
+    requires region { IsRegion region.now }
+    requires some_inside { ¬ IsEmpty region.now }
 {
-    assert!(rt; fits_range(d, corner[0]));
-    assert!(rt; fits_range(d, corner[1]));
-    assert!(rt; fits_range(d, corner[2]));
-    assert!(rt; fits_range(d, corner[3]));
+    next_by_corners(z, region, &Corners::of(region))
 }
 
-fn check_row(rt: &impl Abort, row: Row) {
-    let (d, low, high, z, next) = row;
-    assert!(rt; d == 2 || d == 3 || d == 4);
-    assert!(rt; d != 3 || z < 1 << 63);
-    in_range(d, low, rt);
-    in_range(d, high, rt);
+/// Whether the next code, or the low corner where there is none, is between the corners.
+fn is_next_inside(region: &Region, next: Option<u64>) -> bool
+    requires { IsRegion region.now }
+{
+    let corners = Corners::of(region);
+    corners.inside(region, next.unwrap_or(corners.low))
+}
+
+fn check_row(rt: &impl Abort, row: &Row) {
+    let (d, low, high, z, next) = *row;
+    expect_code(rt, d, z);
+    expect_range(rt, d, low);
+    expect_range(rt, d, high);
     let region = Region { d, low, high };
-    assert_eq!(rt; next_in_box(z, &region), next);
+    expect(rt, (low, high, z), next_in_box(z, &region), next);
     if !is_empty(&region) {
-        let corners = Corners::of(&region);
-        assert_eq!(rt; next_by_corners(z, &region, &corners), next);
-        assert!(rt; corners.inside(&region, next.unwrap_or(corners.low)));
+        expect(rt, (low, high, z), by_corners(z, &region), next);
+        expect(rt, (low, high, z), is_next_inside(&region, next), true);
     }
 }
 
 #[test]
 fn rows_of_boxes(rt: HostRuntime) {
-    for row in ROWS {
+    for row in &ROWS {
         check_row(&rt, row);
     }
 }

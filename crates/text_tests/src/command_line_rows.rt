@@ -1,13 +1,13 @@
 // What no clause says: command lines and what they ask for, and that requests come at all.
+use crate::expected::expect;
 use command_line::{Building, NoRequest, Request, requested};
 use options::Plan;
-use std::process::Abort;
-use std::test::Fail;
+use std::alloc::Global;
 
 // Command lines, with a space between two words, and what they ask for: a command, its one or two
 // names, and its numbers, with 1 for a flag that is given. The numbers of an index are its two
 // error bounds, its workers, and whether its keys are narrow.
-const TAKEN: [(&str, &str); 41] = [
+static TAKEN: [(&str, &str); 41] = [
     // All defaults, and another command.
     ("pgmtool explain keys", "explain keys, [64, 4, 4, 0, 0, 0]"),
     ("pgmtool build keys", "build keys, [64, 4, 4, 0, 0, 0]"),
@@ -170,7 +170,7 @@ const TAKEN: [(&str, &str); 41] = [
 ];
 
 // Command lines that are no command, though each is near one.
-const REFUSED: [(&str, &str); 70] = [
+static REFUSED: [(&str, &str); 70] = [
     ("no command", "pgmtool"),
     ("a command that isn't there", "pgmtool nothing keys"),
     ("a command's name abbreviated", "pgmtool expl keys"),
@@ -291,13 +291,14 @@ const REFUSED: [(&str, &str); 70] = [
     ("the version of a command", "pgmtool explain --version"),
 ];
 
-// The words as a program gets them.
-fn words_of<R: AllocGlobal>(rt: &R, line: &str) -> Result<Vec<String>, Fail> {
-    let mut words = Vec::new(rt.alloc());
+// The words as a program gets them; none where memory wasn't found.
+fn words_of(alloc: Global, line: &str) -> Option<Vec<String>> {
+    let mut words = Vec::new(alloc);
     for word in line.split(' ') {
-        words.push(String::from_str(rt.alloc(), word)?)?;
+        let word = String::from_str(alloc, word).ok()?;
+        words.push(word).ok()?;
     }
-    Ok(words)
+    Some(words)
 }
 
 // What a request asks for, beside its numbers: its command and its names.
@@ -377,35 +378,37 @@ fn numbers_of(request: Request<'_>) -> [u32; 6] {
     }
 }
 
-fn check_taken<R: AllocGlobal + Abort>(rt: &R, line: &str, asked: &str) -> Result<(), Fail> {
-    let words = words_of(rt, line)?;
-    let request = requested(rt.alloc(), &words)?;
+// Whether a request, as the rows write it, is this.
+fn is_told(alloc: Global, request: Request<'_>, asked: &str) -> bool {
     let (command, file, script) = names_of(request);
     let numbers = numbers_of(request);
-    let told = format!(in rt.alloc(); "{command} {file},{script} {numbers:?}")?;
-    assert_eq!(rt; told.as_str(), asked, "{line}");
-    Ok(())
+    match format!(in alloc; "{command} {file},{script} {numbers:?}") {
+        Ok(told) => told.as_str() == asked,
+        Err(_) => false,
+    }
 }
 
-fn check_refused<R: AllocGlobal + Abort>(rt: &R, name: &str, line: &str) -> Result<(), Fail> {
-    let words = words_of(rt, line)?;
-    let refused = requested(rt.alloc(), &words).err();
-    assert_eq!(rt; refused, Some(NoRequest::Usage), "{name}");
-    Ok(())
+// Whether a line asks for this, or why it is no request.
+fn reading(alloc: Global, line: &str, asked: &str) -> Option<Result<bool, NoRequest>> {
+    let words = words_of(alloc, line)?;
+    match requested(alloc, &words) {
+        Ok(request) => Some(Ok(is_told(alloc, request, asked))),
+        Err(refused) => Some(Err(refused)),
+    }
 }
 
 #[test]
-fn lines_ask_for_their_command(rt: HostRuntime) -> Result<(), Fail> {
+fn lines_ask_for_their_command(rt: HostRuntime) {
     for (line, asked) in &TAKEN {
-        check_taken(&rt, line, asked)?;
+        let found = reading(rt.alloc(), line, asked);
+        expect(&rt, *line, found, Some(Ok(true)));
     }
-    Ok(())
 }
 
 #[test]
-fn other_lines_are_no_command(rt: HostRuntime) -> Result<(), Fail> {
+fn other_lines_are_no_command(rt: HostRuntime) {
     for (name, line) in &REFUSED {
-        check_refused(&rt, name, line)?;
+        let found = reading(rt.alloc(), line, "");
+        expect(&rt, *name, found, Some(Err(NoRequest::Usage)));
     }
-    Ok(())
 }

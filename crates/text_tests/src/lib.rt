@@ -10,7 +10,11 @@ mod bigmin_rows;
 #[cfg(test)]
 mod command_line_rows;
 #[cfg(test)]
+mod expected;
+#[cfg(test)]
 mod pgm_script_rows;
+#[cfg(test)]
+mod shelves;
 #[cfg(test)]
 mod sosd_reader_rows;
 #[cfg(test)]

@@ -1,10 +1,10 @@
 // Numbers at the ends of their lengths.
 
-use std::test::Fail;
+use crate::expected::expect;
 use written::TextLine;
 
 // A number, and its text.
-const ENDS: [(u64, &[u8]); 12] = [
+static ENDS: [(u64, &[u8]); 12] = [
     (0, b" 0"),
     (9, b" 9"),
     (10, b" 10"),
@@ -19,44 +19,44 @@ const ENDS: [(u64, &[u8]); 12] = [
     (u64::MAX, b" 18446744073709551615"),
 ];
 
+// Whether a number is written the same in both ways, whatever the lines held before.
+fn is_one_text(copied: &mut TextLine, written: &mut TextLine, number: u64) -> bool {
+    copied.clear();
+    copied.push_number(number);
+    written.clear();
+    written.push_u64(number);
+    written.as_bytes() == copied.as_bytes()
+}
+
 #[test]
-fn numbers(rt: HostRuntime) -> Result<(), Fail> {
+fn numbers(rt: HostRuntime) {
     let mut copied = TextLine::new();
     let mut written = TextLine::new();
-    for (number, text) in ENDS {
-        copied.clear();
-        copied.push_number(number);
-        assert_eq!(rt; copied.as_bytes(), text);
-        written.clear();
-        written.push_u64(number);
-        assert_eq!(rt; written.as_bytes(), text);
+    for (number, text) in &ENDS {
+        let is_one = is_one_text(&mut copied, &mut written, *number);
+        let found = (is_one, written.as_bytes() == *text);
+        expect(&rt, *number, found, (true, true));
     }
-    Ok(())
 }
 
 // All lengths, at both ends.
 #[test]
-fn lengths(rt: HostRuntime) -> Result<(), Fail> {
+fn lengths(rt: HostRuntime) {
     let mut copied = TextLine::new();
     let mut written = TextLine::new();
     let mut power = 1u64;
     for _ in 0..20 {
-        for number in [power.saturating_sub(1), power] {
-            copied.clear();
-            copied.push_number(number);
-            written.clear();
-            written.push_u64(number);
-            assert_eq!(rt; written.as_bytes(), copied.as_bytes());
-        }
+        let below = is_one_text(&mut copied, &mut written, power.saturating_sub(1));
+        let at = is_one_text(&mut copied, &mut written, power);
+        expect(&rt, power, (below, at), (true, true));
         power = power.saturating_mul(10);
     }
-    Ok(())
 }
 
 #[test]
-fn places(rt: HostRuntime) -> Result<(), Fail> {
+fn places(rt: HostRuntime) {
     let mut line = TextLine::new();
     line.push_places(b"run", 0, u32::MAX);
-    assert_eq!(rt; line.as_bytes(), b"run 0 4294967295".as_slice());
-    Ok(())
+    let is_wanted = line.as_bytes() == b"run 0 4294967295".as_slice();
+    expect(&rt, "run 0 4294967295", is_wanted, true);
 }

@@ -1,12 +1,17 @@
 //! Codes that a plain program worked out bit by bit, and each call once.
 
+ghost use Rattle.std.specs.Prelude.{IsTrue};
+ghost use Rattle.zorder.specs.Codes.{IsCode, IsDimension, IsInRange};
+ghost use Rattle.zorder.specs.Regions.{IsRegion};
+
+use crate::expected::expect;
 use std::process::Abort;
 use zorder::{
     Corners, Region, decode, decode_pairs, decode_triples, encode, fits_range, inside, is_empty,
 };
 
 /// Points and their codes: the least and greatest of each coordinate, and mixed ones.
-const ROWS: [(u32, [u32; 4], u64); 23] = [
+static ROWS: [(u32, [u32; 4], u64); 23] = [
     (2, [0, 0, 0, 0], 0),
     (2, [5, 3, 0, 0], 27),
     (2, [0xffff_ffff, 0, 0, 0], 0x5555_5555_5555_5555),
@@ -36,155 +41,211 @@ const ROWS: [(u32, [u32; 4], u64); 23] = [
     (4, [0xbeef, 0x1234, 0x8001, 0x7fff], 0x589b_99b8_99ba_9b9d),
 ];
 
+/// Whether the coordinates are in range.
+fn are_in_range(d: u32, coords: [u32; 4]) -> bool
+    requires { IsDimension d }
+    ensures { IsTrue result → IsInRange d coords }
+{
+    fits_range(d, coords[0])
+        && fits_range(d, coords[1])
+        && fits_range(d, coords[2])
+        && fits_range(d, coords[3])
+}
+
+/// Fails unless the coordinates are in range.
+pub(crate) fn expect_range(rt: &impl Abort, d: u32, coords: [u32; 4])
+    requires { IsDimension d }
+    ensures { IsInRange d coords }
+{
+    assert!(rt; are_in_range(d, coords));
+}
+
+/// Fails unless it is a code of so many coordinates, from 2 to 4.
+pub(crate) fn expect_code(rt: &impl Abort, d: u32, z: u64)
+    ensures dimension { IsDimension d }
+    ensures code { IsCode d z }
+{
+    assert!(rt; d == 2 || d == 4 || d == 3 && z < 1 << 63);
+}
+
 /// A row, once it is known that its point and its code are in range.
 fn check_row(rt: &impl Abort, d: u32, coords: [u32; 4], z: u64) {
-    assert!(rt; d == 2 || d == 3 || d == 4);
-    assert!(rt; fits_range(d, coords[0]));
-    assert!(rt; fits_range(d, coords[1]));
-    assert!(rt; fits_range(d, coords[2]));
-    assert!(rt; fits_range(d, coords[3]));
-    assert!(rt; d != 3 || z < 1 << 63);
-    assert_eq!(rt; encode(d, &coords), z);
-    assert_eq!(rt; decode(d, z), coords);
+    expect_code(rt, d, z);
+    expect_range(rt, d, coords);
+    expect(rt, (d, coords), encode(d, &coords), z);
+    expect(rt, (d, z), decode(d, z), coords);
 }
 
 #[test]
 fn rows_of_codes(rt: HostRuntime) {
-    for (d, coords, z) in ROWS {
-        check_row(&rt, d, coords, z);
+    for (d, coords, z) in &ROWS {
+        check_row(&rt, *d, *coords, *z);
     }
 }
+
+/// Codes of two coordinates above, ..
+const PAIR_CODES: [u64; 7] = [
+    0x535c_4e71_677c_7ed5,
+    27,
+    0x5555_5555_5555_5555,
+    0xaaaa_aaaa_aaaa_aaaa,
+    0xffff_ffff_ffff_ffff,
+    0x4000_0000_0000_0002,
+    0x535c_4e71_677c_7ed5,
+];
+
+/// .. and their coordinates, with what stands behind them.
+const PAIRS: [(u32, u32); 8] = [
+    (0xdead_beef, 0x1234_5678),
+    (5, 3),
+    (0xffff_ffff, 0),
+    (0, 0xffff_ffff),
+    (0xffff_ffff, 0xffff_ffff),
+    (0x8000_0000, 1),
+    (0xdead_beef, 0x1234_5678),
+    (7, 9),
+];
 
 /// The codes of two coordinates above, once more: four at once, and three by themselves. What
 /// stands behind them stays.
 #[test]
 fn pairs_at_once(rt: HostRuntime) {
-    let codes: [u64; 7] = [
-        0x535c_4e71_677c_7ed5,
-        27,
-        0x5555_5555_5555_5555,
-        0xaaaa_aaaa_aaaa_aaaa,
-        0xffff_ffff_ffff_ffff,
-        0x4000_0000_0000_0002,
-        0x535c_4e71_677c_7ed5,
-    ];
     let mut firsts = [7u32; 8];
     let mut seconds = [9u32; 8];
-    decode_pairs(&codes, &mut firsts, &mut seconds);
-    let xs: [u32; 8] = [
-        0xdead_beef,
-        5,
-        0xffff_ffff,
-        0,
-        0xffff_ffff,
-        0x8000_0000,
-        0xdead_beef,
-        7,
-    ];
-    let ys: [u32; 8] = [
-        0x1234_5678,
-        3,
-        0,
-        0xffff_ffff,
-        0xffff_ffff,
-        1,
-        0x1234_5678,
-        9,
-    ];
+    decode_pairs(&PAIR_CODES, &mut firsts, &mut seconds);
     for i in 0..8 {
-        assert_eq!(rt; firsts[i], xs[i]);
-        assert_eq!(rt; seconds[i], ys[i]);
+        expect(&rt, i, (firsts[i], seconds[i]), PAIRS[i]);
     }
 }
+
+/// Codes of three coordinates above, and the greatest number, which is no code, ..
+const TRIPLE_CODES: [u64; 10] = [
+    0x4105_59e5_9d5c_65c5,
+    7,
+    0x1249_2492_4924_9249,
+    0x2492_4924_9249_2492,
+    0x4924_9249_2492_4924,
+    0x7fff_ffff_ffff_ffff,
+    0x1000_0000_0000_0004,
+    0xffff_ffff_ffff_ffff,
+    0x4105_59e5_9d5c_65c5,
+    0x1000_0000_0000_0004,
+];
+
+/// .. and their coordinates, with what stands behind them.
+const TRIPLES: [(u32, u32, u32); 11] = [
+    (0x1_2345, 0xfedc, 0x15_5555),
+    (1, 1, 1),
+    (0x1f_ffff, 0, 0),
+    (0, 0x1f_ffff, 0),
+    (0, 0, 0x1f_ffff),
+    (0x1f_ffff, 0x1f_ffff, 0x1f_ffff),
+    (0x10_0000, 0, 1),
+    (0x3f_ffff, 0x1f_ffff, 0x1f_ffff),
+    (0x1_2345, 0xfedc, 0x15_5555),
+    (0x10_0000, 0, 1),
+    (7, 8, 9),
+];
 
 /// The codes of three coordinates above, once more, and the greatest number, which is no code: four
 /// at once twice over, and two by themselves. What stands behind them stays.
 #[test]
 fn triples_at_once(rt: HostRuntime) {
-    let codes: [u64; 10] = [
-        0x4105_59e5_9d5c_65c5,
-        7,
-        0x1249_2492_4924_9249,
-        0x2492_4924_9249_2492,
-        0x4924_9249_2492_4924,
-        0x7fff_ffff_ffff_ffff,
-        0x1000_0000_0000_0004,
-        0xffff_ffff_ffff_ffff,
-        0x4105_59e5_9d5c_65c5,
-        0x1000_0000_0000_0004,
-    ];
     let mut firsts = [7u32; 11];
     let mut seconds = [8u32; 11];
     let mut thirds = [9u32; 11];
-    decode_triples(&codes, &mut firsts, &mut seconds, &mut thirds);
-    let xs: [u32; 11] = [
-        0x1_2345, 1, 0x1f_ffff, 0, 0, 0x1f_ffff, 0x10_0000, 0x3f_ffff, 0x1_2345, 0x10_0000, 7,
-    ];
-    let ys: [u32; 11] = [
-        0xfedc, 1, 0, 0x1f_ffff, 0, 0x1f_ffff, 0, 0x1f_ffff, 0xfedc, 0, 8,
-    ];
-    let zs: [u32; 11] = [
-        0x15_5555, 1, 0, 0, 0x1f_ffff, 0x1f_ffff, 1, 0x1f_ffff, 0x15_5555, 1, 9,
-    ];
+    decode_triples(&TRIPLE_CODES, &mut firsts, &mut seconds, &mut thirds);
     for i in 0..11 {
-        assert_eq!(rt; firsts[i], xs[i]);
-        assert_eq!(rt; seconds[i], ys[i]);
-        assert_eq!(rt; thirds[i], zs[i]);
+        expect(&rt, i, (firsts[i], seconds[i], thirds[i]), TRIPLES[i]);
     }
 }
 
+/// Dimensions, coordinates, and whether those are in range.
+static RANGES: [(u32, u32, bool); 5] = [
+    (2, 0xffff_ffff, true),
+    (3, 0x1f_ffff, true),
+    (3, 0x20_0000, false),
+    (4, 0xffff, true),
+    (4, 0x1_0000, false),
+];
+
 #[test]
 fn ranges(rt: HostRuntime) {
-    assert!(rt; fits_range(2, 0xffff_ffff));
-    assert!(rt; fits_range(3, 0x1f_ffff));
-    assert!(rt; !fits_range(3, 0x20_0000));
-    assert!(rt; fits_range(4, 0xffff));
-    assert!(rt; !fits_range(4, 0x1_0000));
+    for (d, value, fits) in &RANGES {
+        let (d, value) = (*d, *value);
+        assert!(rt; d == 2 || d == 3 || d == 4);
+        expect(&rt, (d, value), fits_range(d, value), *fits);
+    }
 }
+
+/// Codes, and whether they are in the square from (1, 1) to (2, 2).
+static SQUARE_CODES: [(u64, bool); 8] = [
+    (3, true),
+    (6, true),
+    (9, true),
+    (12, true),
+    (4, false),
+    (7, false),
+    (11, false),
+    (15, false),
+];
 
 #[test]
 fn a_square(rt: HostRuntime) {
-    let square = Region {
+    let (low, high) = ([1, 1, 0, 0], [2, 2, 0, 0]);
+    let square = Region { d: 2, low, high };
+    expect(&rt, "the square", is_empty(&square), false);
+    for (z, is_inside) in &SQUARE_CODES {
+        expect(&rt, *z, inside(&square, *z), *is_inside);
+    }
+    let turned = Region {
         d: 2,
-        low: [1, 1, 0, 0],
-        high: [2, 2, 0, 0],
+        low: high,
+        high: low,
     };
-    assert!(rt; !is_empty(&square));
-    assert!(rt;
-        inside(&square, 3) && inside(&square, 6) && inside(&square, 9) && inside(&square, 12)
-    );
-    assert!(rt;
-        !inside(&square, 4) && !inside(&square, 7) && !inside(&square, 11) && !inside(&square, 15)
-    );
-    assert!(rt;
-        is_empty(&Region {
-            d: 2,
-            low: [2, 2, 0, 0],
-            high: [1, 1, 0, 0]
-        })
-    );
+    expect(&rt, "the ends exchanged", is_empty(&turned), true);
 }
 
-/// From 1 to 2 in each coordinate: three codes inside, and three with one coordinate too low or too
-/// high, in each dimension.
+/// Dimensions and codes, and whether those are in the box from 1 to 2 in each coordinate: three
+/// inside, and three with one coordinate too low or too high.
+static BOX_CODES: [(u32, u64, bool); 18] = [
+    (2, 3, true),
+    (2, 6, true),
+    (2, 12, true),
+    (2, 1, false),
+    (2, 7, false),
+    (2, 11, false),
+    (3, 7, true),
+    (3, 35, true),
+    (3, 56, true),
+    (3, 6, false),
+    (3, 15, false),
+    (3, 27, false),
+    (4, 15, true),
+    (4, 135, true),
+    (4, 240, true),
+    (4, 14, false),
+    (4, 31, false),
+    (4, 47, false),
+];
+
+/// Whether a code is in a box, by its corners.
+fn is_between(region: &Region, z: u64) -> bool
+    requires { IsRegion region.now }
+{
+    Corners::of(region).inside(region, z)
+}
+
 #[test]
 fn between_corners(rt: HostRuntime) {
-    let rows: [(u32, [u64; 3], [u64; 3]); 3] = [
-        (2, [3, 6, 12], [1, 7, 11]),
-        (3, [7, 35, 56], [6, 15, 27]),
-        (4, [15, 135, 240], [14, 31, 47]),
-    ];
-    for (d, within, beyond) in rows {
+    for (d, z, is_inside) in &BOX_CODES {
+        let d = *d;
         assert!(rt; d == 2 || d == 3 || d == 4);
         let region = Region {
             d,
             low: [1, 1, 1, 1],
             high: [2, 2, 2, 2],
         };
-        let corners = Corners::of(&region);
-        for i in 0..3 {
-            assert!(rt; corners.inside(&region, within[i]));
-            assert!(rt; !corners.inside(&region, beyond[i]));
-        }
+        expect(&rt, (d, *z), is_between(&region, *z), *is_inside);
     }
 }

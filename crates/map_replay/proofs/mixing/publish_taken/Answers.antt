@@ -9,7 +9,7 @@ use Rattle.published.specs.Histories.{updates_of}
 use Rattle.published.proofs.CallerLemmas.{updates_of-snoc}
 use Rattle.senders.specs.Senders.{Origin}
 use Rattle.map_replay.specs.Posts.{AreSeats}
-use Rattle.map_replay.proofs.BatchLemmas.{around}
+use Rattle.batches.proofs.BatchLemmas.{around}
 use Rattle.map_replay.proofs.MixLemmas.{plain_entries}
 use Rattle.map_replay.proofs.mixing.publish_taken.Goals as goal
 

@@ -1,0 +1,2 @@
+pub mod Batches
+pub use Rattle.published.specs.Histories

@@ -1,8 +1,0 @@
--- so many slots are made
-use Rattle.std.proofs.Common.{◌≡◌, vec_len}
-use Rattle.map_replay.proofs.replaying.slots_for.Given as goal
-
-abbrev pub invariant-loop-number : goal.invariant-loop-number
-invariant-loop-number g l = record {
-  made : vec_len l.slots ≡ l._number;
-}

@@ -1,5 +1,0 @@
-use Rattle.published.proofs.CallerLemmas.{prefix_self}
-use Rattle.map_replay.proofs.threads.learn_newest.Goals as goal
-
-pub returns-in_default-clause-seen : goal.returns-in_default-clause-seen
-returns-in_default-clause-seen g c = prefix_self c.args.reader.now.batches

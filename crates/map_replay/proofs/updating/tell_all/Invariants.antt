@@ -1,8 +1,0 @@
--- telling changes nothing
-use Rattle.std.proofs.Common.{◌≡◌}
-use Rattle.map_replay.proofs.updating.tell_all.Given as goal
-
-abbrev pub invariant-loop-slot : goal.invariant-loop-slot
-invariant-loop-slot g l = record {
-  same : l.writer ≡ l.initial.writer;
-}

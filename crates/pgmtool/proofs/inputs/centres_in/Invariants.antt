@@ -1,7 +1,0 @@
-use Rattle.std.proofs.Common.{◌≡◌, take}
-use Rattle.pgmtool.specs.Inputs.{centres_in}
-use Rattle.pgmtool.proofs.inputs.centres_in.Given as goal
-
--- those of the lines before this place
-abbrev pub invariant-loop-i : goal.invariant-loop-i
-invariant-loop-i l = l.centres.items ≡ centres_in (take l.i l.lines)

@@ -1,0 +1,241 @@
+// The task that a request asks for: its inputs, in turn.
+ghost use Rattle.std.specs.Prelude.{◌≡◌, not, Err};
+ghost use Rattle.command_line.specs.Requests.{asked_of, built_of, checked_of, first_file};
+ghost use Rattle.command_line.specs.Requests.{replayed_of, searched_of};
+ghost use Rattle.command_line.specs.Requests.Request.{box as search, near, query, relax};
+ghost use Rattle.command_line.specs.Requests.Request.{check, mix, replay};
+ghost use Rattle.commands.specs.Tasks.{task_of};
+ghost use Rattle.program.specs.Files.{IsFirstMissing, IsMissing};
+ghost use Rattle.program.specs.Inputs.{reads};
+ghost use Rattle.program.specs.Stops.{Answers};
+
+use crate::history::{history_in, mixing_in};
+use crate::inputs::{centres_in, coordinates, index_keys, regions_in, script_lines, sorted_keys};
+use crate::judging::{judged, saved_index};
+use crate::refusal::{Refusal, Stopped};
+use command_line::{Building, Checking, Replaying, Request, Searching};
+use commands::{Neighbours, Search, Task};
+use edge::Shelf;
+use options::{Pieces, Senders, Table};
+use pgm_script::{Finds, ScriptKind, ScriptLine};
+use std::alloc::Global;
+
+/// Reads the inputs of the request in turn, up to the first that is none.
+///
+/// # Errors
+///
+/// `Refused` with the refusal that the first bad input gives, and with `ReadFault` where a call on
+/// the files failed. `NoMemory` where memory wasn't found.
+pub fn read<F: Shelf>(alloc: Global, files: &mut F, request: Request<'_>) -> Result<Task, Stopped>
+    ensures answer { Answers (reads (F.files files.old) (asked_of request.entry)) task_of
+        (F.faults files.old) (F.faults files.new) result }
+    // No memory is needed to find that the first file isn't there.
+    ensures missing { IsFirstMissing (F.files files.old) (first_file (asked_of request.entry))
+        → result ≡ Err (Stopped.Refused Refusal.ReadFault) }
+{
+    match request {
+        Request::Build { building } => {
+            let keys = index_keys(alloc, files, building)?;
+            let (bounds, workers) = (building.bounds, building.workers);
+            Ok(Task::Build {
+                keys,
+                bounds,
+                workers,
+            })
+        }
+        Request::Explain { building } => {
+            let keys = index_keys(alloc, files, building)?;
+            let (bounds, workers) = (building.bounds, building.workers);
+            Ok(Task::Explain {
+                keys,
+                bounds,
+                workers,
+            })
+        }
+        Request::Query {
+            building,
+            script,
+            windows,
+            table,
+        } => query_task(alloc, files, building, script, windows, table),
+        Request::Relax {
+            building,
+            script,
+            pieces,
+        } => relax_task(alloc, files, building, script, pieces),
+        Request::Box { searching } => box_task(alloc, files, searching),
+        Request::Near { searching } => near_task(alloc, files, searching),
+        Request::Replay { replaying } => replay_task(alloc, files, replaying),
+        Request::Mix { replaying, senders } => mix_task(alloc, files, replaying, senders),
+        Request::Drill { drilling } => Ok(Task::Drill {
+            drill: drilling.drill,
+            bounds: drilling.bounds,
+            workers: drilling.workers,
+        }),
+        Request::Save { building } => {
+            let keys = index_keys(alloc, files, building)?;
+            let (bounds, workers) = (building.bounds, building.workers);
+            Ok(Task::Save {
+                keys,
+                bounds,
+                workers,
+            })
+        }
+        Request::Check { checking } => check_task(alloc, files, checking),
+    }
+}
+
+// Keys, and questions for their positions.
+fn query_task<F: Shelf>(
+    alloc: Global,
+    files: &mut F,
+    building: Building<'_>,
+    script: &str,
+    windows: bool,
+    table: Table,
+) -> Result<Task, Stopped>
+    ensures answer { Answers (reads (F.files files.old)
+        (query (built_of building.entry) script.now windows)) task_of
+        (F.faults files.old) (F.faults files.new) result }
+    ensures missing { IsMissing (F.files files.old) building.entry.file.now
+        → result ≡ Err (Stopped.Refused Refusal.ReadFault) }
+{
+    let keys = index_keys(alloc, files, building)?;
+    let finds: Finds = script_lines(alloc, files, script, ScriptKind::Find)?;
+    Ok(Task::Query {
+        keys,
+        bounds: building.bounds,
+        workers: building.workers,
+        questions: finds.numbers,
+        windows,
+        table,
+    })
+}
+
+// The same of an index whose pieces aren't joined.
+fn relax_task<F: Shelf>(
+    alloc: Global,
+    files: &mut F,
+    building: Building<'_>,
+    script: &str,
+    pieces: Pieces,
+) -> Result<Task, Stopped>
+    ensures answer { Answers (reads (F.files files.old)
+        (relax (built_of building.entry) script.now pieces.count)) task_of
+        (F.faults files.old) (F.faults files.new) result }
+    ensures missing { IsMissing (F.files files.old) building.entry.file.now
+        → result ≡ Err (Stopped.Refused Refusal.ReadFault) }
+{
+    let keys = index_keys(alloc, files, building)?;
+    let finds: Finds = script_lines(alloc, files, script, ScriptKind::Find)?;
+    Ok(Task::Relax {
+        keys,
+        bounds: building.bounds,
+        workers: building.workers,
+        pieces,
+        questions: finds.numbers,
+    })
+}
+
+// Points, and regions.
+fn box_task<F: Shelf>(
+    alloc: Global,
+    files: &mut F,
+    searching: Searching<'_>,
+) -> Result<Task, Stopped>
+    ensures answer { Answers (reads (F.files files.old)
+        (search (searched_of searching.entry))) task_of
+        (F.faults files.old) (F.faults files.new) result }
+    ensures missing { IsMissing (F.files files.old) searching.entry.file.now
+        → result ≡ Err (Stopped.Refused Refusal.ReadFault) }
+{
+    let dims = searching.dims;
+    let coords = coordinates(alloc, files, searching.file, dims)?;
+    let kind = ScriptKind::Region(dims);
+    let lines: Vec<ScriptLine> = script_lines(alloc, files, searching.script, kind)?;
+    let regions = regions_in(alloc, dims, &lines)?;
+    let search = Search {
+        dims,
+        coords,
+        regions,
+    };
+    Ok(Task::Box { search })
+}
+
+// Points, and centres.
+fn near_task<F: Shelf>(
+    alloc: Global,
+    files: &mut F,
+    searching: Searching<'_>,
+) -> Result<Task, Stopped>
+    ensures answer { Answers (reads (F.files files.old)
+        (near (searched_of searching.entry))) task_of
+        (F.faults files.old) (F.faults files.new) result }
+    ensures missing { IsMissing (F.files files.old) searching.entry.file.now
+        → result ≡ Err (Stopped.Refused Refusal.ReadFault) }
+{
+    let dims = searching.dims;
+    let coords = coordinates(alloc, files, searching.file, dims)?;
+    let kind = ScriptKind::Near(dims);
+    let lines: Vec<ScriptLine> = script_lines(alloc, files, searching.script, kind)?;
+    let centres = centres_in(alloc, dims, &lines)?;
+    let neighbours = Neighbours {
+        dims,
+        coords,
+        centres,
+    };
+    Ok(Task::Near { neighbours })
+}
+
+// Updates, and questions.
+fn replay_task<F: Shelf>(
+    alloc: Global,
+    files: &mut F,
+    replaying: Replaying<'_>,
+) -> Result<Task, Stopped>
+    ensures answer { Answers (reads (F.files files.old)
+        (replay (replayed_of replaying.entry))) task_of
+        (F.faults files.old) (F.faults files.new) result }
+    ensures missing { IsMissing (F.files files.old) replaying.entry.script.now
+        → result ≡ Err (Stopped.Refused Refusal.ReadFault) }
+{
+    let kind = ScriptKind::Replay;
+    let lines: Vec<ScriptLine> = script_lines(alloc, files, replaying.script, kind)?;
+    let history = history_in(alloc, replaying, &lines)?;
+    Ok(Task::Replay { history })
+}
+
+// The same where senders send the updates.
+fn mix_task<F: Shelf>(
+    alloc: Global,
+    files: &mut F,
+    replaying: Replaying<'_>,
+    senders: Senders,
+) -> Result<Task, Stopped>
+    ensures answer { Answers (reads (F.files files.old)
+        (mix (replayed_of replaying.entry) senders.count)) task_of
+        (F.faults files.old) (F.faults files.new) result }
+    ensures missing { IsMissing (F.files files.old) replaying.entry.script.now
+        → result ≡ Err (Stopped.Refused Refusal.ReadFault) }
+{
+    let kind = ScriptKind::Mix;
+    let lines: Vec<ScriptLine> = script_lines(alloc, files, replaying.script, kind)?;
+    let mixing = mixing_in(alloc, replaying, senders, &lines)?;
+    Ok(Task::Mix { mixing })
+}
+
+// Keys, and a saved index that is judged over them.
+fn check_task<F: Shelf>(
+    alloc: Global,
+    files: &mut F,
+    checking: Checking<'_>,
+) -> Result<Task, Stopped>
+    ensures answer { Answers (reads (F.files files.old) (check (checked_of checking.entry))) task_of
+        (F.faults files.old) (F.faults files.new) result }
+    ensures missing { IsMissing (F.files files.old) checking.entry.file.now
+        → result ≡ Err (Stopped.Refused Refusal.ReadFault) }
+{
+    let keys = sorted_keys(alloc, files, checking.file, !checking.narrow)?;
+    let saved = saved_index(alloc, files, checking.index)?;
+    judged(alloc, keys, &saved)
+}

@@ -1,0 +1,8 @@
+//! Worked rows through the whole program, by its one call.
+//!
+//! What a contract says isn't tested again. Expected values were worked out by hand or by a program
+//! in another language.
+#![tactic(auto)]
+
+#[cfg(test)]
+mod tests;
