@@ -6,7 +6,7 @@ ghost use Rattle.command_line.specs.Requests.{replayed_of};
 ghost use Rattle.log_levels.specs.declared.update.Update.{Update};
 ghost use Rattle.log_levels.specs.Accepted.{IsPlain, entries_of};
 ghost use Rattle.log_levels.specs.Maps.{map_after};
-ghost use Rattle.log_levels.specs.Shapes.{Held, StandsFor, capacity_of};
+ghost use Rattle.log_levels.specs.Shapes.{Held, StandsFor};
 ghost use Rattle.commands.specs.Histories.{mix_of, replay_of};
 ghost use Rattle.program.specs.Inputs.{map_questions_in, reads_history, reads_mixing};
 ghost use Rattle.program.specs.Inputs.{room_of, updates_in};

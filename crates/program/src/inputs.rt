@@ -3,20 +3,17 @@ ghost use Rattle.std.specs.Prelude.{◌≡◌, ◌++◌, ◌∷◌, [], All, Err
 ghost use Rattle.zorder.specs.Codes.{IsDimension, IsInRange};
 ghost use Rattle.pgm_script.specs.Scripts.{IsKind, IsLineOf};
 ghost use Rattle.commands.specs.PointRegions.{IsRegionOf};
-ghost use Rattle.command_line.specs.Requests.{asked_of, first_file, built_of};
-ghost use Rattle.program.specs.Files.{IsFirstMissing, IsMissing};
-ghost use Rattle.commands.specs.Tasks.{task_of};
-ghost use Rattle.program.specs.Inputs.{reads, reads_index, reads_keys, reads_script};
+ghost use Rattle.command_line.specs.Requests.{built_of};
+ghost use Rattle.program.specs.Files.{IsMissing};
+ghost use Rattle.program.specs.Inputs.{reads_index, reads_keys, reads_script};
 ghost use Rattle.program.specs.Inputs.{centres_in, reads_points, regions_in};
 ghost use Rattle.program.specs.Stops.{Answers};
 
-use crate::history::{history_in, mixing_in};
-use crate::judging::{judged, saved_index};
 use crate::refusal::{Refusal, Stopped};
-use command_line::{Building, Request};
-use commands::{Centre, Neighbours, Search, SortedKeys, Task};
+use command_line::Building;
+use commands::{Centre, SortedKeys};
 use edge::Shelf;
-use pgm_script::{Finds, LineList, ScriptKind, ScriptLine, parse_as, read_text};
+use pgm_script::{LineList, ScriptKind, ScriptLine, parse_as, read_text};
 use sosd_reader::{read_keys, read_points};
 use std::alloc::{AllocError, Global};
 use zorder::Region;

@@ -24,7 +24,6 @@
 ghost use Rattle.std.specs.Prelude.{◌≡◌, ◌⊎◌, ◌<◌, ◌∷◌, [], ℕ};
 ghost use Rattle.std.specs.Prelude.{List, map, Result, IsSome};
 ghost use Rattle.std.specs.String.{string_bytes};
-ghost use Rattle.edge.specs.Risen.{HasRisen};
 ghost use Rattle.written.specs.Writing.{Writes, BreaksOff, WritesUntilFault};
 ghost use Rattle.program.specs.declared.refusal.Refusal.{Refusal};
 ghost use Rattle.program.specs.Files.{IsFirstMissing};

@@ -1,6 +1,6 @@
 // Refusals: why there is no text, and the one text line that says so.
 ghost use Rattle.std.specs.Prelude.{◌≡◌, ◌∷◌, ◌+◌, ◌++◌, ◌≤◌, []};
-ghost use Rattle.std.specs.Prelude.{length, decimal, MatchOption};
+ghost use Rattle.std.specs.Prelude.{length, decimal};
 ghost use Rattle.written.specs.Writing.{WritesUntilFault};
 ghost use Rattle.program.specs.Refusals.{refusal_line, status_of, why_word};
 

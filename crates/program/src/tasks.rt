@@ -1,5 +1,5 @@
 // The task that a request asks for: its inputs, in turn.
-ghost use Rattle.std.specs.Prelude.{◌≡◌, not, Err};
+ghost use Rattle.std.specs.Prelude.{◌≡◌, Err};
 ghost use Rattle.command_line.specs.Requests.{asked_of, built_of, checked_of, first_file};
 ghost use Rattle.command_line.specs.Requests.{replayed_of, searched_of};
 ghost use Rattle.command_line.specs.Requests.Request.{box as search, near, query, relax};
