@@ -1,32 +1,74 @@
-// Keys whose reads are counted.
+// Keys as a search reads them, and the counted reads.
 ghost use Rattle.std.specs.Prelude.{◌≡◌, ◌+◌, ◌<◌, length, slice_index};
 
 use budget::Steps;
 use std::marker::Model;
 use std::sync::ledger::Ledger;
 
+/// A list of keys that stays where it is: a slice, or what else can give a key by its place.
+///
+/// Seen as the list of the keys.
+pub trait KeyList: Copy {
+    ghost use Rattle.std.specs.Prelude.{List, ℕ};
+
+    ghost listed: { Self → List ℕ };
+
+    /// How many keys there are.
+    fn len(&self) -> usize
+        ensures { result ≡ length (listed self.now) };
+
+    /// The key at a place.
+    fn at(&self, place: usize) -> u64
+        requires { place < length (listed self.now) }
+        ensures { result ≡ slice_index (listed self.now) place };
+}
+
+impl KeyList for &[u64] {
+    ghost listed = { λ keys. keys.now };
+
+    #[inline(always)]
+    fn len(&self) -> usize {
+        let keys = *self;
+        keys.len()
+    }
+
+    #[inline(always)]
+    fn at(&self, place: usize) -> u64 {
+        let keys = *self;
+        keys[place]
+    }
+}
+
 /// Keys of a search. Their only read is a step, so a search over them can't look at a key that it
 /// doesn't count.
 #[derive(Drop)]
-pub struct CountedKeys<'a> {
-    keys: &'a [u64],
+pub struct CountedKeys<K: KeyList> {
+    keys: K,
 }
 
-impl<'a> Model for CountedKeys<'a> {
+impl<K: KeyList> Model for CountedKeys<K> {
     ghost use Rattle.std.specs.Prelude.{ℕ, List};
 
     ghost Value = { List ℕ };
 
-    ghost view = { λ counted. counted.keys.now };
+    ghost view = { λ counted. K.listed counted.keys };
 }
 
-impl<'a> CountedKeys<'a> {
+impl<K: KeyList> CountedKeys<K> {
     /// These keys, none of them read yet.
     #[inline(always)]
-    pub fn new(keys: &'a [u64]) -> Self
-        ensures { result ≡ keys.now }
+    pub fn new(keys: K) -> Self
+        ensures { result ≡ K.listed keys }
     {
         CountedKeys { keys }
+    }
+
+    /// How many keys there are. Takes no step.
+    #[inline(always)]
+    pub fn len(&self) -> usize
+        ensures { result ≡ length self.now }
+    {
+        self.keys.len()
     }
 
     /// The key at a place. Takes one step.
@@ -37,7 +79,6 @@ impl<'a> CountedKeys<'a> {
         ensures cost { steps.new ≡ steps.old + 1 }
     {
         steps.tick();
-        let keys = self.keys;
-        keys[place]
+        self.keys.at(place)
     }
 }
