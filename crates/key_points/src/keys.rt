@@ -8,7 +8,7 @@ ghost use Rattle.key_points.specs.declared.fault.KeysFault.TheVariants.{Falls, T
 
 use crate::alone::{count_distinct, places_of};
 use crate::fault::KeysFault;
-use crate::order::first_fall;
+use crate::order::judge;
 use crate::parts::{Parts, parts_of, start_of_group};
 use budget::NoMemory;
 use std::alloc::Global;
@@ -104,14 +104,8 @@ impl Keys {
         ensures falls_only { (place : ℕ) → result ≡ Err (Falls place) →
             IsFirstFall keys.items place }
     {
-        let count = keys.len();
-        if count > u32::MAX as usize {
-            return Err(KeysFault::TooMany { count });
-        }
-        match first_fall(&keys) {
-            Some(place) => Err(KeysFault::Falls { place }),
-            None => Ok(Keys::of(alloc, keys)?),
-        }
+        judge(&keys)?;
+        Ok(Keys::of(alloc, keys)?)
     }
 
     /// The keys of a file in which none repeats.

@@ -1,7 +1,9 @@
-// Whether keys never fall.
-ghost use Rattle.std.specs.Prelude.{◌≡◌, ◌↔◌, IsTrue, None, IfSome};
+// Whether keys never fall, and are few enough.
+ghost use Rattle.std.specs.Prelude.{◌≡◌, ◌↔◌, IsTrue, None, IfSome, IfErr, OnOk};
 ghost use Rattle.std.specs.List.Sorted.{IsNonDecreasing};
-ghost use Rattle.key_points.specs.Falls.{IsFirstFall};
+ghost use Rattle.key_points.specs.Falls.{IsFirstFall, AreKeys, IsRefusedFor};
+
+use crate::fault::KeysFault;
 
 /// Whether keys never fall: none is below the one before it.
 ///
@@ -23,4 +25,26 @@ pub fn first_fall(keys: &[u64]) -> Option<usize>
         }
     }
     None
+}
+
+/// Judges a list as the keys of a file, before memory is taken for it.
+///
+/// Each key is read until one is below the one before it. Takes no memory.
+///
+/// # Errors
+///
+/// - `TooMany` where there are 2^32 keys or more. It is judged first, and no key is read.
+/// - `Falls` where a key is below the one before it, with the first place.
+pub fn judge(keys: &[u64]) -> Result<(), KeysFault>
+    ensures keys { OnOk result (AreKeys keys.now) }
+    ensures refused { IfErr result (IsRefusedFor keys.now) }
+{
+    let count = keys.len();
+    if count > u32::MAX as usize {
+        return Err(KeysFault::TooMany { count });
+    }
+    match first_fall(keys) {
+        Some(place) => Err(KeysFault::Falls { place }),
+        None => Ok(()),
+    }
 }
