@@ -36,7 +36,8 @@ use std::thread::Threads;
 /// only if the gate does. No more workers are started than there are pieces.
 ///
 /// A joined run is fitted again from its start where it is the last one of its piece, or begins at
-/// no start of its piece: in all no place is fitted more than twice.
+/// no start of its piece. So no place is fitted more than twice, once by a worker and once in
+/// joining, which is argued in the README and is no clause.
 ///
 /// # Errors
 ///

@@ -39,8 +39,9 @@ impl KeyList for &[u64] {
     }
 }
 
-/// Keys of a search. Their only read is a step, so a search over them can't look at a key that it
-/// doesn't count.
+/// Keys of a search. Their only read is a step, so what is handed these alone can't look at a key
+/// that it doesn't count. The public searches are handed the keys themselves and make these of
+/// them: that they read by these alone is seen in their bodies.
 #[derive(Drop)]
 pub struct CountedKeys<K: KeyList> {
     keys: K,
