@@ -12,6 +12,7 @@ use Rattle.std.specs.List.Sorted.{IsNonDecreasing, IsStrictlyIncreasing}
 use Rattle.std.proofs.lemmas.List.Sums.{sum_by-cons}
 use Rattle.exact_cross.proofs.CallerLemmas.{slice_index-rises, IsNonDecreasing-from_neighbours}
 use Rattle.window_search.specs.Searches.{lb}
+use Rattle.window_search.proofs.CallerLemmas.{lb-is}
 use Rattle.key_points.specs.KeyPoints.{times, is_closed, with_closing, xs_of, ys_of}
 use Rattle.key_points.proofs.DistinctLemmas.{times-lb}
 use Rattle.key_points.proofs.Rows.{IsIn, NeverFallsFrom, RisesFrom, NeverFallsFrom-in, IsStrictlyIncreasing-from, IsIn-place, IsIn-left, IsIn-right, IsIn-append}
@@ -286,6 +287,17 @@ ys-never_fall keys order = IsNonDecreasing-from_neighbours (ys_of keys) (λ k in
       lb-more keys (slice_index (xs_of keys) k) (slice_index (xs_of keys) (k + 1)) (omega (arith, xs-rise keys order k (omega (arith, ys-length keys)))),
     ))
 
+IsIn-at : (keys : List ℕ) (k : ℕ) → k < length keys → IsIn (slice_index keys k) keys
+IsIn-at [] k inside = absurd (omega arith)
+IsIn-at (key ∷ keys) zero inside = inl refl
+IsIn-at (key ∷ keys) (suc k) inside = inr (IsIn-at keys k (omega arith))
+
+-- the first point has no key below it
+pub ys-first : (keys : List ℕ) → IsNonDecreasing keys → 0 < length keys → slice_index (ys_of keys) 0 ≡ 0
+ys-first keys order some =
+    let first = xs-first keys some in
+    ys-at keys 0 first.0 ∙ ap (lb keys) first.1 ∙ lb-is keys (slice_index keys 0) 0 (omega arith) (λ k less. absurd (omega arith)) (λ k low inside. order 0 k 0 low inside)
+
 -- no key stands between
 lb-between : (keys : List ℕ) (a n : ℕ) → ((z : ℕ) → a ≤ z → z < a + n → times keys z ≡ 0) → lb keys (a + n) ≡ lb keys a
 lb-between keys a zero none = ap (lb keys) (omega arith)
@@ -364,4 +376,18 @@ module _ (keys : List ℕ) (order : IsNonDecreasing keys) (i : ℕ) (inside : i 
               | inl repeats ↦ absurd (no_x (x + 1) (omega arith) (λ more. omega (arith, below more)) (next_x (omega arith) repeats))
               | inr few ↦ omega (arith, ys-at keys (i + 1) more)
             ])
+      ]
+
+  -- past the last point the lower bound is how many keys there are
+  pub lb-past_points : (q : ℕ) → slice_index (xs_of keys) i < q → i + 1 ≡ length (xs_of keys) → lb keys q ≡ length keys
+  lb-past_points q past last = lb-is keys q (length keys) (omega arith) below (λ k high within. absurd (omega arith))
+    where
+      below : (k : ℕ) → k < length keys → slice_index keys k < q
+      below k less = elim (cases_lt (slice_index keys k) q) [
+        | inl before ↦ before
+        | inr from ↦ absurd (omega (
+          arith,
+          no_key (slice_index keys k) (omega (arith, past, from)) (λ more. absurd (omega (arith, last))),
+          times-in (slice_index keys k) keys (IsIn-at keys k less),
+        ))
       ]

@@ -6,7 +6,8 @@ ghost use Rattle.key_points.specs.KeyPoints.{distinct_of, ys_of};
 use budget::NoMemory;
 use std::alloc::Global;
 
-/// How many keys there are without repeats: those that differ from the one before them.
+/// How many keys there are without repeats: those that differ from the one before them. Cannot fail
+/// and takes no memory.
 pub fn count_distinct(file: &[u64]) -> usize
     ensures { result ≡ length (distinct_of file.now) }
 {
@@ -19,7 +20,12 @@ pub fn count_distinct(file: &[u64]) -> usize
     count
 }
 
-/// The heights of keys that stand once: how many are below each is its place.
+/// The y of the points of keys of which none repeats, 4 bytes a key: how many are below each is its
+/// place. The x are the keys.
+///
+/// # Errors
+///
+/// `NoMemory` alone.
 pub fn places_of(alloc: Global, file: &[u64]) -> Result<Vec<u32>, NoMemory>
     requires never_falls { IsNonDecreasing file.now }
     requires alone { distinct_of file.now ≡ file.now }

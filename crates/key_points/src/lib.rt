@@ -15,6 +15,8 @@ mod keys;
 mod order;
 mod parts;
 
+pub use alone::{count_distinct, places_of};
 pub use fault::KeysFault;
 pub use keys::Keys;
 pub use order::{is_sorted, judge};
+pub use parts::{Parts, parts_of};

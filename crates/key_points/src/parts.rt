@@ -9,16 +9,21 @@ ghost use Rattle.key_points.specs.Groups.{HoldsUpTo, IsGroupStart, IsGroupEnd};
 use budget::NoMemory;
 use std::alloc::Global;
 
-/// The points: their x and y.
+/// The points of keys that repeat: their x and y.
 #[derive(Drop)]
 pub struct Parts {
     pub xs: Vec<u64>,
     pub ys: Vec<u32>,
 }
 
-/// The points of sorted keys, one group of equal keys after the other. Room is taken once: for two
-/// points of each of the distinct keys, of which there are so many, but no more than there are
-/// keys.
+/// The points of sorted keys, one group of equal keys after the other.
+///
+/// Room is taken once: 12 bytes a point, for two points of each of the distinct keys, of which there
+/// are `count`, but no more than there are keys.
+///
+/// # Errors
+///
+/// `NoMemory` alone.
 pub fn parts_of(alloc: Global, file: &[u64], count: usize) -> Result<Parts, NoMemory>
     requires never_falls { IsNonDecreasing file.now }
     requires few { length file.now < 2 ^ 32 }
