@@ -1,9 +1,10 @@
 #!/usr/bin/env python3
-"""Compares the examples of the READMEs with the tests that they quote: readme_examples.py.
+"""Compares the examples of the READMEs with the tests that they quote: readme_examples.py [--list]
 
-The test `NAME_example` of `crates/map_tests/src/readme_examples.rt` is the example of the crate NAME: the first
-block of Rust of its README is the test's body, word for word, and that of the README at the top is the body of
-`levels_example`. Prints a line for each that isn't, and ends with 1 then.
+The test `NAME_example` in `readme_examples.rt` of a crate of tests is the example of the crate
+NAME: the first block of Rust of its README is the test's body, word for word, and that of the
+README at the top is the body of `levels_example`. Prints a line for each that isn't, and ends
+with 1 then. With --list it prints the READMEs whose example is in no test, too.
 """
 import pathlib
 import re
@@ -11,22 +12,28 @@ import sys
 import textwrap
 
 TOP = pathlib.Path(__file__).resolve().parent.parent
-TESTS = TOP / "crates/map_tests/src/readme_examples.rt"
 TEST = re.compile(r"^fn (\w+)_example\([^\n]*\{\n(.*?)^\}$", re.M | re.S)
 BLOCK = re.compile(r"^```rust\n(.*?)^```$", re.M | re.S)
 
 
 def main():
+    tests = sorted(TOP.glob("crates/*_tests/src/readme_examples.rt"))
+    bodies = dict(found for test in tests for found in TEST.findall(test.read_text()))
+    quoted = {TOP / "crates" / crate / "README.md": crate for crate in bodies}
+    if "levels" in bodies:
+        quoted[TOP / "README.md"] = "levels"
     drifted = []
-    examples = TEST.findall(TESTS.read_text())
-    readmes = [(TOP / "crates" / crate / "README.md", crate, body) for crate, body in examples]
-    readmes += [(TOP / "README.md", crate, body) for crate, body in examples if crate == "levels"]
-    for readme, crate, body in readmes:
+    for readme, crate in quoted.items():
         block = BLOCK.search(readme.read_text())
-        if block is None or block.group(1) != textwrap.dedent(body):
-            drifted.append(f"{readme.relative_to(TOP)}: its first example isn't the body of {crate}_example")
-    if not examples:
-        drifted.append(f"{TESTS.relative_to(TOP)}: no example is there")
+        if block is None or block.group(1) != textwrap.dedent(bodies[crate]):
+            name = readme.relative_to(TOP)
+            drifted.append(f"{name}: its first example isn't the body of {crate}_example")
+    if not bodies:
+        drifted.append("no example is in a test")
+    if "--list" in sys.argv[1:]:
+        for readme in sorted(TOP.glob("crates/*/README.md")):
+            if readme not in quoted and BLOCK.search(readme.read_text()):
+                print(f"{readme.relative_to(TOP)}: no test has its example")
     if drifted:
         print("\n".join(drifted))
     return 1 if drifted else 0
