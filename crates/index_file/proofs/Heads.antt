@@ -1,6 +1,7 @@
 -- The faults of the head, and of what stands behind it, are those of the file.
 --
--- Main result: `head-fails`. Where the bytes behind a front of the head stop in a part that goes on to an index, the file stops.
+-- Main results: `head-fails`, `head-leaves`. Where the bytes behind a front of the head stop in a part that goes on to an index, the file
+-- stops, and those that it took are taken of the file.
 use Rattle.std.proofs.Common.{◌≡◌, ◌≢◌, ℕ, zero, suc, ◌+◌, ◌^◌, ◌<◌, ◌≤◌, List, [], ◌∷◌, ◌++◌, length, take, drop, get_or, refl, sym, ap, ◌∙◌, subst, append_assoc, length-append, arith, Option, Some, None, inl, inr, ⊎_elim}
 use Rattle.std.specs.List.{flat_map}
 use Rattle.std.specs.Option.{IfSome}
@@ -11,11 +12,11 @@ use Rattle.index_file.specs.declared.saved.SavedRun.{SavedRun}
 use Rattle.index_file.specs.declared.fault.IndexFault.{IndexFault}
 use Rattle.index_file.specs.declared.fault.IndexFault.TheVariants.{ReadFault, Short, Magic, Epsilon, Side, Trailing, NoMemory}
 use Rattle.index_file.specs.Spelling.{SavedIndex, number, magic, level_bytes, head_bytes, index_bytes, LevelFits, IsBounded, IsSpelling}
-use Rattle.index_file.specs.Stops.{IsNumber, IsNoCut, AreLevels, AreBeforeLevelCut, IsFront, StopsIn, HasFault}
-use Rattle.index_file.specs.Faults.{IsFormUpTo, IsMagic, IsBeforeIndexCut, FailsAs}
+use Rattle.index_file.specs.Stops.{IsNumber, IsNoCut, AreLevels, AreBeforeLevelCut, IsFront, StopsIn, HasFault, TakesIn, Leaves}
+use Rattle.index_file.specs.Faults.{IsFormUpTo, IsMagic, IsBeforeIndexCut, FailsAs, IsIndex, IsTaken}
 use Rattle.index_file.proofs.Numbers.{length-number}
 use Rattle.index_file.proofs.Lists.{many, length-many, All-many}
-use Rattle.index_file.proofs.Stopping.{Stands, front-moves}
+use Rattle.index_file.proofs.Stopping.{GoesOn, Stands, front-moves, goes-behind, Leaves-behind}
 
 -- the bytes that a part goes on by, where it was told how many bytes there are
 abbrev pub Continues : (List ℕ → Type 0) → ℕ → List ℕ → Type 0
@@ -258,7 +259,7 @@ magic-read told after got buf long all agree read =
     subst (λ (w : List ℕ). HasRead told w after) same read
 
 -- a byte behind the index, and none
-index-of : (index : SavedIndex) (count : ℕ) → length index.levels ≡ count → head_bytes index.eps index.eps_rec count ++ flat_map level_bytes index.levels ≡ index_bytes index
+pub index-of : (index : SavedIndex) (count : ℕ) → length index.levels ≡ count → head_bytes index.eps index.eps_rec count ++ flat_map level_bytes index.levels ≡ index_bytes index
 unfolding index_bytes
 index-of index count long = ap (λ (n : ℕ). head_bytes index.eps index.eps_rec n ++ flat_map level_bytes index.levels) (sym long)
 
@@ -281,3 +282,34 @@ index-read (Some x) None index count bounded long read ended = absurd read
 index-read (Some x) (Some y) index count bounded long read ended =
     let front = head_bytes index.eps index.eps_rec count ++ flat_map level_bytes index.levels in
     record { bounded = bounded; written = read ∙ ap (λ (w : List ℕ). front ++ w) ended ∙ append-nil front ∙ index-of index count long }
+
+-- the bytes that a part of the file takes behind a piece, which its wholes go on to an index
+taken-in : (Part : List ℕ → Type 0) (offset : ℕ) (piece taken : List ℕ) (fault : IndexFault) → offset ≡ length piece → GoesOn Part IsIndex piece → TakesIn Part offset taken fault →
+    IsTaken (piece ++ taken) fault
+taken-in Part offset piece taken (Short got) here goes takes = omega (arith, takes, here, length-append piece taken)
+taken-in Part offset piece taken (Side at byte) here goes takes = omega (arith, takes, here, length-append piece taken)
+taken-in Part offset piece taken NoMemory here goes takes = let on = goes-behind Part IsIndex piece taken takes.0 goes takes.1 in (takes.0 ++ on.0, on.1)
+taken-in Part offset piece taken ReadFault here goes takes = takes
+taken-in Part offset piece taken (Magic at) here goes takes = absurd takes
+taken-in Part offset piece taken (Epsilon value) here goes takes = absurd takes
+taken-in Part offset piece taken (Trailing byte) here goes takes = absurd takes
+
+pub head-leaves : (Part : List ℕ → Type 0) (offset : ℕ) (piece : List ℕ) (told before after : Option (List ℕ)) (fault : IndexFault) → offset ≡ length piece → GoesOn Part IsIndex piece →
+    HasRead told piece before → Leaves (TakesIn Part offset) before after fault → Leaves IsTaken told after fault
+head-leaves Part offset piece told before after fault here goes read =
+    Leaves-behind (TakesIn Part offset) IsTaken piece told before after fault read (λ taken takes. taken-in Part offset piece taken fault here goes takes)
+
+-- levels behind their head are an index
+pub levels-index : (eps eps_rec count : ℕ) → eps ≤ 1048576 → eps_rec ≤ 1048576 → count < 2 ^ 32 → GoesOn (AreLevels count) IsIndex (head_bytes eps eps_rec count)
+levels-index eps eps_rec count small small_rec few bytes are =
+    let index : SavedIndex = record { eps = eps; eps_rec = eps_rec; levels = are.0 } in
+    let bounded : IsBounded eps eps_rec are.0 = record { small = small; small_rec = small_rec; few = omega (arith, are.1, few); each = are.2 } in (
+      [],
+      (
+        index,
+        record {
+          bounded = bounded;
+          written = ap (λ (w : List ℕ). head_bytes eps eps_rec count ++ w) (append-nil bytes ∙ are.3) ∙ index-of index count are.1;
+        },
+      ),
+    )

@@ -17,10 +17,10 @@ pub length-level : (n : ℕ) (runs : List SavedRun) → length runs ≡ n → le
 length-level n runs long = sym (ap length (level-of n runs long)) ∙ length-append (number n) (flat_map run_bytes runs) ∙ ap (λ (k : ℕ). k + length (flat_map run_bytes runs)) (length-number n)
 
 -- a run whose numbers are all 0
-no_run : SavedRun
+pub no_run : SavedRun
 no_run = record { start = 0; a = 0; b = 0; cut = Last }
 
-no_run-fits : RunFits no_run
+pub no_run-fits : RunFits no_run
 unfolding no_run
 no_run-fits = record { start = omega arith; a = omega arith; b = omega arith; cut = tt }
 

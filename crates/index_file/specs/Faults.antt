@@ -1,5 +1,6 @@
 -- The reading of any bytes as the file of an index: the index, or the first fault in the order of the bytes.
-use Rattle.std.specs.Prelude.{◌≡◌, ◌≢◌, ◌⊎◌, ℕ, ◌<◌, ◌≤◌, ◌^◌, List, ◌∷◌, ◌++◌, length, take, slice_index, Result, Ok, Err}
+use Rattle.std.specs.Prelude.{◌≡◌, ◌≢◌, ◌⊎◌, ℕ, ◌+◌, ◌<◌, ◌≤◌, ◌^◌, List, [], ◌∷◌, ◌++◌, length, take, slice_index, Option, Result, Ok, Err}
+use Rattle.edge.specs.Reading.{HasRead}
 use Rattle.index_file.specs.declared.fault.IndexFault.{IndexFault}
 use Rattle.index_file.specs.declared.fault.IndexFault.TheVariants.{ReadFault, Short, Magic, Epsilon, Side, Trailing, NoMemory}
 use Rattle.index_file.specs.Spelling.{SavedIndex, number, magic, head_bytes, index_bytes, IsBounded, IsSpelling}
@@ -64,3 +65,22 @@ FailsAs bytes NoMemory = ⊥
 abbrev pub ReadsAs : List ℕ → Result SavedIndex IndexFault → Type 0
 ReadsAs bytes (Ok index) = IsSpelling index bytes
 ReadsAs bytes (Err fault) = FailsAs bytes fault
+
+-- the spelling of an index
+abbrev pub IsIndex : List ℕ → Type 0
+IsIndex bytes = (index : SavedIndex) × IsSpelling index bytes
+
+-- the bytes that were taken where this is the fault: all up to it, but the first eight at once; one behind the index; and where memory ran out a front of an index
+abbrev pub IsTaken : List ℕ → IndexFault → Type 0
+IsTaken taken (Short got) = got ≡ length taken
+IsTaken taken (Magic at) = length taken ≤ 8
+IsTaken taken (Epsilon value) = length taken ≤ 16
+IsTaken taken (Side at byte) = at + 1 ≡ length taken
+IsTaken taken (Trailing byte) = (front : List ℕ) × IsIndex front × (taken ≡ front ++ byte ∷ [])
+IsTaken taken NoMemory = (rest : List ℕ) × IsIndex (taken ++ rest)
+IsTaken taken ReadFault = ⊥
+
+-- what was left goes on behind the bytes that this answer takes, which for an index are its spelling
+abbrev pub HasTaken : Option (List ℕ) → Option (List ℕ) → Result SavedIndex IndexFault → Type 0
+HasTaken before after (Ok index) = HasRead before (index_bytes index) after
+HasTaken before after (Err fault) = (taken : List ℕ) × HasRead before taken after × IsTaken taken fault

@@ -1,7 +1,9 @@
 -- Where the reading of a piece of the file stops.
 use Rattle.std.specs.Prelude.{◌≡◌, ◌⊎◌, ℕ, ◌+◌, ◌<◌, ◌≤◌, ◌^◌, List, ◌∷◌, ◌++◌, length, take, All, Option, IfSome, Result, MatchResult}
 use Rattle.std.specs.List.{flat_map}
+use Rattle.edge.specs.Reading.{HasRead}
 use Rattle.edge.specs.Risen.{HasRisen}
+use Rattle.edge.specs.Shelf.{IsEmptied}
 use Rattle.index_file.specs.declared.saved.SavedRun.{SavedRun}
 use Rattle.index_file.specs.declared.saved.SavedCut.{SavedCut}
 use Rattle.index_file.specs.declared.fault.IndexFault.{IndexFault}
@@ -93,3 +95,15 @@ HasCauseOf _ before after = after ≡ before
 -- the same of a call, which leaves the count where it succeeds
 abbrev pub HasReadCause : {T : Type 0} → ℕ → ℕ → Result T IndexFault → Type 0
 HasReadCause before after result = MatchResult result (λ _. after ≡ before) (λ fault. HasCauseOf fault before after)
+
+-- the bytes that were taken, which begin at this offset of the file, where this is the fault: all up to it, and where memory ran out they go on to a whole piece
+abbrev pub TakesIn : (List ℕ → Type 0) → ℕ → List ℕ → IndexFault → Type 0
+TakesIn Whole offset taken (Short got) = got ≡ offset + length taken
+TakesIn Whole offset taken (Side at byte) = at + 1 ≡ offset + length taken
+TakesIn Whole offset taken NoMemory = (rest : List ℕ) × Whole (taken ++ rest)
+TakesIn Whole offset taken _ = ⊥
+
+-- after `ReadFault` nothing is left, and after another fault what is behind the bytes that were taken
+abbrev pub Leaves : (List ℕ → IndexFault → Type 0) → Option (List ℕ) → Option (List ℕ) → IndexFault → Type 0
+Leaves says before after ReadFault = IsEmptied before after
+Leaves says before after fault = (taken : List ℕ) × HasRead before taken after × says taken fault

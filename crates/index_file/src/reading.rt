@@ -1,18 +1,20 @@
 // Reading the file of an index: its head, its levels, and that nothing follows.
-ghost use Rattle.std.specs.Prelude.{◌≡◌, ◌+◌, ◌*◌, ◌<◌, ◌≤◌, ◌^◌, ℕ, List, ◌∷◌, length};
-ghost use Rattle.std.specs.Prelude.{◌⊎◌, Result, take, drop, slice_index, All};
-ghost use Rattle.std.specs.Prelude.{IfOk, IfErr, OnOk, IfSome, MatchResult};
+ghost use Rattle.std.specs.Prelude.{◌≡◌, ◌≢◌, ◌+◌, ◌*◌, ◌<◌, ◌≤◌, ◌^◌, ℕ, List, ◌∷◌, length};
+ghost use Rattle.std.specs.Prelude.{◌⊎◌, Result, Err, take, drop, slice_index, All};
+ghost use Rattle.std.specs.Prelude.{IfOk, IfErr, OnOk, IfSome, MatchResult, IsErrOf};
 ghost use Rattle.std.specs.List.{flat_map};
 ghost use Rattle.edge.specs.Reading.{HasRead};
 ghost use Rattle.edge.specs.Risen.{StaysQuiet};
+ghost use Rattle.edge.specs.Shelf.{IsEmptied};
 ghost use Rattle.index_file.specs.Spelling.{magic, number, cut_bytes, run_bytes};
-ghost use Rattle.index_file.specs.Spelling.{level_bytes, head_bytes, runs_of, SavedIndex};
+ghost use Rattle.index_file.specs.Spelling.{level_bytes, head_bytes, index_bytes, runs_of};
+ghost use Rattle.index_file.specs.Spelling.{SavedIndex};
 ghost use Rattle.index_file.specs.Spelling.{CutFits, RunFits, LevelFits, IsBounded, IsSpelling};
 ghost use Rattle.index_file.specs.Stops.{IsNumber, FollowsInCut, IsRun, IsBeforeCut, AreRuns};
 ghost use Rattle.index_file.specs.Stops.{AreBeforeCut, IsLevel, IsBeforeLevelCut, AreLevels};
 ghost use Rattle.index_file.specs.Stops.{AreBeforeLevelCut, IsNoCut, EndsIn, StopsIn, HasFault};
-ghost use Rattle.index_file.specs.Stops.{HasReadCause};
-ghost use Rattle.index_file.specs.Faults.{FailsAs, ReadsAs};
+ghost use Rattle.index_file.specs.Stops.{HasReadCause, TakesIn, Leaves};
+ghost use Rattle.index_file.specs.Faults.{FailsAs, ReadsAs, IsTaken, HasTaken};
 
 use crate::spelling::MAGIC;
 use crate::{IndexFault, Saved, SavedCut, SavedRun};
@@ -30,7 +32,7 @@ const FURTHEST: u64 = 1 << 62;
 ///
 /// Memory is taken by what was read: for at most 65,536 runs ahead of their bytes, and never by the
 /// numbers of the file alone. At most one byte past the last level is read, and none past a fault
-/// but for what is left of its number or run. Each turn of a loop takes bytes or ends.
+/// but for what is left of the first eight bytes. Each turn of a loop takes bytes or ends.
 ///
 /// # Errors
 ///
@@ -42,8 +44,8 @@ const FURTHEST: u64 = 1 << 62;
 /// - `Short` where the bytes end before the last level does, and have no fault before their end.
 /// - `Trailing` where a byte follows the last level.
 ///
-/// `ReadFault` at once where the shelf failed. `NoMemory` where memory for the next runs wasn't
-/// found.
+/// `ReadFault` at once where the shelf failed; then nothing is left. `NoMemory` where memory for the
+/// next runs wasn't found, and where the levels so far have more than 2^62 bytes.
 pub fn read_index<F: Shelf>(alloc: Global, shelf: &mut F) -> Result<Saved, IndexFault>
     // Where the shelf tells the bytes: they are the spelling of the index, or the fault is theirs,
     // unless the shelf failed or memory ran out.
@@ -59,6 +61,12 @@ pub fn read_index<F: Shelf>(alloc: Global, shelf: &mut F) -> Result<Saved, Index
     ensures bounded { IfOk result (λ saved. IsBounded saved.eps saved.eps_rec saved.levels) }
     ensures cause { HasReadCause (F.faults shelf.old) (F.faults shelf.new) result }
     ensures files { F.files shelf.new ≡ F.files shelf.old }
+
+    // What is left is what was left, but for a front part: one byte past the last level, at most.
+    ensures taken { result ≢ Err IndexFault.ReadFault →
+        HasTaken (F.rest shelf.old) (F.rest shelf.new) result }
+    ensures nothing_left { IsErrOf result IndexFault.ReadFault → IsEmptied (F.rest shelf.old)
+        (F.rest shelf.new) }
 {
     match read_file(alloc, shelf) {
         Ok(saved) => Ok(saved),
@@ -73,6 +81,9 @@ fn read_file<F: Shelf>(alloc: Global, shelf: &mut F) -> Result<Saved, IndexFault
     ensures bounded { IfOk result (λ saved. IsBounded saved.eps saved.eps_rec saved.levels) }
     ensures cause { HasReadCause (F.faults shelf.old) (F.faults shelf.new) result }
     ensures files { F.files shelf.new ≡ F.files shelf.old }
+    ensures taken { IfOk result
+        (λ saved. HasRead (F.rest shelf.old) (index_bytes saved) (F.rest shelf.new)) }
+    ensures left { IfErr result (Leaves IsTaken (F.rest shelf.old) (F.rest shelf.new)) }
 {
     let head = read_head(shelf)?;
     let mut at = 20;
@@ -102,6 +113,7 @@ fn read_head<F: Shelf>(shelf: &mut F) -> Result<Head, IndexFault>
     ensures fault { IfErr result (HasFault FailsAs (F.rest shelf.old)) }
     ensures cause { HasReadCause (F.faults shelf.old) (F.faults shelf.new) result }
     ensures files { F.files shelf.new ≡ F.files shelf.old }
+    ensures left { IfErr result (Leaves IsTaken (F.rest shelf.old) (F.rest shelf.new)) }
 {
     read_magic(shelf)?;
     let mut at = 8;
@@ -127,6 +139,7 @@ fn read_magic<F: Shelf>(shelf: &mut F) -> Result<(), IndexFault>
     ensures fault { IfErr result (HasFault FailsAs (F.rest shelf.old)) }
     ensures cause { HasReadCause (F.faults shelf.old) (F.faults shelf.new) result }
     ensures files { F.files shelf.new ≡ F.files shelf.old }
+    ensures left { IfErr result (Leaves IsTaken (F.rest shelf.old) (F.rest shelf.new)) }
 {
     let mut bytes = [0; 8];
     let got = fill(shelf, &mut bytes)?;
@@ -150,6 +163,8 @@ fn fill_all<F: Shelf>(shelf: &mut F, bytes: &mut [u8], at: &mut u64) -> Result<(
     ensures fault { IfErr result (HasFault (EndsIn bytes.new at.old) (F.rest shelf.old)) }
     ensures cause { HasReadCause (F.faults shelf.old) (F.faults shelf.new) result }
     ensures files { F.files shelf.new ≡ F.files shelf.old }
+    ensures left { IfErr result
+        (Leaves (TakesIn IsNoCut at.old) (F.rest shelf.old) (F.rest shelf.new)) }
 {
     let got = fill(shelf, bytes)?;
     *at += got as u64;
@@ -169,6 +184,8 @@ fn read_number<F: Shelf>(shelf: &mut F, at: &mut u64) -> Result<u32, IndexFault>
         (HasFault (StopsIn IsNumber IsNoCut at.old) (F.rest shelf.old)) }
     ensures cause { HasReadCause (F.faults shelf.old) (F.faults shelf.new) result }
     ensures files { F.files shelf.new ≡ F.files shelf.old }
+    ensures left { IfErr result
+        (Leaves (TakesIn IsNoCut at.old) (F.rest shelf.old) (F.rest shelf.new)) }
 {
     let mut bytes = [0; 4];
     fill_all(shelf, &mut bytes, at)?;
@@ -197,6 +214,8 @@ fn read_cut<F: Shelf>(shelf: &mut F, at: &mut u64, byte: u8) -> Result<SavedCut,
         (HasFault (StopsIn (FollowsInCut byte) IsNoCut at.old) (F.rest shelf.old)) }
     ensures cause { HasReadCause (F.faults shelf.old) (F.faults shelf.new) result }
     ensures files { F.files shelf.new ≡ F.files shelf.old }
+    ensures left { IfErr result
+        (Leaves (TakesIn IsNoCut at.old) (F.rest shelf.old) (F.rest shelf.new)) }
 {
     if byte == 0 {
         return Ok(SavedCut::Last);
@@ -221,6 +240,8 @@ fn read_run<F: Shelf>(shelf: &mut F, at: &mut u64) -> Result<SavedRun, IndexFaul
         (HasFault (StopsIn IsRun IsBeforeCut at.old) (F.rest shelf.old)) }
     ensures cause { HasReadCause (F.faults shelf.old) (F.faults shelf.new) result }
     ensures files { F.files shelf.new ≡ F.files shelf.old }
+    ensures left { IfErr result
+        (Leaves (TakesIn IsRun at.old) (F.rest shelf.old) (F.rest shelf.new)) }
 {
     let mut front = [0; 13];
     fill_all(shelf, &mut front, at)?;
@@ -254,6 +275,8 @@ fn read_runs<F: Shelf>(
         (HasFault (StopsIn (AreRuns count) (AreBeforeCut count) at.old) (F.rest shelf.old)) }
     ensures cause { HasReadCause (F.faults shelf.old) (F.faults shelf.new) result }
     ensures files { F.files shelf.new ≡ F.files shelf.old }
+    ensures left { IfErr result
+        (Leaves (TakesIn (AreRuns count) at.old) (F.rest shelf.old) (F.rest shelf.new)) }
 {
     let mut runs = Vec::new(alloc);
     for done in 0..count {
@@ -283,6 +306,8 @@ fn read_level<F: Shelf>(
         (HasFault (StopsIn IsLevel IsBeforeLevelCut at.old) (F.rest shelf.old)) }
     ensures cause { HasReadCause (F.faults shelf.old) (F.faults shelf.new) result }
     ensures files { F.files shelf.new ≡ F.files shelf.old }
+    ensures left { IfErr result
+        (Leaves (TakesIn IsLevel at.old) (F.rest shelf.old) (F.rest shelf.new)) }
 {
     let count = read_number(shelf, at)?;
     let runs = read_runs(alloc, shelf, count, at)?;
@@ -304,6 +329,8 @@ fn read_levels<F: Shelf>(
         (AreBeforeLevelCut count) at.old) (F.rest shelf.old)) }
     ensures cause { HasReadCause (F.faults shelf.old) (F.faults shelf.new) result }
     ensures files { F.files shelf.new ≡ F.files shelf.old }
+    ensures left { IfErr result
+        (Leaves (TakesIn (AreLevels count) at.old) (F.rest shelf.old) (F.rest shelf.new)) }
 {
     let mut levels = Vec::new(alloc);
     for done in 0..count {

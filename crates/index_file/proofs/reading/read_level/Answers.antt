@@ -5,8 +5,8 @@ use Rattle.std.proofs.lemmas.Result.{err_from_is_err_and}
 use Rattle.edge.specs.Reading.{HasRead}
 use Rattle.edge.proofs.CallerLemmas.{HasRead-append}
 use Rattle.index_file.specs.Spelling.{number, run_bytes}
-use Rattle.index_file.specs.Stops.{IsNumber, IsNoCut, AreRuns, AreBeforeCut, IsLevel, IsBeforeLevelCut, StopsIn, HasFault}
-use Rattle.index_file.proofs.Stopping.{IfErr-from, HasFault-moves}
+use Rattle.index_file.specs.Stops.{IsNumber, IsNoCut, AreRuns, AreBeforeCut, IsLevel, IsBeforeLevelCut, StopsIn, HasFault, TakesIn, Leaves}
+use Rattle.index_file.proofs.Stopping.{IfErr-from, HasFault-moves, Leaves-moves}
 use Rattle.index_file.proofs.Runs.{HasRead-nothing}
 use Rattle.index_file.proofs.Numbers.{length-number}
 use Rattle.index_file.proofs.Levels.{level-of, length-level, number-goes, runs-go}
@@ -29,6 +29,17 @@ returns-in_err-runs-clause-fault g c =
     IfErr-from _ (HasFault (StopsIn IsLevel IsBeforeLevelCut c.args.at.now) (g.F.Shelf.rest c.args.shelf.now)) _ fault p.1 p.2
     (HasFault-moves (AreRuns count) (AreBeforeCut count) IsLevel IsBeforeLevelCut c.args.at.now c.read_number.new.at (number count) (g.F.Shelf.rest c.args.shelf.now) (g.F.Shelf.rest c.read_number.new.shelf) fault
     (omega (arith, c.in_ok-count.ensures.at, length-number count)) c.in_ok-count.ensures.read (runs-go count (omega arith)) (λ front before. (count, front, omega arith, before, refl)) c.in_err-runs.ensures.fault)
+
+pub returns-in_err-runs-clause-left : goal.returns-in_err-runs-clause-left
+returns-in_err-runs-clause-left g c =
+    let p = err_from_is_err_and c.from_residual-in_err-runs.result c.from_residual-in_err-runs.ensures.1 in
+    let fault = c.in_err-runs.field-0.0 in
+    let count = c.in_ok-count.count in
+    let told = g.F.Shelf.rest c.args.shelf.now in
+    let after = g.F.Shelf.rest c.read_runs.new.shelf in
+    IfErr-from _ (Leaves (TakesIn IsLevel c.args.at.now) told after) _ fault p.1 p.2
+    (Leaves-moves (AreRuns count) IsLevel c.args.at.now c.read_number.new.at (number count) told (g.F.Shelf.rest c.read_number.new.shelf) after fault
+    (omega (arith, c.in_ok-count.ensures.at, length-number count)) c.in_ok-count.ensures.read (runs-go count (omega arith)) c.in_err-runs.ensures.left)
 
 pub returns-clause-read : goal.returns-clause-read
 returns-clause-read g c =
