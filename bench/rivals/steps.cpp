@@ -1,5 +1,7 @@
-// The steps that fitting by hulls takes, counted: the algorithm of crates/hulls in plain C++, with a counter.
-//   steps KEYS EPS     a file of 64-bit keys after a 64-bit count; each distinct key is a point at the height of its place
+// The steps that fitting by hulls takes, counted: the algorithm of crates/hulls in plain C++, with
+// a counter.
+//   steps KEYS EPS     a file of 64-bit keys after a 64-bit count; each distinct key is a point at
+//   the height of its place
 #include <cstdint>
 #include <cstdio>
 #include <cstdlib>
@@ -10,8 +12,14 @@ typedef __int128 i128;
 
 static u64 steps = 0;
 
-struct Vertex { u64 x; uint32_t height, place; };
-struct Slope { long long rise; u64 run; };
+struct Vertex {
+    u64 x;
+    uint32_t height, place;
+};
+struct Slope {
+    long long rise;
+    u64 run;
+};
 
 static Slope between(const Vertex &low, const Vertex &high, uint32_t lift) {
     return {(long long)high.height + lift - low.height, high.x - low.x};
@@ -32,7 +40,9 @@ struct Hull {
         tangent = 0;
         slope = {1LL << 40, 1};
     }
-    bool is_over(const Vertex &next) { return is_below(slope, between(vertices[tangent], next, 0)); }
+    bool is_over(const Vertex &next) {
+        return is_below(slope, between(vertices[tangent], next, 0));
+    }
     bool turn_to(const Vertex &next, uint32_t lift) {
         Slope nearest = between(vertices[tangent], next, lift);
         if (!is_below(nearest, slope)) return false;
@@ -49,15 +59,20 @@ struct Hull {
         if (!stands_out) return;
         while (vertices.size() > tangent + 1) {
             const Vertex &last = vertices.back();
-            if (is_below(between(last, next, 0), between(vertices[vertices.size() - 2], last, 0))) break;
+            if (is_below(between(last, next, 0), between(vertices[vertices.size() - 2], last, 0)))
+                break;
             vertices.pop_back();
         }
         vertices.push_back(next);
     }
 };
 
-static Vertex upright(const std::vector<u64> &keys, size_t i) { return {keys[i], (uint32_t)i, (uint32_t)i}; }
-static Vertex turned(const std::vector<u64> &keys, size_t i) { return {keys[i], ~(uint32_t)i, (uint32_t)i}; }
+static Vertex upright(const std::vector<u64> &keys, size_t i) {
+    return {keys[i], (uint32_t)i, (uint32_t)i};
+}
+static Vertex turned(const std::vector<u64> &keys, size_t i) {
+    return {keys[i], ~(uint32_t)i, (uint32_t)i};
+}
 
 int main(int argc, char **argv) {
     if (argc != 3) return 2;
@@ -89,5 +104,6 @@ int main(int argc, char **argv) {
         u64 per_point = (steps - before + (i - start) - 1) / (i - start);
         if (per_point > most) most = per_point;
     }
-    printf("keys %zu eps %s runs %zu steps %llu (%.2f a key, at most %llu a key in any run)\n", m, argv[2], runs, steps, (double)steps / (double)m, most);
+    printf("keys %zu eps %s runs %zu steps %llu (%.2f a key, at most %llu a key in any run)\n", m,
+           argv[2], runs, steps, (double)steps / (double)m, most);
 }

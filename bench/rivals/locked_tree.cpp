@@ -1,9 +1,12 @@
-// A B-tree that many threads read under one lock, beside `bench read`: absl::btree_map and std::shared_mutex.
+// A B-tree that many threads read under one lock, beside `bench read`: absl::btree_map and
+// std::shared_mutex.
 //   locked_tree KEYS LOOKS
-// The same keys, questions and batches as `bench read`, and the same lines: one, two and four readers look LOOKS times each at one
-// key, first while the writer is still and then while it writes batches of 16 puts without pause, each batch under the lock. A
-// look takes the lock shared. Millions of looks a second of all readers together, batches written meanwhile, the sum of what
-// was found, and the longest time of a look in microseconds, of a round of its own in which each look is timed.
+// The same keys, questions and batches as `bench read`, and the same lines: one, two and four
+// readers look LOOKS times each at one key, first while the writer is still and then while it
+// writes batches of 16 puts without pause, each batch under the lock. A look takes the lock shared.
+// Millions of looks a second of all readers together, batches written meanwhile, the sum of what
+// was found, and the longest time of a look in microseconds, of a round of its own in which each
+// look is timed.
 #include <absl/container/btree_map.h>
 #include <algorithm>
 #include <atomic>
@@ -23,9 +26,7 @@ static double since(Clock::time_point start) {
     return std::chrono::duration<double>(Clock::now() - start).count();
 }
 
-static u64 scattered(u64 turn, u64 keys) {
-    return turn * 0x9E3779B97F4A7C15ull % keys;
-}
+static u64 scattered(u64 turn, u64 keys) { return turn * 0x9E3779B97F4A7C15ull % keys; }
 
 struct Locked {
     absl::btree_map<u64, u64> map;
@@ -64,7 +65,8 @@ struct Round {
 };
 
 // All readers look, in threads of their own, and the writer writes beside them or is still.
-static Round one_round(Locked &tree, unsigned readers, u64 keys, unsigned looks, bool writing, bool timed) {
+static Round one_round(Locked &tree, unsigned readers, u64 keys, unsigned looks, bool writing,
+                       bool timed) {
     std::vector<Looked> looked(readers);
     std::atomic<bool> done(!writing);
     u64 batches = 0;
@@ -103,9 +105,10 @@ int main(int argc, char **argv) {
             Round plain = one_round(tree, readers, keys, looks, writing, false);
             Round timed = one_round(tree, readers, keys, looks, writing, true);
             double rate = (double)readers * looks / plain.seconds / 1e6;
-            std::printf("readers %u writing %s looks %.2f batches %llu\n", readers, writing ? "true" : "false", rate,
-                        (unsigned long long)plain.batches);
-            std::printf("  longest %.1f sum %llu\n", timed.all.longest * 1e6, (unsigned long long)plain.all.sum);
+            std::printf("readers %u writing %s looks %.2f batches %llu\n", readers,
+                        writing ? "true" : "false", rate, (unsigned long long)plain.batches);
+            std::printf("  longest %.1f sum %llu\n", timed.all.longest * 1e6,
+                        (unsigned long long)plain.all.sum);
         }
     }
 }

@@ -18,14 +18,12 @@ using std::uint64_t;
 constexpr int ROUNDS = 3;
 constexpr size_t LEAF = 16;
 
-template <int D> struct Point {
-    uint32_t at[D];
-};
+template <int D> struct Point { uint32_t at[D]; };
 
 template <int D> struct Node {
-    uint32_t low[D], high[D];  // the least box that has its points
-    uint32_t first, last;      // its points: first..last
-    uint32_t right;            // the right child, and 0 in a leaf; the left one follows the node
+    uint32_t low[D], high[D]; // the least box that has its points
+    uint32_t first, last;     // its points: first..last
+    uint32_t right;           // the right child, and 0 in a leaf; the left one follows the node
 };
 
 template <int D> class Tree {
@@ -65,10 +63,9 @@ private:
         for (int c = 1; c < D; c++)
             if (node.high[c] - node.low[c] > node.high[widest] - node.low[widest]) widest = c;
         size_t middle = first + (last - first) / 2;
-        std::nth_element(points.begin() + first, points.begin() + middle, points.begin() + last,
-                         [widest](const Point<D> &a, const Point<D> &b) {
-                             return a.at[widest] < b.at[widest];
-                         });
+        std::nth_element(
+            points.begin() + first, points.begin() + middle, points.begin() + last,
+            [widest](const Point<D> &a, const Point<D> &b) { return a.at[widest] < b.at[widest]; });
         build(first, middle);
         uint32_t right = build(middle, last);
         nodes[here].right = right;
@@ -149,8 +146,10 @@ template <int D> std::vector<Question<D>> read_script(const char *name) {
     while (in >> word) {
         Question<D> question;
         for (int c = 0; c < D; c++) in >> question.centre.at[c];
-        if (word == "near" && in >> question.k) questions.push_back(question);
-        else std::exit((std::fprintf(stderr, "no script: %s\n", name), 1));
+        if (word == "near" && in >> question.k)
+            questions.push_back(question);
+        else
+            std::exit((std::fprintf(stderr, "no script: %s\n", name), 1));
     }
     return questions;
 }
@@ -190,8 +189,12 @@ template <int D> void run(const char *points_name, char **scripts) {
 
 int main(int count, char **words) {
     int dims = count > 2 ? std::atoi(words[2]) : 0;
-    if (dims == 2) run<2>(words[1], words + 3);
-    else if (dims == 3) run<3>(words[1], words + 3);
-    else if (dims == 4) run<4>(words[1], words + 3);
-    else return std::fprintf(stderr, "usage: kd_tree POINTS 2|3|4 SCRIPT..\n"), 1;
+    if (dims == 2)
+        run<2>(words[1], words + 3);
+    else if (dims == 3)
+        run<3>(words[1], words + 3);
+    else if (dims == 4)
+        run<4>(words[1], words + 3);
+    else
+        return std::fprintf(stderr, "usage: kd_tree POINTS 2|3|4 SCRIPT..\n"), 1;
 }

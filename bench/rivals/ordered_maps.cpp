@@ -38,8 +38,10 @@ struct Update {
 static std::vector<Update> updates(Number n, Number from, Number stream) {
     std::vector<Update> list;
     for (Number i = 0; i < n; ++i) {
-        if (i % 2 == 0) list.push_back({scattered(from + i), i, true});
-        else list.push_back({some_key(n, drawn(stream, i)), 0, false});
+        if (i % 2 == 0)
+            list.push_back({scattered(from + i), i, true});
+        else
+            list.push_back({some_key(n, drawn(stream, i)), 0, false});
     }
     return list;
 }
@@ -57,16 +59,20 @@ template <class Map> static Number values(const Map &map, Number n, bool hits) {
     Number sum = 0;
     for (Number i = 0; i < n; ++i) {
         auto found = map.find(hits ? some_key(n, drawn(1, i)) : drawn(7, i));
-        if (found != map.end()) sum += found->second;
-        else if (!hits) ++sum;
+        if (found != map.end())
+            sum += found->second;
+        else if (!hits)
+            ++sum;
     }
     return sum;
 }
 
 template <class Map> static Number update_all(Map &map, const std::vector<Update> &list) {
     for (auto &update : list) {
-        if (update.is_put) map.insert_or_assign(update.key, update.value);
-        else map.erase(update.key);
+        if (update.is_put)
+            map.insert_or_assign(update.key, update.value);
+        else
+            map.erase(update.key);
     }
     return 0;
 }
@@ -83,16 +89,27 @@ template <class Map> static void time_all(Number n) {
         for (int phase = 0; phase < 8; ++phase) {
             auto start = std::chrono::steady_clock::now();
             switch (phase) {
-            case 0: sums[phase] = update_all(map, puts); break;
-            case 1: sums[phase] = values(map, n, true); break;
-            case 2: sums[phase] = values(map, n, false); break;
-            case 4: sums[phase] = update_all(map, first); break;
-            case 6: sums[phase] = update_all(map, second); break;
-            default: sums[phase] = least_keys(map, n, (phase + 1) / 2);
+            case 0:
+                sums[phase] = update_all(map, puts);
+                break;
+            case 1:
+                sums[phase] = values(map, n, true);
+                break;
+            case 2:
+                sums[phase] = values(map, n, false);
+                break;
+            case 4:
+                sums[phase] = update_all(map, first);
+                break;
+            case 6:
+                sums[phase] = update_all(map, second);
+                break;
+            default:
+                sums[phase] = least_keys(map, n, (phase + 1) / 2);
             }
             auto time = std::chrono::steady_clock::now() - start;
-            least[phase] = std::min(least[phase],
-                                    std::chrono::duration<double, std::nano>(time).count() / n);
+            least[phase] =
+                std::min(least[phase], std::chrono::duration<double, std::nano>(time).count() / n);
         }
     }
     for (int phase = 0; phase < 8; ++phase)
@@ -103,8 +120,11 @@ template <class Map> static void time_all(Number n) {
 int main(int count, char **words) {
     if (count != 3) return 2;
     Number n = std::strtoull(words[2], nullptr, 10);
-    if (words[1] == std::string("tree")) time_all<absl::btree_map<Number, Number>>(n);
-    else if (words[1] == std::string("map")) time_all<std::map<Number, Number>>(n);
-    else return 2;
+    if (words[1] == std::string("tree"))
+        time_all<absl::btree_map<Number, Number>>(n);
+    else if (words[1] == std::string("map"))
+        time_all<std::map<Number, Number>>(n);
+    else
+        return 2;
     return 0;
 }

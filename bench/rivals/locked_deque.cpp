@@ -1,7 +1,8 @@
 // Updates of several senders through one std::deque behind a lock, beside `pgmtool mix`.
 //   locked_deque UPDATES SENDERS WAY
-// The updates are dealt out in turn to senders, each in a thread of its own, and one thread takes all of them. The deque holds at most 64. WAY is
-// `yield`, where who finds it full or empty lets others run and tries again, as `mix` does, or `wait`, where two condition variables wake him.
+// The updates are dealt out in turn to senders, each in a thread of its own, and one thread takes
+// all of them. The deque holds at most 64. WAY is `yield`, where who finds it full or empty lets
+// others run and tries again, as `mix` does, or `wait`, where two condition variables wake him.
 // Seconds, and millions of updates a second.
 #include <chrono>
 #include <condition_variable>
@@ -14,8 +15,13 @@
 #include <thread>
 #include <vector>
 
-struct Update { std::uint64_t kind, key, value; };
-struct Item { std::uint32_t sender; Update update; };
+struct Update {
+    std::uint64_t kind, key, value;
+};
+struct Item {
+    std::uint32_t sender;
+    Update update;
+};
 
 static const std::size_t ROOM = 64;
 
@@ -25,7 +31,7 @@ struct Queue {
     std::condition_variable has_room, has_item;
     bool waits;
 
-    void send(const Item& item) {
+    void send(const Item &item) {
         if (waits) {
             std::unique_lock<std::mutex> held(lock);
             has_room.wait(held, [&] { return items.size() < ROOM; });
@@ -64,11 +70,12 @@ struct Queue {
     }
 };
 
-int main(int, char** words) {
-    const std::size_t count = std::strtoull(words[1], nullptr, 10), senders = std::strtoull(words[2], nullptr, 10);
+int main(int, char **words) {
+    const std::size_t count = std::strtoull(words[1], nullptr, 10),
+                      senders = std::strtoull(words[2], nullptr, 10);
     std::vector<Update> updates(count);
     std::uint64_t state = 88172645463325252ull;
-    for (Update& update : updates) {
+    for (Update &update : updates) {
         state ^= state << 13, state ^= state >> 7, state ^= state << 17;
         update = {state % 4 == 0, state % count, state};
     }
@@ -85,7 +92,9 @@ int main(int, char** words) {
         });
     }
     while (came.size() < count) came.push_back(queue.take());
-    for (std::thread& thread : threads) thread.join();
-    const double seconds = std::chrono::duration<double>(std::chrono::steady_clock::now() - start).count();
-    std::printf("%.3f seconds, %.2f million updates a second\n", seconds, double(count) / seconds / 1e6);
+    for (std::thread &thread : threads) thread.join();
+    const double seconds =
+        std::chrono::duration<double>(std::chrono::steady_clock::now() - start).count();
+    std::printf("%.3f seconds, %.2f million updates a second\n", seconds,
+                double(count) / seconds / 1e6);
 }

@@ -15,7 +15,9 @@ struct Segment {
     uint64_t start, a, b;
 };
 
-static bool at_most(Slope f, Slope g) { return (__int128)f.rise * g.run <= (__int128)g.rise * f.run; }
+static bool at_most(Slope f, Slope g) {
+    return (__int128)f.rise * g.run <= (__int128)g.rise * f.run;
+}
 
 int main(int, char **words) {
     FILE *file = fopen(words[1], "rb");
@@ -37,7 +39,8 @@ int main(int, char **words) {
                 uint64_t low = a, high = b;
                 for (uint64_t j = s; j < e; j++) {
                     int64_t up = e - j;
-                    Slope to_top{up + 2 * eps, keys[e] - keys[j]}, to_bottom{up - 2 * eps, keys[e] - keys[j]};
+                    Slope to_top{up + 2 * eps, keys[e] - keys[j]},
+                        to_bottom{up - 2 * eps, keys[e] - keys[j]};
                     if (!at_most(steeper, to_top)) steeper = to_top, low = j, high = e;
                     if (!at_most(to_bottom, flatter)) flatter = to_bottom;
                 }
@@ -55,9 +58,10 @@ int main(int, char **words) {
         Segment g = segments[i];
         uint64_t end = i + 1 < segments.size() ? segments[i + 1].start : n;
         if (g.a == g.b)
-            printf("run %lu %lu pair %lu %lu line %lu %lu 0 1\n", g.start, end, g.a, g.b, keys[g.a], g.a);
+            printf("run %lu %lu pair %lu %lu line %lu %lu 0 1\n", g.start, end, g.a, g.b, keys[g.a],
+                   g.a);
         else
-            printf("run %lu %lu pair %lu %lu line %lu %ld %lu %lu\n", g.start, end, g.a, g.b, keys[g.a], (int64_t)g.a - eps,
-                   g.b - g.a + 2 * eps, keys[g.b] - keys[g.a]);
+            printf("run %lu %lu pair %lu %lu line %lu %ld %lu %lu\n", g.start, end, g.a, g.b,
+                   keys[g.a], (int64_t)g.a - eps, g.b - g.a + 2 * eps, keys[g.b] - keys[g.a]);
     }
 }

@@ -1,0 +1,432 @@
+#!/usr/bin/env python3
+"""Measures the tables of bench/README.md; `run.sh` calls it, and says what its words are.
+
+A part runs all sides of its table in turn, so many rounds, keeps the least of each, compares what
+they found, and writes the table between the marks `<!-- NAME -->` and `<!-- end of NAME -->` of the
+page, with the date, the processor and the commit.
+"""
+import argparse
+import datetime
+import os
+import pathlib
+import re
+import subprocess
+import sys
+import time
+
+TOP = pathlib.Path(__file__).resolve().parent.parent
+PAGE = TOP / "bench/README.md"
+KINDS = ("uniform", "cascade", "events", "dense", "pareto", "outliers", "lognormal", "normal",
+         "numbers")
+# Pages of two megabytes, as the script `pgmtool` has them.
+MOST = 4294967296
+PAGES = (f"glibc.malloc.hugetlb=1:glibc.malloc.mmap_threshold={MOST}"
+         f":glibc.malloc.trim_threshold={MOST}")
+
+
+class Missing(Exception):
+    """What a part lacks."""
+
+
+class Runs:
+    """The programs, the data and the rounds."""
+
+    def __init__(self, given):
+        self.made = pathlib.Path(given.made).resolve()
+        self.given = given
+        self.pgmtool = os.environ.get("PGMTOOL", TOP / "crates/pgmtool/out/pgmtool")
+        self.bench = os.environ.get("BENCH", TOP / "crates/bench/out/bench")
+
+    def rounds(self):
+        return range(self.given.rounds)
+
+    def rival(self, name):
+        return self.made / name
+
+    def run(self, program, *words, **how):
+        """What a program writes."""
+        if not os.path.exists(program):
+            raise Missing(f"{program} isn't there")
+        done = subprocess.run([program, *map(str, words)], stdout=subprocess.PIPE,
+                              stderr=subprocess.PIPE, text=True, **how)
+        if done.returncode:
+            raise Missing(f"{program} ended with {done.returncode}: {done.stderr.strip()[-200:]}")
+        return done.stdout
+
+    def wall(self, program, *words, out=subprocess.DEVNULL):
+        """The seconds of a process of the proved program, as the script starts it."""
+        if not os.path.exists(program):
+            raise Missing(f"{program} isn't there")
+        start = time.perf_counter()
+        subprocess.run([program, *map(str, words)], stdout=out, stderr=subprocess.DEVNULL,
+                       check=True, env=dict(os.environ, GLIBC_TUNABLES=PAGES))
+        return time.perf_counter() - start
+
+    def file(self, name, *words):
+        """A file of data, made where it isn't there; its words end with its name."""
+        path = self.made / "data" / name
+        if not path.exists():
+            self.run(self.rival("make_inputs"), *words, path)
+        return path
+
+    def keys(self, kind):
+        real = self.made / "data" / f"{kind}.keys"
+        if kind not in KINDS:
+            return real
+        size, seed = self.given.size, self.given.seed
+        return self.file(f"{kind}.{size}.{seed}.keys", "keys", kind, size, seed)
+
+    def questions(self, kind):
+        many, seed, keys = self.given.questions, self.given.seed, self.keys(kind)
+        return self.file(f"{keys.stem}.{many}.questions", "questions", keys, many, seed)
+
+    def kinds(self):
+        """The kinds that are made, and the key files that somebody put beside them."""
+        names = {path.stem for path in (self.made / "data").glob("*.keys")}
+        return KINDS + tuple(sorted(name for name in names if "." not in name))
+
+
+def agree(what, found):
+    """The one value that all sides found."""
+    values = set(found.values())
+    if len(values) != 1:
+        raise Missing(f"{what}: the sides differ: {found}")
+    return values.pop()
+
+
+def least(times, key, value):
+    times[key] = min(float(value), times.get(key, float("inf")))
+
+
+def rows_of(text, word):
+    """The lines that begin with a word, each as its pairs of name and value."""
+    for line in text.splitlines():
+        words = line.split()
+        if words and words[0] == word:
+            yield dict(zip(words[::2], words[1::2]))
+
+
+def asked(text, times, prefix):
+    """The three ways of `bench lookup`, once for the index and once for buckets."""
+    sums = re.findall(r"^checksum (\d+)$", text, re.M)
+    for name, part in zip(("index", "buckets"), text.split("checksum ")[1:]):
+        for way in ("alone", "chained", "together"):
+            least(times, f"{prefix}{name} {way}", re.search(rf"^{way} (\d+)", part, re.M).group(1))
+    return sums
+
+
+def timed_lookups(runs, kind):
+    """All ways among the keys of a kind: their times, and what the rival's indexes take."""
+    keys, questions = runs.keys(kind), runs.questions(kind)
+    times, ways, sums = {}, {}, {}
+    for _ in runs.rounds():
+        for way in rows_of(runs.run(runs.rival("lookups"), keys, questions, 1), "way"):
+            ways[way["way"]] = way
+            for name in ("build", "alone", "chained", "together"):
+                least(times, f"{way['way']} {name}", way[name])
+            if way["way"] != "spline_16":
+                sums[way["way"]] = way["checksum"]
+        for eps, bits in ((64, ()), (16, (16,))):
+            text = runs.run(runs.bench, "lookup", keys, questions, eps, *bits)
+            for number, one in enumerate(asked(text, times, f"{eps} ")):
+                sums[f"bench {eps} {number}"] = one
+    agree(kind, sums)
+    return times, ways
+
+
+def pair(times, name):
+    return f"{times[name + ' alone']:.0f}, {times[name + ' chained']:.0f}"
+
+
+def lookups(runs):
+    first, second = [], []
+    for kind in runs.kinds():
+        times, _ = timed_lookups(runs, kind)
+
+        def together(name):
+            return f"{times[name + ' together']:.0f}"
+
+        first.append([kind, pair(times, "lower_bound"), pair(times, "pgm_64"),
+                      pair(times, "64 index"), together("halving"), together("pgm_64"),
+                      together("64 index")])
+        second.append([kind, *(pair(times, name) for name in (
+            "pgm_16", "buckets_16", "spline_16", "rmi_16", "rmi_20", "16 index", "16 buckets")),
+            together("16 index"), together("16 buckets")])
+    write(runs, "lookups", ["ε 64", "`std::lower_bound`", "C++ PGM", "`Index`, one at a time",
+                            "halving, 16", "C++ PGM, 16", "`Index::positions`, 16"], first)
+    write(runs, "lookups by tables", ["ε 16", "C++ PGM", "C++ PGM by buckets", "RadixSpline",
+                                      "RMI 2^16", "RMI 2^20", "`Index`", "`Buckets`",
+                                      "`Index`, 16", "`Buckets`, 16"], second)
+
+
+def live_bytes(runs, kind, eps):
+    """What an index in memory takes beyond its keys: what is held of malloc when it is built."""
+    keys = runs.keys(kind)
+    few = runs.file(f"{keys.stem}.16.questions", "questions", keys, 16, 1)
+    shim = dict(os.environ, LD_PRELOAD=str(runs.made / "live_bytes.so"))
+    done = subprocess.run([runs.bench, "lookup", keys, few, str(eps)], env=shim, text=True,
+                          stdout=subprocess.DEVNULL, stderr=subprocess.PIPE, check=True)
+    held = int(re.search(r"^live (\d+)", done.stderr, re.M).group(1))
+    return held - (keys.stat().st_size - 8)
+
+
+def memory(runs):
+    rows = []
+    for kind in runs.kinds():
+        keys = runs.keys(kind)
+        text = runs.run(runs.rival("lookups"), keys, runs.questions(kind), 0)
+        ways = {way["way"]: int(way["bytes"]) for way in rows_of(text, "way")}
+        saved = {}
+        for eps in (16, 64):
+            path = runs.made / "saved"
+            with open(path, "wb") as file:
+                runs.wall(runs.pgmtool, "save", keys, "--eps", eps, out=file)
+            saved[eps] = path.stat().st_size
+        cells = [saved[16], saved[64], live_bytes(runs, kind, 16), live_bytes(runs, kind, 64)]
+        cells += [ways[name] for name in ("pgm_16", "pgm_64", "buckets_16", "spline_16", "rmi_16")]
+        cells += [ways["btree_map"]] if "btree_map" in ways else ["-"]
+        rows.append([kind, *(cell if cell == "-" else f"{cell:,}" for cell in cells)])
+    write(runs, "memory", ["bytes beyond the keys", "saved, ε 16", "ε 64", "`Index`, ε 16", "ε 64",
+                           "C++ PGM, ε 16", "ε 64", "by buckets, ε 16", "RadixSpline, ε 16",
+                           "RMI 2^16", "`btree_map`, with the keys"], rows)
+
+
+def building(runs):
+    first, second = [], []
+    for kind in runs.kinds():
+        keys, times, found = runs.keys(kind), {}, {}
+        saved = runs.made / "saved"
+        for _ in runs.rounds():
+            for workers in (1, 4):
+                least(times, f"build {workers}",
+                      runs.wall(runs.pgmtool, "build", keys, "--workers", workers))
+            for what in ("build", "read"):
+                least(times, f"C++ {what}", runs.wall(runs.rival("reading"), what, keys))
+            with open(saved, "wb") as file:
+                words = "save", keys, "--workers", 1
+                least(times, "save", runs.wall(runs.pgmtool, *words, out=file))
+            least(times, "check", runs.wall(runs.pgmtool, "check", keys, saved))
+        built = runs.run(runs.pgmtool, "build", keys)
+        checked = runs.run(runs.pgmtool, "check", keys, saved).split()
+        found["build"] = sum(int(number) for number in re.findall(r"runs (\d+)", built))
+        found["check"] = int(checked[-1])
+        runs_in_all, size = agree(kind, found), saved.stat().st_size
+
+        def cell(name):
+            return f"{times[name]:.3g}"
+
+        first.append([kind, *map(cell, ("build 1", "build 4", "C++ build", "C++ read"))])
+        second.append([kind, *map(cell, ("build 1", "save", "check")), f"{runs_in_all:,}",
+                       f"{size:,}", f"{size / max(runs_in_all, 1):.1f}"])
+    write(runs, "building", ["seconds", "`build`, 1", "4", "C++ build", "C++ read"], first)
+    write(runs, "saved indexes", ["seconds", "`build`", "`save`", "`check`", "Runs",
+                                  "Bytes of the file", "Bytes a run"], second)
+
+
+def segmenting(runs):
+    bounds, rows, by_workers = (4, 16, 64, 256), [], []
+    for kind in runs.kinds():
+        keys, times = runs.keys(kind), {}
+        for _ in runs.rounds():
+            for eps in bounds:
+                found = {}
+                for side, program, words in (
+                        ("C++", runs.rival("fitter"), (keys, eps, 1)),
+                        ("segment", runs.bench, ("segment", keys, eps))):
+                    line = next(rows_of(runs.run(program, *words), "keys"))
+                    found[side] = line["runs"]
+                    least(times, f"{side} {eps}", int(line["nanoseconds"]) / int(line["keys"]))
+                agree(f"{kind}, ε {eps}", found)
+            for workers in (1, 2, 4):
+                text = runs.run(runs.bench, "segment", keys, 64, workers)
+                line = next(rows_of(text, "keys"))
+                least(times, f"pieces {workers}", int(line["nanoseconds"]) / int(line["keys"]))
+        rows.append([kind, *(f"{times[f'C++ {eps}']:.1f}, {times[f'segment {eps}']:.1f}"
+                             for eps in bounds)])
+        by_workers.append([kind, *(f"{times[name]:.1f}" for name in (
+            "C++ 64", "segment 64", "pieces 1", "pieces 2", "pieces 4"))])
+    write(runs, "segmenting", ["nanoseconds a key", *(f"ε {eps}" for eps in bounds)], rows)
+    write(runs, "segmenting by workers", ["ε 64", "C++ fitter", "`segment`", "pieces, 1 worker",
+                                          "2", "4"], by_workers)
+
+
+def nearest(runs):
+    rows, points_py = [], TOP / "bench/points.py"
+    points, centres, seed = runs.given.size // 10, runs.given.questions // 100, runs.given.seed
+    for kind in ("uniform", "clustered"):
+        data = runs.made / "data" / f"{kind}.{points}.{seed}.points"
+        if not data.exists():
+            runs.run(sys.executable, points_py, "points", points, 2, kind, seed, data)
+        cells = [kind]
+        for k in (1, 10, 100):
+            script = data.with_suffix(f".{centres}.{k}")
+            if not script.exists():
+                runs.run(sys.executable, points_py, "centres", centres, 2, k, seed, data, script)
+            times, found = {}, {}
+            for _ in runs.rounds():
+                least(times, "near", runs.wall(runs.pgmtool, "near", data, script))
+                least(times, "none", runs.wall(runs.pgmtool, "near", data, "/dev/null"))
+                line = next(rows_of(runs.run(runs.rival("kd_tree"), data, 2, script), "script"))
+                least(times, "tree", line["nanoseconds"])
+                found["tree"] = int(line["distances"])
+            text = runs.run(runs.pgmtool, "near", data, script)
+            found["near"] = sum(int(line.split()[2]) for line in text.splitlines()
+                                if line.startswith("point"))
+            agree(f"{kind}, k = {k}", found)
+            each = (times["near"] - times["none"]) * 1e6 / centres
+            cells.append(f"{each:.2g}, {times['tree'] / 1e3:.2g}")
+        rows.append(cells)
+    write(runs, "the nearest points", ["microseconds", "k = 1", "k = 10", "k = 100"], rows)
+
+
+WORKS = (("put", "put"), ("hit", "get, a key that is there"), ("miss", "get, one that is not"),
+         ("next", "next"), ("mixed", "mixed updates"), ("next2", "next after them"),
+         ("apply", "the same by `apply`"), ("next3", "next after both"))
+
+
+def ordered_map(runs):
+    size, times, sums = runs.given.size // 10, {}, {}
+    for _ in runs.rounds():
+        for side, program, words in (("map", runs.bench, ("map", size)),
+                                     ("tree", runs.rival("ordered_maps"), ("tree", size))):
+            for line in runs.run(program, *words).splitlines():
+                work, nanoseconds, _, checksum = line.split()
+                least(times, f"{side} {work}", nanoseconds)
+                if work in ("hit", "miss", "next", "next2", "next3"):
+                    sums.setdefault(work, {})[side] = checksum
+    for work, found in sums.items():
+        agree(work, found)
+    rows = []
+    for work, name in WORKS:
+        ours, tree = times[f"map {work}"], times[f"tree {work}"]
+        rows.append([name, f"{ours:.0f}", f"{tree:.0f}", f"{ours / tree:.2f}"])
+    write(runs, "the map", [f"{size:,} keys", "`LogMap`", "`absl::btree_map`", "ratio"], rows)
+
+
+def readers(runs):
+    size, best = runs.given.size // 10, {}
+    for _ in runs.rounds():
+        for side, program, words in (("map", runs.bench, ("read", size, runs.given.questions)),
+                                     ("tree", runs.rival("locked_tree"),
+                                      (size, runs.given.questions))):
+            for line in rows_of(runs.run(program, *words), "readers"):
+                at = side, line["readers"], line["writing"]
+                if at not in best or float(line["looks"]) > float(best[at]["looks"]):
+                    best[at] = line
+    rows = []
+    for many in ("1", "2", "4"):
+        cells = [f"{many} reader{'s' if many != '1' else ''}"]
+        for side in ("map", "tree"):
+            still, writing = best[side, many, "false"], best[side, many, "true"]
+            cells += [still["looks"], writing["looks"], writing["batches"]]
+        rows.append(cells)
+    write(runs, "readers beside a writer", ["millions of looks", "map, writer still",
+                                            "map, publishing", "batches", "tree and lock, still",
+                                            "tree and lock, publishing", "batches"], rows)
+
+
+def senders(runs):
+    many, seed, rows = runs.given.questions, runs.given.seed, []
+    script = runs.file(f"{many}.{seed}.puts", "puts", many, seed)
+    for count in (1, 2, 4):
+        times = {}
+        for _ in runs.rounds():
+            for way in ("yield", "wait"):
+                text = runs.run(runs.rival("locked_deque"), many, count, way)
+                least(times, way, text.split()[0])
+            options = (script, "--batch", 65536)
+            least(times, "mix", runs.wall(runs.pgmtool, "mix", *options, "--senders", count))
+            least(times, "replay", runs.wall(runs.pgmtool, "replay", *options, "--readers", 1))
+        beyond = times["mix"] - times["replay"]
+        rows.append([f"{count} sender{'s' if count > 1 else ''}",
+                     *(f"{many / times[way] / 1e6:.2f}" for way in ("yield", "wait")),
+                     f"{many / beyond / 1e6:.1f}" if beyond > 0 else "-"])
+    write(runs, "several senders", ["millions of updates a second", "deque, `yield`",
+                                    "deque, `wait`", "`mix` beyond `replay`"], rows)
+
+
+def explain(runs):
+    keys, texts, times = runs.keys("uniform"), {}, {}
+    for _ in runs.rounds():
+        for side, program, words in (
+                ("pgmtool", runs.pgmtool, ("explain", keys, "--eps", 0)),
+                ("plain", runs.rival("plain"), (keys, 0))):
+            path = runs.made / f"{side}.txt"
+            before = os.times()
+            with open(path, "wb") as file:
+                least(times, f"{side} wall", runs.wall(program, *words, out=file))
+            after = os.times()
+            used = after.children_user + after.children_system
+            used -= before.children_user + before.children_system
+            least(times, f"{side} processor", used)
+            with open(path, encoding="ascii") as file:
+                endings = re.compile(r" cut .*$| end$")
+                lines = (endings.sub("", line.rstrip("\n")) for line in file
+                         if line.startswith("run "))
+                texts[side] = sum(1 for _ in lines), path.stat().st_size
+    agree("explain", {side: count for side, (count, _) in texts.items()})
+    rows = [[f"`{side}`", f"{texts[side][1] / 1e6:.0f} MB", f"{times[side + ' processor']:.2g}",
+             f"{times[side + ' wall']:.2g}"] for side in ("pgmtool", "plain")]
+    write(runs, "explain", ["ε 0", "Output", "Processor seconds", "Seconds"], rows)
+
+
+def measured_on(runs):
+    """A line on the machine, the sources and the rounds."""
+    with open("/proc/cpuinfo", encoding="utf-8") as file:
+        model = re.search(r"model name\s*: (.*)", file.read())
+    commit = subprocess.run(["git", "-C", str(TOP), "describe", "--always", "--dirty"], text=True,
+                            stdout=subprocess.PIPE).stdout.strip()
+    given, model = runs.given, model.group(1) if model else "an unknown processor"
+    return (f"{given.size:,} keys, {given.questions:,} questions, the least of {given.rounds} "
+            f"rounds in turn, seed {given.seed}; {model}, "
+            f"{os.cpu_count()} processors, load {os.getloadavg()[0]:.1f}; commit {commit}.")
+
+
+def write(runs, name, head, rows):
+    """Writes a table between its marks, or prints it."""
+    head = [f"{datetime.date.today()}, {head[0]}", *head[1:]]
+    lines = ["| " + " | ".join(map(str, line)) + " |" for line in (head, *rows)]
+    table = "\n".join([lines[0], "|---" * len(head) + "|", *lines[1:]])
+    text = f"{table}\n\n{measured_on(runs)}"
+    if runs.given.print:
+        print(f"{name}\n\n{text}\n", flush=True)
+        return
+    begin, end = f"<!-- {name} -->", f"<!-- end of {name} -->"
+    page = PAGE.read_text()
+    if begin not in page or end not in page:
+        raise Missing(f"{PAGE} has no marks for `{name}`")
+    before, after = page.split(begin)[0], page.split(end)[1]
+    PAGE.write_text(f"{before}{begin}\n{text}\n{end}{after}")
+
+
+PARTS = {"lookups": lookups, "memory": memory, "building": building, "segmenting": segmenting,
+         "nearest": nearest, "map": ordered_map, "readers": readers, "senders": senders,
+         "explain": explain}
+
+
+def main():
+    asked_for = argparse.ArgumentParser(description=__doc__)
+    asked_for.add_argument("made")
+    asked_for.add_argument("parts", nargs="*", metavar="PART")
+    for name, default in (("size", 10_000_000), ("questions", 1_000_000), ("rounds", 3),
+                          ("seed", 1)):
+        asked_for.add_argument(f"--{name}", type=int, default=default)
+    asked_for.add_argument("--print", action="store_true")
+    runs = Runs(asked_for.parse_intermixed_args())
+    left_out = 0
+    unknown = [part for part in runs.given.parts if part not in PARTS]
+    if unknown:
+        asked_for.error(f"no part {unknown[0]}; there are {', '.join(PARTS)}")
+    for part in runs.given.parts or PARTS:
+        start = time.monotonic()
+        try:
+            PARTS[part](runs)
+        except (Missing, subprocess.CalledProcessError) as missing:
+            left_out += 1
+            print(f"{part}: left out, {missing}", file=sys.stderr)
+        print(f"{part}: {time.monotonic() - start:.0f} seconds", file=sys.stderr)
+    return 1 if left_out else 0
+
+
+if __name__ == "__main__":
+    sys.exit(main())
