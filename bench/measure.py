@@ -7,6 +7,7 @@ page, with the date, the processor and the commit.
 """
 import argparse
 import datetime
+import hashlib
 import os
 import pathlib
 import re
@@ -345,6 +346,18 @@ def senders(runs):
                                     "deque, `wait`", "`mix` beyond `replay`"], rows)
 
 
+def runs_of_level_0(path):
+    """A sum over the lines of level 0, without their endings."""
+    summed, endings = hashlib.sha256(), re.compile(r" cut .*$| end$")
+    with open(path, encoding="ascii") as file:
+        for line in file:
+            if line.startswith("level 1 "):
+                break
+            if not line.startswith("keys "):
+                summed.update(endings.sub("", line.rstrip("\n")).encode())
+    return summed.hexdigest()
+
+
 def explain(runs):
     keys, texts, times = runs.keys("uniform"), {}, {}
     for _ in runs.rounds():
@@ -359,14 +372,11 @@ def explain(runs):
             used = after.children_user + after.children_system
             used -= before.children_user + before.children_system
             least(times, f"{side} processor", used)
-            with open(path, encoding="ascii") as file:
-                endings = re.compile(r" cut .*$| end$")
-                lines = (endings.sub("", line.rstrip("\n")) for line in file
-                         if line.startswith("run "))
-                texts[side] = sum(1 for _ in lines), path.stat().st_size
-    agree("explain", {side: count for side, (count, _) in texts.items()})
-    rows = [[f"`{side}`", f"{texts[side][1] / 1e6:.0f} MB", f"{times[side + ' processor']:.2g}",
-             f"{times[side + ' wall']:.2g}"] for side in ("pgmtool", "plain")]
+            texts[side] = runs_of_level_0(path)
+    agree("explain", texts)
+    rows = [[f"`{side}`", f"{(runs.made / f'{side}.txt').stat().st_size / 1e6:.0f} MB",
+             f"{times[side + ' processor']:.2g}", f"{times[side + ' wall']:.2g}"]
+            for side in ("pgmtool", "plain")]
     write(runs, "explain", ["ε 0", "Output", "Processor seconds", "Seconds"], rows)
 
 
