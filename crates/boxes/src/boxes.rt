@@ -85,12 +85,13 @@ impl Boxes {
         ensures never_falls { IsNonDecreasing result.now }
         ensures few { length result.now < 2 ^ 32 }
         ensures each { All (λ z. IsCode self.now.dims z) result.now }
+        ensures dimension { IsDimension self.now.dims }
     {
         self.index.keys().file()
     }
 
-    /// The lower bound of a code: how many of the codes are below it.
-    pub(crate) fn lower_bound(&self, code: u64) -> usize
+    /// The lower bound of a code: how many of the codes are below it. Takes no memory.
+    pub fn lower_bound(&self, code: u64) -> usize
         ensures { result ≡ lb self.now.codes code }
     {
         let start = self.index.start_near(code) as usize;

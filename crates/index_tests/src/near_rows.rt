@@ -120,10 +120,8 @@ fn finds_in_room(alloc: Global, boxes: &Boxes, row: &Row) -> Result<bool, NoMemo
     requires { IsInRange boxes.now.dims row.now.0 }
 {
     let (centre, k, points, count) = *row;
-    let room = room_for(boxes, &centre, k) as usize;
-    let mut codes = Vec::with_capacity(alloc, room)?;
-    let mut found = Vec::with_capacity(alloc, room)?;
-    let looked = nearest_into(boxes, &centre, k, &mut codes, &mut found);
+    let mut found = Vec::with_capacity(alloc, room_for(boxes, k))?;
+    let looked = nearest_into(boxes, &centre, k, &mut found);
     Ok(found.as_slice() == points && looked == count)
 }
 

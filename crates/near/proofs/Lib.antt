@@ -1,7 +1,11 @@
 pub mod InOrder
 pub mod Ranks
 pub mod Distances
+pub mod HeapLemmas
+pub mod KeptLemmas
+pub mod CellLemmas
+pub mod BoundLemmas
 pub mod NearestLemmas
-pub mod WholeRange
+pub mod BoxesLemmas
 pub mod OneAnswer
 pub mod CallerLemmas

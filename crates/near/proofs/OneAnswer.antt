@@ -6,7 +6,8 @@ use Rattle.std.proofs.lemmas.List.Sorted.{IsPermutation-map, length_permutation,
 use Rattle.boxes.proofs.OneCount.{same_sorted}
 use Rattle.near.specs.Nearest.{AreBoxes, AreNearest, AreSortedPairs, IsLeastBox, pairs_of}
 use Rattle.near.proofs.NearestLemmas.{small_have_codes}
-use Rattle.near.proofs.Ranks.{rank, rank_from_first, ranks_in_order, same_by_ranks}
+use Rattle.near.specs.Kept.{rank}
+use Rattle.near.proofs.Ranks.{rank_from_first, ranks_in_order, same_by_ranks}
 
 one_order : (d : ℕ) (centre codes : List ℕ) (one two : List (ℕ × ℕ)) → All (λ z. z < 2 ^ 64) codes → AreSortedPairs d centre codes one → AreSortedPairs d centre codes two → one ≡ two
 one_order d centre codes one two fit first second =

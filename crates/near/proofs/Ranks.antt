@@ -1,5 +1,5 @@
 -- Pairs of a distance and a code, in order by one number.
-use Rattle.std.proofs.Common.{◌≡◌, ⊎_elim, subst, ℕ, ◌+◌, ◌*◌, ◌^◌, ◌<◌, ◌≤◌, Bool, true, false, List, length, get_or, map, All, refl, sym, ap, ◌∙◌, arith}
+use Rattle.std.proofs.Common.{◌≡◌, ⊎_elim, subst, ℕ, ◌+◌, ◌^◌, ◌<◌, ◌≤◌, Bool, true, false, List, length, get_or, map, All, refl, sym, ap, ◌∙◌, arith}
 use Rattle.std.specs.Ordering.{is_lt, nat_cmp, ordering_then}
 use Rattle.std.specs.Cmp.{nat_cmp_is}
 use Rattle.std.specs.declared.cmp.Ordering.{Ordering}
@@ -7,12 +7,9 @@ use Rattle.std.specs.declared.cmp.Ordering.TheVariants.{Less, Equal}
 use Rattle.std.specs.List.Sorted.{IsNonDecreasing, IsNonDecreasingBy, IsSortedBy}
 use Rattle.std.proofs.lemmas.Bool.{cases_lt}
 use Rattle.std.proofs.lemmas.List.{get_or-map, length-map, same_lists}
+use Rattle.near.specs.Kept.{rank}
 use Rattle.near.specs.Nearest.{AreNearestFirst}
 use Rattle.std.proofs.lemmas.List.Sorted.{IsNonDecreasingBy-from_all_adjacent}
-
--- the pair as one number; codes are below 2 ^ 64
-unfoldable pub rank : ℕ × ℕ → ℕ
-rank pair = pair.0 * 2 ^ 64 + pair.1
 
 abbrev pub HaveCodes : List (ℕ × ℕ) → Type 0
 HaveCodes pairs = All (λ pair. pair.1 < 2 ^ 64) pairs
@@ -23,14 +20,13 @@ pub rank_rises : (p q : ℕ × ℕ) → p.1 < 2 ^ 64 → p.0 < q.0 → rank p �
 unfolding rank
 rank_rises p q small nearer = omega arith
 
+pub rank_monotone : (p q : ℕ × ℕ) → p.0 ≤ q.0 → p.1 ≤ q.1 → rank p ≤ rank q
+unfolding rank
+rank_monotone p q nearer less = omega arith
+
 pub rank_by_code : (p q : ℕ × ℕ) → p.0 ≡ q.0 → p.1 ≤ q.1 → rank p ≤ rank q
 unfolding rank
 rank_by_code p q same less = omega arith
-
--- no pair is below one of code 0 that isn't further
-pub rank_not_below : (far : ℕ) (p : ℕ × ℕ) → far ≤ p.0 → rank (far, 0) ≤ rank p
-unfolding rank
-rank_not_below far p further = omega arith
 
 pub distance_by_rank : (p q : ℕ × ℕ) → q.1 < 2 ^ 64 → rank p ≤ rank q → p.0 ≤ q.0
 unfolding rank

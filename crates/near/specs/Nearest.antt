@@ -1,5 +1,5 @@
 -- The nearest points of a centre, and in how many boxes they are looked for.
-use Rattle.std.specs.Prelude.{◌≡◌, ℕ, ◌+◌, ◌<◌, ◌≤◌, List, length, map, min, take, slice_index_or}
+use Rattle.std.specs.Prelude.{◌≡◌, ℕ, ◌+◌, ◌<◌, ◌≤◌, List, length, map, take, slice_index_or}
 use Rattle.std.specs.List.Sorted.{IsNonDecreasingBy, IsPermutation}
 use Rattle.near.specs.Around.{distance, points_within}
 
@@ -41,8 +41,3 @@ pub record NearAnswer : Type 0 where
 pub record IsNear (d : ℕ) (centre codes : List ℕ) (k : ℕ) (answer : NearAnswer) : Type 0 where
   pub points : AreNearest d centre codes k answer.points
   pub boxes : AreBoxes d centre codes (length answer.points) answer.boxes
-
--- the points of the last box that is looked at, where one is, have room here
-abbrev pub HasRoom : ℕ → List ℕ → List ℕ → ℕ → ℕ → Type 0
-HasRoom d centre codes k room = 0 < min (length codes) k → (i : ℕ)
-    → IsLeastBox d centre codes (min (length codes) k) i → points_within d centre codes i ≤ room

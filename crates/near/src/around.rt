@@ -1,5 +1,5 @@
 // How far points are from a centre, and the boxes about it.
-ghost use Rattle.std.specs.Prelude.{◌≡◌, ◌-◌, ◌≤◌, ◌^◌};
+ghost use Rattle.std.specs.Prelude.{◌≡◌};
 ghost use Rattle.zorder.specs.Codes.{IsCode, IsDimension, IsInRange};
 ghost use Rattle.zorder.specs.Regions.{IsRegion};
 ghost use Rattle.near.specs.Around.{box_around, distance};
@@ -20,15 +20,13 @@ pub fn distance_from(d: u32, centre: &[u32; 4], z: u64) -> u32
     greatest
 }
 
-/// The region of all places within `2^exponent - 1` of a centre, clipped to the coordinates' range.
-pub fn region_around(d: u32, centre: &[u32; 4], exponent: u32) -> Region
+/// The region of all places within `reach` of a centre, clipped to the coordinates' range.
+pub fn region_around(d: u32, centre: &[u32; 4], reach: u32) -> Region
     requires dimension { IsDimension d }
     requires range { IsInRange d centre.now }
-    requires exponent { exponent ≤ 32 }
-    ensures region { result ≡ box_around d centre.now (2 ^ exponent - 1) }
+    ensures region { result ≡ box_around d centre.now reach }
     ensures range { IsRegion result }
 {
-    let reach = ((1u64 << exponent) - 1) as u32;
     let limit = ((1u64 << (64 / d)) - 1) as u32;
     let mut low = [0; 4];
     let mut high = [0; 4];

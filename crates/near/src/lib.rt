@@ -1,9 +1,10 @@
-//! The nearest points of a centre, by boxes about it that grow until one has enough points.
+//! The nearest points of a centre, by the cells of their sorted codes.
 //!
 //! How far a point is from the centre is the greatest difference of a coordinate (Chebyshev). So
-//! the places within a distance are a box, and no point outside it is nearer than one inside. Boxes
-//! of what is within 0, 1, 3, 7, .. of the centre are looked at in turn. Of the points (2, 0) and
-//! (1, 3) none is within 0 or 1 of (2, 2), and both are within 3:
+//! the places within a distance are a box, and no point outside it is nearer than one inside. An
+//! answer tells in how many of the boxes of what is within 0, 1, 3, 7, .. of the centre its points
+//! are found. Of the points (2, 0) and (1, 3) none is within 0 or 1 of (2, 2), and both are within
+//! 3:
 //!
 //!     3   . 1 . .
 //!     2   . . c .     distance, code   (1, 11) (2, 4)
@@ -15,7 +16,10 @@
 
 mod answer;
 mod around;
+mod cells;
+mod kept;
 mod search;
+mod walk;
 
 pub use answer::Near;
 pub use search::{nearest, nearest_into, one_answer, room_for};

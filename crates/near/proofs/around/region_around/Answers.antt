@@ -1,7 +1,6 @@
 -- One more interval has its ends; when all have, the region is the box.
-use Rattle.std.proofs.Common.{◌≡◌, ℕ, ◌+◌, ◌-◌, ◌*◌, ◌%◌, ◌^◌, ◌<◌, ◌≢◌, length, min, get_or, get_or-set_other, get_or-set_same, below_more, ◌∙◌, ap, arith}
+use Rattle.std.proofs.Common.{◌≡◌, ℕ, ◌+◌, ◌-◌, ◌^◌, ◌<◌, ◌≢◌, length, min, get_or, get_or-set_other, get_or-set_same, below_more, ◌∙◌, ap, arith}
 use Rattle.std.proofs.Math.ListN.{length-set}
-use Rattle.std.proofs.Math.Pow.{pow_mono}
 use Rattle.zorder.specs.Codes.{coordinate_bits}
 use Rattle.near.proofs.Distances.{range_fits, same_box, shifted_one}
 use Rattle.near.proofs.around.region_around.Goals as goal
@@ -28,10 +27,7 @@ returns-clause-region c =
     let centre = c.args.centre.now in
     let long : length c.loop-c.low ≡ length centre = omega (arith, c.told-centre, c.loop-c.invariant.four) in
     let long' : length c.loop-c.high ≡ length centre = omega (arith, c.told-centre, c.loop-c.invariant.four') in
-    let shifted = shifted_one c.args.exponent (2 ^ 32) (omega arith) (pow_mono c.requires.exponent) in
     let bits = shifted_one (coordinate_bits d) (2 ^ 32) (omega arith) (range_fits d c.requires.dimension) in
-    same_box d centre (2 ^ c.args.exponent - 1) c.loop-c.low c.loop-c.high long long'
-    (λ k within. c.loop-c.invariant.lows k (omega (arith, c.told-centre)) ∙ ap (λ (n : ℕ). get_or centre k 0 - (n - 1)) shifted)
-    (λ k within. c.loop-c.invariant.highs k (omega (arith, c.told-centre))
-    ∙ ap (λ (n : ℕ). min (get_or centre k 0 + (n - 1)) (1 * 2 ^ coordinate_bits d % 2 ^ 64 - 1)) shifted
-    ∙ ap (λ (n : ℕ). min (get_or centre k 0 + (2 ^ c.args.exponent - 1)) (n - 1)) bits)
+    same_box d centre c.args.reach c.loop-c.low c.loop-c.high long long'
+    (λ k within. c.loop-c.invariant.lows k (omega (arith, c.told-centre)))
+    (λ k within. c.loop-c.invariant.highs k (omega (arith, c.told-centre)) ∙ ap (λ (n : ℕ). min (get_or centre k 0 + c.args.reach) (n - 1)) bits)

@@ -1,40 +1,20 @@
--- The first of the sorted points of the box are the nearest of all.
-use Rattle.std.proofs.Common.{◌≡◌, ℕ, ◌-◌, ◌^◌, List, All, sym, ap, ◌∙◌, subst, arith}
-use Rattle.std.specs.List.Sorted.{IsPermutation}
-use Rattle.std.proofs.lemmas.List.Elements.{All-filter}
-use Rattle.zorder.specs.declared.regions.Region.{Region}
-use Rattle.zorder.specs.Codes.{IsCode, IsDimension}
-use Rattle.boxes.specs.BoxAnswers.{codes_inside, is_inside}
-use Rattle.near.specs.Around.{box_around}
-use Rattle.near.specs.Nearest.{AreNearest, pairs_of}
-use Rattle.near.proofs.NearestLemmas.{first_of_sorted}
+-- What was kept in the vector's place is all of it.
+use Rattle.std.proofs.Common.{◌≡◌, ◌++◌, [], ℕ, List, length, take, drop, ap, sym, ◌∙◌, subst, arith}
+use Rattle.std.proofs.lemmas.List.{append-nil, length-drop, nil_from_length, take_all}
+use Rattle.near.specs.Kept.{AreFirst}
+use Rattle.near.specs.Nearest.{pairs_of}
 use Rattle.near.proofs.search.fill_nearest.Goals as goal
 
--- the codes inside are codes of so many coordinates
-pub fill_distances-requires-clause-each : goal.fill_distances-requires-clause-each
-fill_distances-requires-clause-each c =
-    let boxes = c.args.boxes.now in
-    let region = c.region_around-region.result in
-    let each = All-filter (is_inside region) (λ z. IsCode boxes.dims z) boxes.codes c.answer_len-found.ensures.each in
-    let same = c.deref.ensures.value ∙ c.fill.ensures.codes in
-    let dims : region.d ≡ boxes.dims = ap (λ (region : Region). region.d) c.region_around-region.ensures.region ∙ c.dims.ensures.dims in
-    subst (λ (d : ℕ). All (λ z. IsCode d z) c.deref.result.now) (sym dims)
-    (subst (λ (codes : List ℕ). All (λ z. IsCode boxes.dims z) codes) (sym same) each)
+put_whole : (new old : List (ℕ × ℕ)) (n : ℕ) → length new ≡ length old → n ≡ length old → take n (new ++ drop (length new) old) ≡ new
+put_whole new old n long many =
+    let none : drop (length new) old ≡ [] = nil_from_length (drop (length new) old) (omega (arith, length-drop (length new) old)) in
+    ap (λ (rest : List (ℕ × ℕ)). take n (new ++ rest)) none ∙ ap (take n) (append-nil new) ∙ take_all n new (omega arith)
 
-pub returns-clause-points : goal.returns-clause-points
-returns-clause-points c =
+pub returns-clause-first : goal.returns-clause-first
+returns-clause-first c =
     let boxes = c.args.boxes.now in
-    let centre = c.args.centre.now in
-    let is = subst IsDimension c.dims.ensures.dims c.dims.ensures.dimension in
-    let reach = 2 ^ c.args.exponent - 1 in
-    let found = c.answer_len-found.result in
-    let sorted = c.sort_unstable.new.self.items in
-    let region = c.region_around-region.ensures.region ∙ ap (λ (d : ℕ). box_around d centre reach) c.dims.ensures.dims in
-    let codes = c.deref.ensures.value ∙ c.fill.ensures.codes in
-    let pairs = c.fill_distances.ensures.pairs
-    ∙ ap (λ (codes : List ℕ). pairs_of c.region_around-region.result.d centre codes) codes
-    ∙ ap (λ (region : Region). pairs_of region.d centre (codes_inside region boxes.codes)) region in
-    let same = subst (λ (from : List (ℕ × ℕ)). IsPermutation from sorted) pairs c.sort_unstable.ensures.permutation in
-    subst (AreNearest boxes.dims centre boxes.codes c.args.k) (sym c.truncate.ensures.items)
-    (first_of_sorted boxes.dims centre is reach (omega (arith, c.told-centre, is.1)) boxes.codes c.answer_len-found.ensures.each c.args.k found sorted same
-    c.sort_unstable.ensures.sorted c.answer_len-found.ensures.len (omega (arith, c.answer_len-found.ensures.len, c.requires.enough)))
+    let old = c.fill_distances.new.pairs in
+    let new = c.keep_nearest_of_all.new.kept in
+    subst (AreFirst (pairs_of boxes.dims c.args.centre.now boxes.codes))
+    (sym (put_whole new old.items old.len (omega (arith, c.keep_nearest_of_all.auto.kept, ap length c.deref_mut.ensures.value)) (omega (arith, old.ok.0))))
+    c.keep_nearest_of_all.ensures.first
