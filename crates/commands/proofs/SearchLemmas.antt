@@ -5,7 +5,6 @@ use Rattle.std.proofs.Math.Nat.{mul-div_cancel_left}
 use Rattle.zorder.specs.declared.regions.Region.{Region}
 use Rattle.zorder.specs.Codes.{IsDimension, coordinate_bits}
 use Rattle.zorder.specs.Points.{ArePoints}
-use Rattle.near.specs.Nearest.{HasRoom}
 use Rattle.commands.specs.declared.task.Centre.{Centre}
 
 -- what a read past the end would give
@@ -14,10 +13,6 @@ no_region = record { d = 0; low = []; high = [] }
 
 abbrev pub no_centre : Centre
 no_centre = record { place = []; count = 0 }
-
--- what has room has it in more
-pub more_room : (d : ℕ) (centre codes : List ℕ) (k less more : ℕ) → less ≤ more → HasRoom d centre codes k less → HasRoom d centre codes k more
-more_room d centre codes k less more below fits = λ some i least. omega (arith, below, fits some i least)
 
 -- how many points there are is told by the coordinates
 pub count_is : (d : ℕ) (coords : List ℕ) → IsDimension d → (points : ArePoints d coords) → length coords / d ≡ points.count

@@ -1,7 +1,7 @@
 // The command `near`.
-ghost use Rattle.std.specs.Prelude.{◌≡◌, ◌≤◌, ℕ, List, All, length, map, vec_capacity, OnOk, OnErr};
+ghost use Rattle.std.specs.Prelude.{◌≡◌, ◌≤◌, ℕ, List, All, length, map, min, vec_capacity};
+ghost use Rattle.std.specs.Prelude.{OnOk, OnErr};
 ghost use Rattle.zorder.specs.Codes.{IsCode, IsDimension, IsInRange};
-ghost use Rattle.near.specs.Nearest.{HasRoom};
 ghost use Rattle.written.specs.Writing.{Writes, BreaksOff, WritesText};
 ghost use Rattle.commands.specs.declared.task.Centre.{Centre as Asked};
 ghost use Rattle.commands.specs.Texts.InTurn.{TellsEach};
@@ -19,8 +19,8 @@ use written::{TextLine, Unfinished, hand_over};
 
 /// Writes the points that are nearest to each centre, and in how many boxes they are looked for.
 ///
-/// All memory is taken before the first byte: for the sorted codes, their index, and the points of
-/// the last box of the centre for which it has the most.
+/// All memory is taken before the first byte: for the sorted codes, their index, and the longest
+/// answer.
 pub fn write<R: Threads + Sync, S: Sink>(
     rt: &R,
     alloc: Global,
@@ -32,28 +32,24 @@ pub fn write<R: Threads + Sync, S: Sink>(
 {
     let boxes = Boxes::build(rt, alloc, neighbours.dims, &neighbours.coords)?;
     let room = greatest_room(&boxes, &neighbours.centres);
-    let mut codes = Vec::with_capacity(alloc, room)?;
     let mut points = Vec::with_capacity(alloc, room)?;
-    match write_answers(out, &boxes, &neighbours.centres, &mut codes, &mut points) {
+    match write_answers(out, &boxes, &neighbours.centres, &mut points) {
         Ok(()) => Ok(()),
         Err(_) => Err(Unfinished::WriteFault),
     }
 }
 
-// How many points have room where those of each centre's last box do.
+// How many points the longest answer has.
 fn greatest_room(boxes: &Boxes, centres: &[Centre]) -> usize
-    requires { All (λ centre. IsInRange boxes.now.dims centre.place) centres.now }
-    ensures room { All
-        (λ centre. HasRoom boxes.now.dims centre.place boxes.now.codes centre.count result)
-        centres.now }
+    ensures room { All (λ centre. min (length boxes.now.codes) centre.count ≤ result) centres.now }
     ensures answered { All (λ centre. (pieces : List (List ℕ))
         × TellsNear boxes.now.dims boxes.now.codes centre pieces) centres.now }
 {
     let mut most = 0;
     for i in 0..centres.len() {
         let room = room_for(boxes, &centres[i].place, centres[i].count);
-        if most < room as usize {
-            most = room as usize;
+        if most < room {
+            most = room;
         }
     }
     most
@@ -64,14 +60,11 @@ fn write_answers<S: Sink>(
     out: &mut S,
     boxes: &Boxes,
     centres: &[Centre],
-    codes: &mut Vec<u64>,
     points: &mut Vec<(u32, u64)>,
 ) -> Result<(), Failed>
     requires each { All (λ centre. IsInRange boxes.now.dims centre.place) centres.now }
-    requires room { All (λ centre. HasRoom boxes.now.dims centre.place boxes.now.codes
-        centre.count (vec_capacity codes.old)) centres.now }
-    requires room_for_points { All (λ centre. HasRoom boxes.now.dims centre.place boxes.now.codes
-        centre.count (vec_capacity points.old)) centres.now }
+    requires room { All (λ centre. min (length boxes.now.codes) centre.count
+        ≤ vec_capacity points.old) centres.now }
     requires codes { All (IsCode boxes.now.dims) boxes.now.codes }
     requires answered { All (λ centre. (pieces : List (List ℕ))
         × TellsNear boxes.now.dims boxes.now.codes centre pieces) centres.now }
@@ -84,7 +77,7 @@ fn write_answers<S: Sink>(
 {
     let mut line = TextLine::new();
     for i in 0..centres.len() {
-        write_answer(out, &mut line, boxes, &centres[i], codes, points)?;
+        write_answer(out, &mut line, boxes, &centres[i], points)?;
     }
     Ok(())
 }
@@ -95,25 +88,20 @@ fn write_answer<S: Sink>(
     line: &mut TextLine,
     boxes: &Boxes,
     centre: &Centre,
-    codes: &mut Vec<u64>,
     points: &mut Vec<(u32, u64)>,
 ) -> Result<(), Failed>
     requires centre { IsInRange boxes.now.dims centre.now.place }
     requires codes { All (IsCode boxes.now.dims) boxes.now.codes }
-    requires room { HasRoom boxes.now.dims centre.now.place boxes.now.codes centre.now.count
-        (vec_capacity codes.old) }
-    requires room_for_points { HasRoom boxes.now.dims centre.now.place boxes.now.codes
-        centre.now.count (vec_capacity points.old) }
+    requires room { min (length boxes.now.codes) centre.now.count ≤ vec_capacity points.old }
     ensures ok { OnOk result ((pieces : List (List ℕ))
         × TellsNear boxes.now.dims boxes.now.codes centre.now pieces
         × Writes S.Sink out.old out.new pieces) }
     ensures err { OnErr result ((pieces : List (List ℕ))
         × TellsNear boxes.now.dims boxes.now.codes centre.now pieces
         × BreaksOff S.Sink out.old out.new pieces) }
-    ensures capacity { vec_capacity codes.old ≤ vec_capacity codes.new }
-    ensures capacity_for_points { vec_capacity points.old ≤ vec_capacity points.new }
+    ensures capacity { vec_capacity points.old ≤ vec_capacity points.new }
 {
-    let looked = nearest_into(boxes, &centre.place, centre.count, codes, points);
+    let looked = nearest_into(boxes, &centre.place, centre.count, points);
     fill_near_line(line, points.len(), looked);
     hand_over(out, line.as_bytes())?;
     write_points(out, line, boxes.dims(), points)

@@ -120,7 +120,7 @@ fn finds_in_room(alloc: Global, boxes: &Boxes, row: &Row) -> Result<bool, NoMemo
     requires { IsInRange boxes.now.dims row.now.0 }
 {
     let (centre, k, points, count) = *row;
-    let mut found = Vec::with_capacity(alloc, room_for(boxes, k))?;
+    let mut found = Vec::with_capacity(alloc, room_for(boxes, &centre, k))?;
     let looked = nearest_into(boxes, &centre, k, &mut found);
     Ok(found.as_slice() == points && looked == count)
 }

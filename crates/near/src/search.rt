@@ -38,16 +38,19 @@ pub fn nearest(alloc: Global, boxes: &Boxes, centre: &[u32; 4], k: u32) -> Resul
         (length near.points) near.boxes) }
     ensures few { IfOk result (λ near. near.boxes ≤ 33) }
 {
-    let mut points = Vec::with_capacity(alloc, room_for(boxes, k))?;
+    let mut points = Vec::with_capacity(alloc, room_for(boxes, centre, k))?;
     let count = nearest_into(boxes, centre, k, &mut points);
     Ok(Near::new(points, count))
 }
 
-/// How many points an answer of [`nearest`] has: `k`, or as many as there are where they are fewer.
+/// How much room [`nearest_into`] asks for: how many points the answer has, `k` or all where they
+/// are fewer. It is the same for every centre.
 ///
 /// Cannot fail and takes no memory.
-pub fn room_for(boxes: &Boxes, k: u32) -> usize
-    ensures { result ≡ min (length boxes.now.codes) k }
+pub fn room_for(boxes: &Boxes, centre: &[u32; 4], k: u32) -> usize
+    ensures room { result ≡ min (length boxes.now.codes) k }
+    ensures answered { (answer : NearAnswer)
+        × IsNear boxes.now.dims centre.now boxes.now.codes k answer }
 {
     boxes.codes().len().min(k as usize)
 }
@@ -171,11 +174,8 @@ fn fill_distances(d: u32, centre: &[u32; 4], codes: &[u64], pairs: &mut Vec<(u32
     }
 }
 
-/// A centre has an answer, with one list of nearest points among codes, and one number of boxes. It
-/// does nothing.
+/// A centre has one list of nearest points among codes, and one number of boxes. It does nothing.
 pub fn one_answer()
-    ensures answered { (d k : ℕ) (centre codes : List ℕ) → AreCodes d codes → d ≤ length centre
-        → (answer : NearAnswer) × IsNear d centre codes k answer }
     ensures points { (d k : ℕ) (centre codes : List ℕ) (one two : List (ℕ × ℕ))
         → AreCodes d codes → AreNearest d centre codes k one → AreNearest d centre codes k two
         → one ≡ two }

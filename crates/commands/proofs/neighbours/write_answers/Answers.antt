@@ -1,14 +1,13 @@
-use Rattle.std.proofs.Common.{◌≡◌, ◌∙◌, ◌+◌, ◌<◌, ◌++◌, ◌∷◌, [], ap, sym, subst, refl, take, drop, drop-cons, add-one, get_or, length, List, ℕ, arith}
+use Rattle.std.proofs.Common.{◌≡◌, ◌∙◌, ◌+◌, ◌<◌, ◌≤◌, ◌++◌, ◌∷◌, [], ap, sym, subst, refl, take, drop, drop-cons, add-one, get_or, length, min, List, ℕ, arith}
 use Rattle.std.specs.Prelude.{vec_capacity}
 use Rattle.std.proofs.lemmas.List.{take_more, take-append-drop}
 use Rattle.std.proofs.lemmas.List.Elements.{All-drop, All-get_or}
-use Rattle.near.specs.Nearest.{HasRoom}
 use Rattle.written.proofs.CallerLemmas.{Writes-nil, Writes-append, BreaksOff-append, BreaksOff-more}
 use Rattle.commands.specs.declared.task.Centre.{Centre}
 use Rattle.commands.specs.Texts.InTurn.{TellsEach}
 use Rattle.commands.specs.Texts.Neighbours.{TellsNear}
 use Rattle.commands.proofs.InTurnLemmas.{each_append, each_more, some_each}
-use Rattle.commands.proofs.SearchLemmas.{no_centre, more_room}
+use Rattle.commands.proofs.SearchLemmas.{no_centre}
 use Rattle.commands.proofs.WritingLemmas.{on_err}
 use Rattle.commands.proofs.neighbours.write_answers.Goals as goal
 
@@ -19,7 +18,7 @@ around xs i d there =
     ∙ take-append-drop i xs
 
 pub loop-i-init : goal.loop-i-init
-loop-i-init g c = (([], refl, Writes-nil g.S.Sink c.args.out.now), omega arith, omega arith)
+loop-i-init g c = (([], refl, Writes-nil g.S.Sink c.args.out.now), omega arith)
 
 pub loop-i-preserved : goal.loop-i-preserved
 loop-i-preserved g c =
@@ -35,7 +34,6 @@ loop-i-preserved g c =
         Writes-append g.S.Sink c.args.out.now c.loop-i.out c.write_answer.new.out so_far.0 one.0 so_far.2 one.2,
       ),
       omega (arith, c.in_ok-write_answer.ensures.capacity, c.loop-i.invariant.1),
-      omega (arith, c.in_ok-write_answer.ensures.capacity_for_points, c.loop-i.invariant.2),
     )
 
 pub returns-in_err-write_answer-clause-err : goal.returns-in_err-write_answer-clause-err
@@ -58,16 +56,6 @@ returns-in_err-write_answer-clause-err g c =
 -- there is room for the answer of each centre
 pub write_answer-requires-clause-room : goal.write_answer-requires-clause-room
 write_answer-requires-clause-room g c =
-    let boxes = c.args.boxes.now in
-    let here = get_or c.args.centres.now c.loop-i.i no_centre in
-    more_room boxes.dims here.place boxes.codes here.count (vec_capacity c.args.codes.now) (vec_capacity c.loop-i.codes) c.loop-i.invariant.1
-    (All-get_or (λ (centre : Centre). HasRoom boxes.dims centre.place boxes.codes centre.count (vec_capacity c.args.codes.now)) c.args.centres.now c.loop-i.i
-    no_centre (omega arith) c.requires.room)
-
-pub write_answer-requires-clause-room_for_points : goal.write_answer-requires-clause-room_for_points
-write_answer-requires-clause-room_for_points g c =
-    let boxes = c.args.boxes.now in
-    let here = get_or c.args.centres.now c.loop-i.i no_centre in
-    more_room boxes.dims here.place boxes.codes here.count (vec_capacity c.args.points.now) (vec_capacity c.loop-i.points) c.loop-i.invariant.2
-    (All-get_or (λ (centre : Centre). HasRoom boxes.dims centre.place boxes.codes centre.count (vec_capacity c.args.points.now)) c.args.centres.now c.loop-i.i
-    no_centre (omega arith) c.requires.room_for_points)
+    let fits = All-get_or (λ (centre : Centre). min (length c.args.boxes.now.codes) centre.count ≤ vec_capacity c.args.points.now) c.args.centres.now c.loop-i.i
+    no_centre (omega arith) c.requires.room in
+    omega (arith, fits, c.loop-i.invariant.1)

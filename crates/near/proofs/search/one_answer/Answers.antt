@@ -1,4 +1,3 @@
-use Rattle.near.proofs.BoxesLemmas.{an_answer}
 use Rattle.near.proofs.NearestLemmas.{codes_small}
 use Rattle.near.proofs.OneAnswer.{one_boxes, one_nearest}
 use Rattle.near.proofs.search.one_answer.Goals as goal
@@ -8,6 +7,3 @@ returns-clause-points c = λ d k centre codes one two are first second. one_near
 
 pub returns-clause-boxes : goal.returns-clause-boxes
 returns-clause-boxes c = λ d found centre codes one two first second. one_boxes d found centre codes one two first second
-
-pub returns-clause-answered : goal.returns-clause-answered
-returns-clause-answered c = λ d k centre codes are long. an_answer d centre are.dimension long codes k are.each
