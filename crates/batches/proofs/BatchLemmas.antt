@@ -1,17 +1,12 @@
 -- Updates cut into batches.
 use Rattle.std.proofs.Common.{◌≡◌, ◌≤◌, ◌<◌, ◌+◌, ◌-◌, ◌++◌, ◌∷◌, [], ℕ, List, length, take, drop, min, zero, suc, ap, sym, ◌∙◌, arith, append_assoc, length-append}
-use Rattle.std.specs.Prelude.{⊤}
 use Rattle.std.proofs.lemmas.List.{take-append-drop, take_min, length-drop}
+use mathlib.Core.List.{IsPrefix}
 use Rattle.log_levels.specs.declared.update.Update.{Update}
 use Rattle.log_levels.specs.Accepted.{entries_of, entries_from}
 use Rattle.log_levels.specs.Maps.{map_after}
 use Rattle.log_levels.proofs.UpdateLemmas.{entries_of-append}
-use Rattle.batches.specs.Batches.{AreBatches}
-
--- batches that all have this size
-abbrev pub AreFull : ℕ → List (List Update) → Type 0
-AreFull size [] = ⊤
-AreFull size (batch ∷ later) = (length batch ≡ size) × AreFull size later
+use Rattle.batches.specs.Batches.{AreBatches, AreFull}
 
 pub full_more : (size : ℕ) (batches : List (List Update)) (batch : List Update) → AreFull size batches → length batch ≡ size → AreFull size (batches ++ batch ∷ [])
 full_more size [] batch full same = (same, tt)
@@ -27,6 +22,10 @@ batches_more size (b ∷ c ∷ batches) batch full some few = (full.0, batches_m
 -- entries of fewer updates are fewer
 pub fewer_entries : (xs ys : List Update) → length (entries_of xs) ≤ length (entries_of (xs ++ ys))
 fewer_entries xs ys = omega (arith, ap (λ l. length l) (entries_of-append xs ys), length-append (entries_of xs) (entries_from (map_after xs) ys))
+
+-- the first updates of a list are how it begins
+pub first_begin : (n : ℕ) (xs ys : List Update) → ys ≡ take n xs → IsPrefix ys xs
+first_begin n xs ys first = (drop n xs, ap (λ (l : List Update). l ++ drop n xs) first ∙ take-append-drop n xs)
 
 -- a batch, between the updates before it and those behind it
 pub around : (n m : ℕ) (xs : List Update) → (take n xs ++ take m (drop n xs)) ++ drop m (drop n xs) ≡ xs

@@ -6,9 +6,9 @@
 //!     published   | 1 2 | 3 4 | 5
 //!     a slot      |  2  |  4  | 5        how many updates the note tells of
 //!
-//! Main clauses: `all` and `batches` of [`publish_all`]; `published` of [`publish_batch`]. The words
-//! of the clauses are in `specs/`. No clause says that a note comes, since none follows a value
-//! through a lock: a test does.
+//! Main clauses: `all`, `batches` and `full` of [`publish_all`]; `published` and `unchanged` of
+//! [`publish_batch`]. The words of the clauses are in `specs/`. No clause says that a note comes,
+//! since none follows a value through a lock: a test does.
 #![tactic(auto)]
 
 mod batching;

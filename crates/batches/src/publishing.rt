@@ -1,8 +1,10 @@
 // The writer's side: batch after batch, with a note to each reader.
-ghost use Rattle.std.specs.Prelude.{◌≡◌, ◌*◌, ◌-◌, ◌^◌, ◌≤◌, ◌<◌, ◌++◌, ◌∷◌, [], length, OnOk};
+ghost use Rattle.std.specs.Prelude.{◌≡◌, ◌*◌, ◌-◌, ◌≤◌, ◌<◌, ◌++◌, ◌∷◌, [], length};
+ghost use Rattle.std.specs.Prelude.{OnOk, OnErr};
+ghost use mathlib.Core.List.{IsPrefix};
 ghost use Rattle.log_levels.specs.Accepted.{entries_of};
-ghost use Rattle.published.specs.Histories.{updates_of};
-ghost use Rattle.batches.specs.Batches.{AreBatches};
+ghost use Rattle.published.specs.Histories.{published, updates_of};
+ghost use Rattle.batches.specs.Batches.{AreBatches, AreFull};
 
 use crate::Batching;
 use budget::NoMemory;
@@ -17,7 +19,8 @@ use std::thread::Threads;
 ///
 /// # Errors
 ///
-/// `NoMemory` alone, with the first batch that wasn't published. The ones before it are.
+/// `NoMemory` alone, with the first batch that can't be published. What is published then are the
+/// first updates, in full batches, and nothing is staged: [`publish_batch`] takes the next ones.
 pub fn publish_all<M: MapName + Send + Sync, R: Threads + Wait + Sync, G: Gate>(
     rt: &R,
     alloc: Global,
@@ -32,8 +35,12 @@ pub fn publish_all<M: MapName + Send + Sync, R: Threads + Wait + Sync, G: Gate>(
     requires none_staged { writer.old.batch ≡ [] }
     requires fits { length (entries_of updates.now) ≤ writer.old.capacity }
     ensures own { writer.new.origin ≡ writer.old.origin }
+    ensures capacity { writer.new.capacity ≡ writer.old.capacity }
+    ensures none_staged { writer.new.batch ≡ [] }
     ensures all { OnOk result (updates_of writer.new.history ≡ updates.now) }
-    ensures batches { OnOk result (AreBatches batching.size writer.new.history) }
+    ensures batches { AreBatches batching.size writer.new.history }
+    ensures begins { IsPrefix (updates_of writer.new.history) updates.now }
+    ensures full { OnErr result (AreFull batching.size writer.new.history) }
 {
     let size = batching.size as usize;
     for number in 0..updates.len().div_ceil(size) {
@@ -57,7 +64,8 @@ pub fn publish_all<M: MapName + Send + Sync, R: Threads + Wait + Sync, G: Gate>(
 ///
 /// # Errors
 ///
-/// `NoMemory` alone, where the batch wasn't published.
+/// `NoMemory` alone, where the batch can't be staged. The writer is as it was then, with nothing
+/// staged and nothing published, and the same call may be made again.
 pub fn publish_batch<M: MapName + Send + Sync, R: Threads + Wait + Sync, G: Gate>(
     rt: &R,
     alloc: Global,
@@ -77,19 +85,36 @@ pub fn publish_batch<M: MapName + Send + Sync, R: Threads + Wait + Sync, G: Gate
         ≤ writer.old.capacity }
     ensures own { writer.new.origin ≡ writer.old.origin }
     ensures capacity { writer.new.capacity ≡ writer.old.capacity }
-    ensures none_staged { OnOk result (writer.new.batch ≡ []) }
+    ensures none_staged { writer.new.batch ≡ [] }
     ensures published { OnOk result
         (writer.new.history ≡ writer.old.history ++ batch.now ∷ []) }
+    ensures unchanged { OnErr result (writer.new ≡ writer.old) }
 {
     match writer.stage(rt, alloc, batch, workers, gate) {
         Ok(()) => {}
         Err(MapFault::NoMemory) => return Err(NoMemory),
         Err(MapFault::Full { .. }) => unreachable!(),
     }
-    writer.publish(rt)?;
+    publish_staged(rt, writer);
     tell_all(rt, writer, slots);
     gate.at(Place::Published(number));
     Ok(())
+}
+
+/// Publishes what is staged. The share of the map that is refused is asked for again: it takes no
+/// memory, and is had unless the map has as many owners as can be counted.
+fn publish_staged<R: Wait>(rt: &R, writer: &mut Writer)
+    ensures published { writer.new.history ≡ published writer.old.history writer.old.batch }
+    ensures emptied { writer.new.batch ≡ [] }
+    ensures own { writer.new.origin ≡ writer.old.origin }
+    ensures capacity { writer.new.capacity ≡ writer.old.capacity }
+{
+    for _turn in rt.forever() {
+        if writer.publish(rt).is_ok() {
+            return;
+        }
+    }
+    unreachable!()
 }
 
 /// Leaves each reader a note of what is published.

@@ -3,8 +3,9 @@ use Rattle.std.proofs.lemmas.List.{length-take, length-drop}
 use Rattle.log_levels.specs.declared.update.Update.{Update}
 use Rattle.log_levels.specs.Accepted.{entries_of}
 use Rattle.published.specs.Histories.{updates_of}
+use Rattle.published.specs.Writers.{Written}
 use Rattle.published.proofs.CallerLemmas.{updates_of-snoc}
-use Rattle.batches.proofs.BatchLemmas.{around, batch_more, batches_more, fewer_entries, full_more}
+use Rattle.batches.proofs.BatchLemmas.{around, batch_more, batches_more, fewer_entries, first_begin, full_more}
 use Rattle.batches.proofs.publishing.publish_all.Goals as goal
 
 pub publish_batch-requires-clause-fits : goal.publish_batch-requires-clause-fits
@@ -40,3 +41,13 @@ loop-number-preserved g c =
           (omega (arith, long, to_is));
       full = λ more. full_more size history batch (inv.full (omega (arith, there))) (omega (arith, long, to_is, next, more));
     })
+
+-- what is published is what stood before the loop's end, or before the batch that was refused
+pub returns-clause-begins : goal.returns-clause-begins
+returns-clause-begins g c =
+    first_begin (c.loop-number.number * c.args.batching.size) c.args.updates.now (updates_of c.loop-number.writer.history) c.loop-number.invariant.first
+
+pub returns-in_err-publish_batch-clause-begins : goal.returns-in_err-publish_batch-clause-begins
+returns-in_err-publish_batch-clause-begins g c =
+    first_begin (c.loop-number.number * c.args.batching.size) c.args.updates.now (updates_of c.publish_batch.new.writer.history)
+    (ap (λ (w : Written). updates_of w.history) c.in_err-publish_batch.ensures.unchanged ∙ c.loop-number.invariant.first)

@@ -1,8 +1,7 @@
 -- so many batches are published: the first updates, in full batches, of which only the last of all may be shorter
 use Rattle.std.proofs.Common.{◌≡◌, ◌≤◌, ◌*◌, length, take, []}
 use Rattle.published.specs.Histories.{updates_of}
-use Rattle.batches.specs.Batches.{AreBatches}
-use Rattle.batches.proofs.BatchLemmas.{AreFull}
+use Rattle.batches.specs.Batches.{AreBatches, AreFull}
 use Rattle.batches.proofs.publishing.publish_all.Given as goal
 
 abbrev pub invariant-loop-number : goal.invariant-loop-number
