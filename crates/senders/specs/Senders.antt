@@ -41,9 +41,9 @@ pub record MayWait (senders number : ℕ) (sent : List Update) (queued : List (�
   pub numbers : All (λ item. item.0 < senders) queued
   pub own : IsSuffix (of_sender number queued) sent
 
--- at some step the queue was full, of updates that it may hold for all that the sender knows
-abbrev pub WasFull : Sending → Type 0
-WasFull sender = (queued : List (ℕ × Update)) × (length queued ≡ sender.origin.room) × MayWait sender.origin.senders sender.number sender.sent queued
+-- the queue may be full, for all that the sender knows: beside another sender it always may, and alone from its `room`th update on
+abbrev pub MayBeFull : Sending → Type 0
+MayBeFull sender = (queued : List (ℕ × Update)) × (length queued ≡ sender.origin.room) × MayWait sender.origin.senders sender.number sender.sent queued
 
 -- what was taken of the sender, followed by what is queued of it, is what it sent
 abbrev pub IsDelivered : List (ℕ × Update) → List (ℕ × Update) → Sending → Type 0

@@ -171,7 +171,7 @@ fn seat_all(
 
 impl Sender {
     ghost use Rattle.std.specs.Prelude.{◌≡◌, [], ◌∷◌, ◌++◌, length, IfErr, OnOk, OnErr};
-    ghost use Rattle.senders.specs.Senders.{WasFull};
+    ghost use Rattle.senders.specs.Senders.{MayBeFull};
 
     /// Sends an update: it stands at the back of the queue.
     ///
@@ -180,13 +180,14 @@ impl Sender {
     ///
     /// # Errors
     ///
-    /// The update, only where the queue was full at a step of this call, as far as this sender can
-    /// know: it held as many updates as it has room for, of which its own are the last that it
-    /// sent. Nothing was sent then.
+    /// The update, where the queue is full at a step of this call. Nothing was sent then. A clause
+    /// can only speak of what this sender knows: with fewer updates sent than there is room for,
+    /// and no other sender, it is never refused. That no update is refused beside other senders,
+    /// or after the inbox took some, while there is room, is tested and not proved.
     pub fn send<R: Wait>(&mut self, rt: &R, update: Update) -> Result<(), Update>
         ensures sent { OnOk result (self.new.sent ≡ self.old.sent ++ update ∷ []) }
         ensures back { IfErr result (λ back. back ≡ update) }
-        ensures full { OnErr result (WasFull self.old) }
+        ensures full { OnErr result (MayBeFull self.old) }
         ensures unchanged { OnErr result (self.new ≡ self.old) }
         ensures number { self.new.number ≡ self.old.number }
         ensures own { self.new.origin ≡ self.old.origin }
@@ -222,8 +223,9 @@ impl Inbox {
     /// Takes the update at the front of the queue, behind its sender's number.
     ///
     /// It may wait for a thread that is in the way. It is one step on the queue, whatever the
-    /// senders send meanwhile. `None` only where the queue was empty at a step of this call, as far
-    /// as the inbox can know: nothing that was known to wait is left.
+    /// senders send meanwhile. `None` where the queue is empty at a step of this call. A clause can
+    /// only say that nothing is left of what the inbox saw behind the update that it took last;
+    /// that an update which was sent is found is tested and not proved.
     pub fn take<R: Wait>(&mut self, rt: &R) -> Option<(u32, Update)>
         ensures took { IfSome result (λ item. self.new.taken ≡ self.old.taken ++ item ∷ []) }
         ensures number { IfSome result (λ item. item.0 < self.old.origin.senders) }
