@@ -2,20 +2,20 @@
 use Rattle.std.proofs.Common.{◌≡◌, ◌≤◌, ◌<◌, ◌+◌, ◌-◌, ◌++◌, ◌∷◌, [], ℕ, List, length, take, drop, min, zero, suc, ap, sym, refl, ◌∙◌, subst, arith, append_assoc, length-append}
 use Rattle.std.specs.Prelude.{All, ⊤}
 use Rattle.std.proofs.lemmas.List.{take-append-drop, take_min, length-drop}
-use Rattle.std.proofs.lemmas.List.Elements.{All-nil, All-cons}
+use Rattle.std.proofs.lemmas.List.Elements.{All-nil, All-cons, All-head, All-tail}
 use mathlib.Core.List.{IsPrefix}
 use Rattle.log_levels.specs.declared.update.Update.{Update}
 use Rattle.log_levels.specs.Accepted.{entries_of, entries_from}
 use Rattle.log_levels.specs.Maps.{map_after}
 use Rattle.log_levels.proofs.UpdateLemmas.{entries_of-append}
 use Rattle.published.specs.Histories.{updates_of, count_of}
-use Rattle.published.proofs.CallerLemmas.{prefix_count, updates_of-append}
+use Rattle.published.proofs.CallerLemmas.{prefix_count, updates_of-append, count_of-append}
 use Rattle.map_replay.specs.declared.question.Question.{Question}
 use Rattle.map_replay.specs.declared.reading.Sighting.{Sighting}
 use Rattle.map_replay.specs.declared.reading.Reading.{Reading}
 use Rattle.map_replay.specs.Crews.{HasSeen}
 use Rattle.map_replay.specs.Questions.{answer_of}
-use Rattle.map_replay.specs.Readings.{IsAmong, IsPublished, AreAnswers, IsReadingOf, IsWholeReading, IsWholeReadingOf, IsWholeMixedReading}
+use Rattle.map_replay.specs.Readings.{AreCut, IsAmong, IsPublished, AreAnswers, IsReadingOf, IsWholeReading, IsWholeReadingOf, IsWholeMixedReading}
 use Rattle.batches.specs.Batches.{AreBatches}
 use Rattle.map_replay.specs.Watching.{IsSeen, AreSeen, WasAsked}
 
@@ -77,6 +77,25 @@ same_updates history shown begins same =
     let none = no_update (updates_of begins.0) (omega (arith, same, ap (λ (l : List Update). length l) split, length-append (updates_of history) (updates_of begins.0))) in
     split ∙ ap (λ (l : List Update). updates_of history ++ l) none ∙ append_nil (updates_of history)
 
+-- batches of no more updates than so many, and some that have none
+few_more : (most : ℕ) (xs ys : List (List Update)) → All (λ (batch : List Update). length batch ≤ most) xs → count_of ys ≡ 0 → All (λ (batch : List Update). length batch ≤ most) (xs ++ ys)
+few_more most [] [] few none = few
+few_more most [] (y ∷ ys) few none =
+    All-cons (λ (batch : List Update). length batch ≤ most) y ys (omega (arith, none, count_of-cons y ys)) (few_more most [] ys few (omega (arith, none, count_of-cons y ys)))
+few_more most (x ∷ xs) ys few none =
+    All-cons (λ (batch : List Update). length batch ≤ most) x (xs ++ ys) (All-head (λ (batch : List Update). length batch ≤ most) x xs few)
+    (few_more most xs ys (All-tail (λ (batch : List Update). length batch ≤ most) x xs few) none)
+
+-- what begins with these batches and has no more updates is cut in the same way
+pub cut_shown : (most : ℕ) (updates : List Update) (history shown : List (List Update)) → AreCut most updates history → IsPrefix history shown →
+    count_of shown ≡ count_of history → AreCut most updates shown
+cut_shown most updates history shown cut begins same =
+    let none : count_of begins.0 ≡ 0 = omega (arith, same, ap count_of begins.1, count_of-append history begins.0) in
+    record {
+      whole = same_updates history shown begins same ∙ cut.whole;
+      few = subst (All (λ (batch : List Update). length batch ≤ most)) begins.1 (few_more most history begins.0 cut.few none);
+    }
+
 -- what was seen in a history that has the updates is a reading of them
 module _ (updates : List Update) (history shown : List (List Update)) (all : updates_of history ≡ updates) (begins : IsPrefix history shown)
     (same : count_of shown ≡ count_of history) (IsLength : ℕ → Type 0) (lengths : (prefix : List (List Update)) → IsPrefix prefix shown → IsLength (count_of prefix)) where
@@ -108,6 +127,7 @@ module _ (updates : List Update) (history shown : List (List Update)) (all : upd
   is_reading : (questions : List Question) (sightings : List Sighting) → WasAsked shown questions sightings → IsReadingOf IsLength updates questions sightings
   is_reading questions sightings asked = record {
     answers = all_answers questions sightings asked.seen;
+    knew = asked.knew;
     published = all_lengths questions sightings asked.seen;
     never_falls = asked.never_falls;
   }

@@ -26,6 +26,7 @@ module _ (batches more : List (List Update)) (begins : IsPrefix batches more) wh
   pub asked_more : (questions : List Question) (sightings : List Sighting) → WasAsked batches questions sightings → WasAsked more questions sightings
   asked_more questions sightings asked = record {
     seen = all_seen_more questions sightings asked.seen;
+    knew = asked.knew;
     never_falls = asked.never_falls;
     known = All-weaker (λ (s : Sighting). s.length ≤ count_of batches) (λ (s : Sighting). s.length ≤ count_of more)
         (λ s few. omega (arith, few, prefix_count batches more begins)) sightings asked.known;
@@ -41,12 +42,13 @@ seen_push batches (q ∷ questions) (s ∷ sightings) question sighting seen one
 
 -- a look that begins with what was known
 pub asked_push : (known shown : List (List Update)) (questions : List Question) (sightings : List Sighting) (question : Question) (sighting : Sighting) →
-    IsPrefix known shown → sighting.length ≡ count_of shown → sighting.answer ≡ answer_of (map_after (updates_of shown)) question →
+    IsPrefix known shown → sighting.known ≤ sighting.length → sighting.length ≡ count_of shown → sighting.answer ≡ answer_of (map_after (updates_of shown)) question →
     WasAsked known questions sightings → WasAsked shown (questions ++ question ∷ []) (sightings ++ sighting ∷ [])
-asked_push known shown questions sightings question sighting begins length_is answer_is asked =
+asked_push known shown questions sightings question sighting begins knew length_is answer_is asked =
     let before = asked_more known shown begins questions sightings asked in
     record {
       seen = seen_push shown questions sightings question sighting before.seen (shown, prefix_self shown, length_is, answer_is);
+      knew = All-push (λ (s : Sighting). s.known ≤ s.length) sightings sighting asked.knew knew;
       never_falls = IsNonDecreasingBy-push (λ (s : Sighting). s.length) sightings sighting asked.never_falls (λ d some.
           omega (arith, length_is, All-get_or (λ (s : Sighting). s.length ≤ count_of shown) sightings (length sightings - 1) d (omega (arith, some)) before.known));
       known = All-push (λ (s : Sighting). s.length ≤ count_of shown) sightings sighting before.known (omega (arith, length_is));

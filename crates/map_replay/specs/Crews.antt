@@ -19,7 +19,7 @@ use Rattle.map_replay.specs.declared.source.Source.{Source}
 use Rattle.map_replay.specs.declared.source.Played.{Played}
 use Rattle.map_replay.specs.declared.reading.Reading.{Reading}
 use Rattle.map_replay.specs.Mixes.{IsMix}
-use Rattle.map_replay.specs.Readings.{Left}
+use Rattle.map_replay.specs.Readings.{Left, AreCut}
 use Rattle.batches.specs.Batches.{AreBatches}
 use Rattle.map_replay.specs.Watching.{WasAsked}
 
@@ -60,14 +60,15 @@ pub record HasSeen (history : List (List Update)) (questions : List Question) (r
 
 -- each reader was asked all questions and saw all that is published
 pub record IsEnd (history : List (List Update)) (questions : List Question) (readers : ℕ) (ended : Ended) : Type 0 where
-  pub whole : updates_of ended.look.batches ≡ updates_of history
+  pub shown : IsPrefix history ended.look.batches
+  pub whole : count_of ended.look.batches ≡ count_of history
   pub count : length ended.readings.items ≡ readers
   pub each : All (HasSeen history questions) ended.readings.items
 
--- the updates are published in this order: in batches of this size, of which the last may be shorter; or as they came of senders
+-- the updates are published in this order: in batches of this size, of which the last may be shorter; or as they came of senders, in batches of no more
 abbrev pub IsPublishedAs : Order → (size : ℕ) → List Update → (numbers : List ℕ) (mixed : List Update) → List (List Update) → Type 0
 IsPublishedAs InTurn size updates numbers mixed history = (updates_of history ≡ updates) × AreBatches size history
-IsPublishedAs (Mixed dealing) size updates numbers mixed history = (updates_of history ≡ mixed) × IsMix dealing.senders updates numbers mixed
+IsPublishedAs (Mixed dealing) size updates numbers mixed history = AreCut size mixed history × IsMix dealing.senders updates numbers mixed
 
 -- all updates are published in this order, and each reader saw them all
 pub record IsPlayed (source : Source) (questions : List Question) (readers : ℕ) (played : Played) : Type 0 where
@@ -83,7 +84,9 @@ AreForOrder (Mixed dealing) updates = All IsPlain updates
 -- what is left of it: the updates after which it answers, and what each reader saw
 pub record IsLeft (order : Order) (size : ℕ) (updates : List Update) (questions : List Question) (readers : ℕ) (left : Left) : Type 0 where
   pub history : List (List Update)
-  pub whole : left.updates ≡ updates_of history
+  pub shown : IsPrefix history left.batches
+  pub same : count_of left.batches ≡ count_of history
+  pub whole : left.updates ≡ updates_of left.batches
   pub published : IsPublishedAs order size updates left.numbers left.mixed history
   pub count : length left.readings ≡ readers
   pub each : All (HasSeen history questions) left.readings

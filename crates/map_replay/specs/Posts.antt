@@ -71,8 +71,9 @@ pub record TookOne (before after : Intake) : Type 0 where
   pub known : item.0 < before.inbox.origin.senders
   pub plain : IsPlain item.1
 
--- it took a batch: the updates stand behind those that it took before
-pub record TookBatch (before after : Intake) : Type 0 where
+-- it took a batch of no more than so many: the updates stand behind those that it took before
+pub record TookBatch (size : ℕ) (before after : Intake) : Type 0 where
   pub own : after.inbox.origin ≡ before.inbox.origin
   pub more : length before.came.updates.items < length after.came.updates.items
   pub begins : take (length before.came.updates.items) after.came.updates.items ≡ before.came.updates.items
+  pub few : length after.came.updates.items ≤ length before.came.updates.items + size

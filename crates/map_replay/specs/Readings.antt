@@ -3,6 +3,7 @@ use Rattle.std.specs.Prelude.{◌≡◌, ◌≤◌, ◌*◌, ℕ, List, [], ◌�
 use Rattle.std.specs.List.Sorted.{IsNonDecreasingBy}
 use Rattle.log_levels.specs.declared.update.Update.{Update}
 use Rattle.log_levels.specs.Maps.{map_after}
+use Rattle.published.specs.Histories.{updates_of}
 use Rattle.map_replay.specs.declared.question.Question.{Question}
 use Rattle.map_replay.specs.declared.reading.Sighting.{Sighting}
 use Rattle.map_replay.specs.declared.reading.Reading.{Reading}
@@ -19,9 +20,11 @@ AreAnswers updates (question ∷ questions) (sighting ∷ sightings) =
     (sighting.answer ≡ answer_of (map_after (take sighting.length updates)) question) × AreAnswers updates questions sightings
 AreAnswers updates questions sightings = ⊥
 
--- what a reader may see, where such are the numbers of updates that it may see: answers after so many updates, of which none are fewer than those before
+-- what a reader may see, where such are the numbers of updates that it may see: answers after so many updates, of which none are fewer than those before, and none
+-- fewer than the reader knew of
 pub record IsReadingOf (IsLength : ℕ → Type 0) (updates : List Update) (questions : List Question) (sightings : List Sighting) : Type 0 where
   pub answers : AreAnswers updates questions sightings
+  pub knew : All (λ (sighting : Sighting). sighting.known ≤ sighting.length) sightings
   pub published : All (λ (sighting : Sighting). IsLength sighting.length) sightings
   pub never_falls : IsNonDecreasingBy (λ (sighting : Sighting). sighting.length) sightings
 
@@ -48,9 +51,15 @@ IsMixedReading updates = IsReadingOf (IsAmong (length updates)) updates
 abbrev pub IsWholeMixedReading : List Update → List Question → Reading → Type 0
 IsWholeMixedReading updates = IsWholeReadingOf (IsAmong (length updates)) updates
 
--- what a replay leaves: the updates after which it answers; where senders sent them, their senders' numbers and the updates in the order in which they came; and
--- what each reader saw
+-- updates that are published in their order, in batches of which none has more than so many
+pub record AreCut (most : ℕ) (updates : List Update) (batches : List (List Update)) : Type 0 where
+  pub whole : updates_of batches ≡ updates
+  pub few : All (λ (batch : List Update). length batch ≤ most) batches
+
+-- what a replay leaves: the batches that were published, and the updates after which it answers; where senders sent them, their senders' numbers and the updates in
+-- the order in which they came; and what each reader saw
 pub record Left : Type 0 where
+  pub batches : List (List Update)
   pub updates : List Update
   pub numbers : List ℕ
   pub mixed : List Update

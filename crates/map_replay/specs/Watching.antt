@@ -23,5 +23,6 @@ AreSeen batches questions sightings = ⊥
 -- these questions were asked in turn, by a reader that knows these batches
 pub record WasAsked (batches : List (List Update)) (questions : List Question) (sightings : List Sighting) : Type 0 where
   pub seen : AreSeen batches questions sightings
+  pub knew : All (λ (sighting : Sighting). sighting.known ≤ sighting.length) sightings
   pub never_falls : IsNonDecreasingBy (λ (sighting : Sighting). sighting.length) sightings
   pub known : All (λ (sighting : Sighting). sighting.length ≤ count_of batches) sightings

@@ -36,7 +36,7 @@ pub fn take_batch<R: Wait, G: Gate>(
     requires seats { AreSeats intake.old.inbox.origin deck.senders deck.updates.now
         seats.old.items }
     ensures intake { IsIntake (length deck.entry.updates.now) intake.new }
-    ensures took { TookBatch intake.old intake.new }
+    ensures took { TookBatch size intake.old intake.new }
     ensures seats { AreSeats intake.old.inbox.origin deck.entry.senders deck.entry.updates.now
         seats.new.items }
     ensures count { vec_len seats.new ≡ vec_len seats.old }

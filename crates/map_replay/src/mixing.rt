@@ -4,7 +4,7 @@ ghost use Rattle.std.specs.Prelude.{IfOk, OnOk, vec_len, vec_capacity};
 ghost use Rattle.map_replay.specs.Mixes.{IsMix};
 ghost use Rattle.map_replay.specs.Posts.{AreDone, AreSeats, IsDone, IsIntake, IsPost, IsSeat};
 ghost use Rattle.map_replay.specs.Posts.{Keeps};
-ghost use Rattle.published.specs.Histories.{updates_of};
+ghost use Rattle.map_replay.specs.Readings.{AreCut};
 ghost use Rattle.senders.specs.Senders.{AreFresh, Origin};
 
 use crate::intake::{Intake, take_batch};
@@ -59,7 +59,7 @@ pub fn publish_mixed<
     ensures mixed { IfOk result (λ came.
         IsMix dealing.senders deck.entry.updates.now came.numbers.items came.updates.items) }
     ensures published { IfOk result (λ came.
-        updates_of writer.new.history ≡ came.updates.items) }
+        AreCut batching.size came.updates.items writer.new.history) }
 {
     let total = deck.updates.len();
     let (inbox, senders) = start_senders(alloc, dealing.senders, dealing.room)?;
@@ -190,7 +190,7 @@ fn publish_taken<M: MapName + Send + Sync, R: Threads + Wait + Sync, G: Gate>(
         seats.new.items }
     ensures count { vec_len seats.new ≡ vec_len seats.old }
     ensures published { OnOk result
-        (updates_of writer.new.history ≡ intake.new.came.updates.items) }
+        (AreCut batching.size intake.new.came.updates.items writer.new.history) }
     ensures all { length intake.new.came.updates.items ≡ length deck.entry.updates.now }
 {
     let mut published = Ok(());

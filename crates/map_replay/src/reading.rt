@@ -6,6 +6,8 @@ use crate::Answer;
 /// An answer, and after how many updates it is.
 #[derive(Clone, Copy, Debug, PartialEq, Eq)]
 pub struct Sighting {
+    /// How many updates the reader knew of when it looked.
+    pub known: u64,
     /// How many updates the answer is after.
     pub length: u64,
     /// The answer.

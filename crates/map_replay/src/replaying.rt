@@ -1,7 +1,7 @@
 // Updates in batches beside readers, and what is left of it.
 ghost use Rattle.std.specs.Prelude.{◌≡◌, ◌*◌, ◌-◌, ◌^◌, ◌≤◌, All, length, IfOk, vec_len};
 ghost use Rattle.log_levels.specs.Accepted.{IsPlain, entries_of};
-ghost use Rattle.map_replay.specs.Readings.{IsWholeMixedReading, IsWholeReading};
+ghost use Rattle.map_replay.specs.Readings.{AreCut, IsWholeMixedReading, IsWholeReading};
 ghost use Rattle.map_replay.specs.Mixes.{IsMix};
 ghost use Rattle.map_replay.specs.Crews.{AreForOrder, HasRoom, HoldsAll, IsLeft};
 ghost use Rattle.map_replay.specs.Crews.{IsPlayed, IsReady};
@@ -16,14 +16,14 @@ use budget::NoMemory;
 use edge::Gate;
 use log_levels::Update;
 use options::Plan;
-use published::{Look, MapName, Reader, Slot, Writer, start_map};
+use published::{Look, MapName, Reader, Writer, start_map};
 use std::alloc::{AllocError, Global};
 use std::marker::{Brand, Model, PhantomData};
 use std::sync::Wait;
 use std::thread::Threads;
 
-/// What is left when all updates are published and all readers are done, seen as the updates after
-/// which it answers and what the readers saw.
+/// What is left when all updates are published and all readers are done, seen as the batches that
+/// were published, the updates after which it answers and what the readers saw.
 ///
 /// It can't be dropped: end it by [`Replayed::close`].
 pub struct Replayed {
@@ -40,6 +40,7 @@ impl Model for Replayed {
     ghost Value = { Left };
 
     ghost view = { λ r. record {
+      batches = r.look.batches;
       updates = updates_of r.look.batches;
       numbers = r.came.numbers.items;
       mixed = r.came.updates.items;
@@ -83,8 +84,8 @@ pub fn replay<R: Threads + Wait + Sync, G: Gate>(
 /// passes the gate at `Send` before each update's first try; where the queue is full it tries
 /// again. A sender for which no thread can be had is served by the writer.
 ///
-/// The writer takes what comes. It publishes when it has a batch, and too when it has some updates
-/// and finds the queue empty. Where it can't, it goes on taking and gives up what it takes.
+/// The writer takes what comes. It publishes when it has a batch of `plan.batch`, and a smaller one
+/// when it has some updates and finds the queue empty. Where it can't, it goes on taking and gives up what it takes.
 ///
 /// # Errors
 ///
@@ -101,6 +102,7 @@ pub fn mix<R: Threads + Wait + Sync, G: Gate>(
     requires plain { All IsPlain updates.now }
     requires fits { length (entries_of updates.now) ≤ 64 * 2 ^ plan.levels - 1 }
     ensures whole { IfOk result (λ left. left.updates ≡ left.mixed) }
+    ensures batches { IfOk result (λ left. AreCut plan.batch left.mixed left.batches) }
     ensures mixed { IfOk result (λ left.
         IsMix dealing.senders updates.now left.numbers left.mixed) }
     ensures count { IfOk result (λ left. length left.readings ≡ plan.readers) }

@@ -1,6 +1,6 @@
 // Readers in threads of their own, beside the writer.
 ghost use Rattle.std.specs.Prelude.{◌≡◌, ◌+◌, ◌≤◌, ◌<◌, ◌++◌, ◌∷◌, [], List, All, length};
-ghost use Rattle.std.specs.Prelude.{IfOk, OnOk, vec_len, vec_capacity};
+ghost use Rattle.std.specs.Prelude.{IfOk, vec_len, vec_capacity};
 ghost use Rattle.map_replay.specs.declared.question.Question.{Question};
 ghost use Rattle.map_replay.specs.Watching.{WasAsked};
 ghost use Rattle.map_replay.specs.Crews.{AreForOrder, HasAsked, HasRoom, HoldsAll};
@@ -49,8 +49,10 @@ fn watch<M: MapName + Send + Sync, R: Wait + Sync, G: Gate>(
             turn: turn as u64,
         });
         learn_newest(rt, &mut reader, slot);
+        let known = reader.seen();
         let look = look_until(rt, reader, &mut door);
         let sighting = Sighting {
+            known,
             length: look.seen(),
             answer: look.answer(questions[turn]),
         };

@@ -1,5 +1,5 @@
 -- What is taken stands behind what was taken before.
-use Rattle.std.proofs.Common.{◌≡◌, ◌<◌, ◌-◌, ◌∙◌, take, length, ap, sym, subst, arith}
+use Rattle.std.proofs.Common.{◌≡◌, ◌<◌, ◌+◌, ◌-◌, ◌∙◌, take, length, ap, sym, subst, arith}
 use Rattle.std.proofs.lemmas.Bool.{false≢true, leb-false}
 use Rattle.map_replay.specs.declared.intake.Intake.{Intake}
 use Rattle.map_replay.specs.Posts.{IsIntake}
@@ -24,6 +24,7 @@ loop-turn-preserved-then-not-took-2 g c =
       intake = subst (λ (i : Intake). IsIntake total i) (sym same) inv.intake;
       left = omega (arith, long, inv.left);
       kept = omega (arith, long, inv.kept);
+      few = omega (arith, long, inv.few);
       begins = ap (λ (i : Intake). take c.len-from.result i.came.updates.items) same ∙ inv.begins;
       seats = c.serve_all.ensures.seats c.args.intake.now.inbox.origin inv.seats;
       count = c.serve_all.ensures.count ∙ inv.count;
@@ -36,17 +37,21 @@ loop-turn-preserved g c =
     let before = c.loop-turn.intake in
     let after = c.take_next-took.new.intake in
     let took = c.take_next-took.ensures.took c.if-not-took-2.false in
-    let left : length after.came.updates.items < total = elim c.else-took.branch [
+    let both : (length after.came.updates.items < total) × (length after.came.updates.items < c.len-from.result + c.args.size) = elim c.else-took.branch [
       | else-took-via-then-took+else-count-deck w ↦ elim w.if-count-from.branch [
-        | then-count-from v ↦ omega (arith, leb-false c.args.size (c.len-count.result - c.len-from.result) (sym v.value-is ∙ w.if-count-deck.false), v.if-count-from.true)
-        | else-count-from v ↦ omega (arith, leb-false total c.len-count.result (sym v.value-is ∙ w.if-count-deck.false), after.came.updates.ok.0)
+        | then-count-from v ↦ absurd (omega (arith, leb-false c.args.size (c.len-count.result - c.len-from.result) (sym v.value-is ∙ w.if-count-deck.false), v.if-count-from.true))
+        | else-count-from v ↦ (
+          omega (arith, leb-false total c.len-count.result (sym v.value-is ∙ w.if-count-deck.false), after.came.updates.ok.0),
+          omega (arith, v.if-count-from.false, after.came.updates.ok.0),
+        )
       ]
       | else-took-via-else-took w ↦ absurd (false≢true (sym w.if-took.false ∙ c.if-not-took-2.false))
     ] in
     record {
       own = took.own ∙ inv.own;
       intake = intake_more total before after took inv.left inv.intake;
-      left = left;
+      left = both.0;
+      few = both.1;
       kept = omega (arith, inv.kept, one_more total before after took);
       begins = kept_before total before after took c.len-from.result inv.kept ∙ inv.begins;
       seats = c.serve_all.ensures.seats c.args.intake.now.inbox.origin inv.seats;

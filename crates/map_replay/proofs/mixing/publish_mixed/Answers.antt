@@ -1,7 +1,9 @@
 -- The senders are those of the inbox, and what came of them is published.
-use Rattle.std.proofs.Common.{ℕ, sym, subst, ◌∙◌}
+use Rattle.std.proofs.Common.{ℕ, List, sym, subst}
 use Rattle.senders.specs.Senders.{AreFresh, Origin}
+use Rattle.log_levels.specs.declared.update.Update.{Update}
 use Rattle.map_replay.specs.Posts.{AreSeats}
+use Rattle.map_replay.specs.Readings.{AreCut}
 use Rattle.map_replay.proofs.mixing.publish_mixed.Goals as goal
 
 pub publish_taken-published-requires-clause-seats : goal.publish_taken-published-requires-clause-seats
@@ -16,4 +18,6 @@ closed-came-requires-clause-done g c =
     (subst (λ (o : Origin). AreSeats o c.args.deck.senders c.args.deck.updates.now taken.new.seats.items) (sym taken.ensures.origin) taken.ensures.seats)
 
 pub returns-clause-published : goal.returns-clause-published
-returns-clause-published g c = c.in_ok-published.ensures.published ∙ sym c.closed-came.ensures.same
+returns-clause-published g c =
+    subst (λ (mixed : List Update). AreCut c.args.batching.size mixed c.publish_taken-published.new.writer.history) (sym c.closed-came.ensures.same)
+    c.in_ok-published.ensures.published

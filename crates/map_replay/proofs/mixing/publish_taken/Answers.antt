@@ -1,7 +1,8 @@
 -- What is published with the batch that was taken is all that was taken.
 use Rattle.std.proofs.Common.{◌≡◌, ◌-◌, ◌≤◌, ◌++◌, [], ℕ, List, true, Result, Ok, Err, OnOk, is_ok, length, take, drop, ap, sym, subst, ◌∙◌, arith}
 use Rattle.std.proofs.lemmas.Bool.{false≢true}
-use Rattle.std.proofs.lemmas.List.{append-nil, drop_all, length-drop, length-map}
+use Rattle.std.proofs.lemmas.List.{append-nil, drop_all, length-drop, length-map, length-take}
+use Rattle.std.proofs.lemmas.List.Elements.{All-push}
 use Rattle.std.proofs.lemmas.Result.{on_ok_weaker}
 use Rattle.log_levels.specs.declared.update.Update.{Update}
 use Rattle.log_levels.specs.Accepted.{entries_of}
@@ -9,6 +10,7 @@ use Rattle.published.specs.Histories.{updates_of}
 use Rattle.published.proofs.CallerLemmas.{updates_of-snoc}
 use Rattle.senders.specs.Senders.{Origin}
 use Rattle.map_replay.specs.Posts.{AreSeats}
+use Rattle.map_replay.specs.Readings.{AreCut}
 use Rattle.batches.proofs.BatchLemmas.{around}
 use Rattle.map_replay.proofs.MixLemmas.{plain_entries}
 use Rattle.map_replay.proofs.mixing.publish_taken.Goals as goal
@@ -38,7 +40,7 @@ publish_batch-published-requires-clause-fits g c κs within =
     let from_is : from ≡ length c.loop-alloc.intake.came.updates.items = omega (arith, c.loop-alloc.intake.came.updates.ok.0) in
     let begins = subst (λ (n : ℕ). take n after ≡ c.loop-alloc.intake.came.updates.items) (sym from_is) c.take_batch.ensures.took.begins in
     let same = where_ok c.loop-alloc.published (sym c.is_ok.ensures.value ∙ c.if-is_ok.true) inv.published in
-    let all = whole (updates_of c.loop-alloc.writer.history) c.loop-alloc.intake.came.updates.items after items from same c.deref.ensures.value begins in
+    let all = whole (updates_of c.loop-alloc.writer.history) c.loop-alloc.intake.came.updates.items after items from same.whole c.deref.ensures.value begins in
     let plain = plain_entries after c.take_batch.ensures.intake.plain in
     let few : length after ≤ length c.args.deck.updates.now = omega (arith, c.take_batch.ensures.intake.within, ap (λ (l : List Update). length l) c.take_batch.ensures.intake.updates ∙ length-map c.take_batch.new.intake.inbox.taken (λ item. item.1)) in
     omega (arith, ap (λ (l : List Update). length (entries_of l)) all, plain, few, c.requires.fits, inv.capacity)
@@ -54,8 +56,10 @@ loop-alloc-preserved-then-is_ok g c =
     let from_is : from ≡ length c.loop-alloc.intake.came.updates.items = omega (arith, c.loop-alloc.intake.came.updates.ok.0) in
     let begins = subst (λ (n : ℕ). take n after ≡ c.loop-alloc.intake.came.updates.items) (sym from_is) c.take_batch.ensures.took.begins in
     let same = where_ok c.loop-alloc.published (sym c.is_ok.ensures.value ∙ c.if-is_ok.true) inv.published in
-    let all = whole (updates_of history) c.loop-alloc.intake.came.updates.items after items from same c.deref.ensures.value begins in
+    let all = whole (updates_of history) c.loop-alloc.intake.came.updates.items after items from same.whole c.deref.ensures.value begins in
     let made = c.publish_batch-published.ensures in
+    let few : length batch ≤ c.args.batching.size =
+    omega (arith, length-take (length items - from) (drop from items), length-drop from items, ap (λ (l : List Update). length l) c.deref.ensures.value, c.take_batch.ensures.took.few, from_is) in
     record {
       own = made.own ∙ inv.own;
       capacity = made.capacity ∙ inv.capacity;
@@ -66,5 +70,8 @@ loop-alloc-preserved-then-is_ok g c =
       number = omega (arith, inv.number, c.take_batch.ensures.took.more);
       staged = made.none_staged;
       published = on_ok_weaker c.publish_batch-published.result
-          (λ is. ap updates_of is ∙ (updates_of-snoc history batch ∙ all)) made.published;
+          (λ is. subst (AreCut c.args.batching.size after) (sym is) (record {
+            whole = updates_of-snoc history batch ∙ all;
+            few = All-push (λ (batch : List Update). length batch ≤ c.args.batching.size) history batch same.few few;
+          })) made.published;
     }

@@ -1,7 +1,7 @@
 -- what was taken is published, or a batch was refused
 use Rattle.std.proofs.Common.{◌≡◌, ◌≤◌, ◌-◌, [], length, vec_len, OnOk}
-use Rattle.published.specs.Histories.{updates_of}
 use Rattle.map_replay.specs.Posts.{AreSeats, IsIntake}
+use Rattle.map_replay.specs.Readings.{AreCut}
 use Rattle.map_replay.proofs.mixing.publish_taken.Given as goal
 
 abbrev pub invariant-loop-alloc : goal.invariant-loop-alloc
@@ -13,8 +13,8 @@ invariant-loop-alloc g l = record {
   seats : AreSeats l.initial.intake.inbox.origin l.deck.senders l.deck.updates.now l.seats.items;
   count : vec_len l.seats ≡ vec_len l.initial.seats;
   number : l.number ≤ length l.intake.came.updates.items;
-  staged : OnOk l.published (l.writer.batch ≡ []);
-  published : OnOk l.published (updates_of l.writer.history ≡ l.intake.came.updates.items);
+  staged : l.writer.batch ≡ [];
+  published : OnOk l.published (AreCut l.batching.size l.intake.came.updates.items l.writer.history);
 }
 
 abbrev pub decreases-loop-alloc : goal.decreases-loop-alloc

@@ -3,11 +3,11 @@ use Rattle.std.proofs.lemmas.List.Elements.{All-weaker}
 use Rattle.std.proofs.lemmas.Result.{IfOk-weaker}
 use Rattle.map_replay.specs.Crews.{HasSeen}
 use Rattle.map_replay.specs.Readings.{IsWholeReading}
-use Rattle.map_replay.proofs.BatchLemmas.{whole_in_batches}
+use Rattle.map_replay.proofs.BatchLemmas.{same_updates, whole_in_batches}
 use Rattle.map_replay.proofs.replaying.replay.Goals as goal
 
 pub returns-clause-whole : goal.returns-clause-whole
-returns-clause-whole g c = IfOk-weaker c.replay_as.result _ _ (λ left is. is.whole ∙ is.published.0) c.replay_as.ensures
+returns-clause-whole g c = IfOk-weaker c.replay_as.result _ _ (λ left is. is.whole ∙ (same_updates is.history left.batches is.shown is.same ∙ is.published.0)) c.replay_as.ensures
 
 pub returns-clause-count : goal.returns-clause-count
 returns-clause-count g c = IfOk-weaker c.replay_as.result _ _ (λ left is. is.count) c.replay_as.ensures

@@ -11,6 +11,8 @@ returns g c =
     let is = subst (λ (left : Left). IsLeft c.args.order c.args.plan.batch c.args.updates.now [] readers left) (sym c.left.view_is) c.in_ok-left.ensures in
     record {
       history = is.history;
+      shown = is.shown;
+      same = is.same;
       whole = is.whole;
       published = is.published;
       count = omega (arith, ap (λ r. length r) c.clear.ensures.items, c.if-plan-gt0.false);

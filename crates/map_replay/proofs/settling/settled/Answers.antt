@@ -9,7 +9,6 @@ use Rattle.map_replay.specs.declared.reading.Reading.{Reading}
 use Rattle.map_replay.specs.Watching.{WasAsked}
 use Rattle.map_replay.specs.Crews.{HasAsked, HasSeen}
 use Rattle.map_replay.proofs.WatchingLemmas.{asked_more}
-use Rattle.map_replay.proofs.BatchLemmas.{same_updates}
 use Rattle.map_replay.proofs.settling.settled.Goals as goal
 
 -- a reader whose last look begins with the history and is as long
@@ -79,9 +78,8 @@ returns g c = λ questions asked.
     let look = c.last_look-look in
     let history = c.args.writer.now.history in
     record {
-      whole = same_updates history look.result.batches
-          (begins history c.tell.result.batches c.in-Some.first.reader.batches look.result.batches c.tell.ensures.told look.ensures.seen look.ensures.told look.ensures.length)
-          (same history c.tell.result.batches c.in-Some.first.reader.batches look.result.batches c.tell.ensures.told look.ensures.seen look.ensures.told look.ensures.length);
+      shown = begins history c.tell.result.batches c.in-Some.first.reader.batches look.result.batches c.tell.ensures.told look.ensures.seen look.ensures.told look.ensures.length;
+      whole = same history c.tell.result.batches c.in-Some.first.reader.batches look.result.batches c.tell.ensures.told look.ensures.seen look.ensures.told look.ensures.length;
       count = omega (arith, inv.count, c.in_default-pop.ensures.cases, c.loop-one.readings.ok.0);
       each = inv.each questions asked;
     }
