@@ -2,7 +2,7 @@
 --
 -- Main results: `IsBegun-push`, `IsBegun-append`, `IsBegun-front`. A run that ends before its piece does is as long as a line can be in all
 -- of the points too, so of a piece's segments only the last one may be another where the points go on.
-use Rattle.std.proofs.Common.{◌≡◌, ℕ, zero, suc, ◌+◌, ◌<◌, ◌≤◌, List, [], ◌∷◌, ◌++◌, length, take, drop, slice_index_or, refl, sym, ap, subst, arith, ◌∙◌}
+use Rattle.std.proofs.Common.{◌≡◌, ℕ, zero, suc, ◌+◌, ◌*◌, ◌<◌, ◌≤◌, List, [], ◌∷◌, ◌++◌, length, take, drop, slice_index_or, Result, Ok, Err, IfOk, refl, sym, ap, subst, arith, ◌∙◌}
 use Rattle.std.proofs.lemmas.List.{map-append, take_more, take_all}
 use Rattle.exact_cross.specs.declared.segment.Segment.{Segment}
 use Rattle.exact_cross.specs.Points.{Points}
@@ -141,3 +141,22 @@ pub rest_begun : (p : Points) (eps at end to n : ℕ) (begun rest : List Segment
 rest_begun p eps at end to n begun rest d within count so_far piece =
     IsBegun-append p eps 0 to at (slice_index_or rest n d).start begun (take n rest) so_far
     (IsBegun-front p eps at end to (take n rest) (slice_index_or rest n d) within (subst (IsSegmentation p eps at end) (last_apart rest n d count) piece))
+
+-- and not before the piece's other segments
+pub rest_rises : (p : Points) (eps at end to n : ℕ) (rest : List Segment) (d : Segment) → end ≤ to → n + 1 ≡ length rest → IsSegmentation p eps at end rest →
+    at ≤ (slice_index_or rest n d).start
+rest_rises p eps at end to n rest d within count piece =
+    let last = slice_index_or rest n d in
+    let front = IsBegun-front p eps at end to (take n rest) last within (subst (IsSegmentation p eps at end) (last_apart rest n d count) piece) in
+    CutsInto-rises (IsLongest p eps to) (starts_of (take n rest)) at last.start front.greedy
+
+-- ten steps a place from a start on, seen from a place before it, and from one to which they were taken so far
+pub from_before : {E : Type 0} (T : ℕ → Type 0) (result : Result ℕ E) (after before start : ℕ) → IfOk result (λ place. after + 10 * start ≤ before + 10 * place) →
+    ((at : ℕ) → T at → at ≤ start) → IfOk result (λ place. (at : ℕ) → T at → after + 10 * at ≤ before + 10 * place)
+from_before {E} T (Ok place) after before start cost below = λ at is. omega (arith, cost, below at is)
+from_before {E} T (Err fault) after before start cost below = tt
+
+pub so_far : {E : Type 0} (T : ℕ → Type 0) (result : Result ℕ E) (after before at first start : ℕ) → IfOk result (λ place. (at : ℕ) → T at → after + 10 * at ≤ before + 10 * place) →
+    T at → before + 10 * start ≤ first + 10 * at → IfOk result (λ place. after + 10 * start ≤ first + 10 * place)
+so_far {E} T (Ok place) after before at first start cost is taken = omega (arith, cost at is, taken)
+so_far {E} T (Err fault) after before at first start cost is taken = tt

@@ -1,6 +1,6 @@
 // Joining: from the last run known to be right until a run ends at a start of the next piece.
 ghost use Rattle.std.specs.List.Sorted.{IsStrictlyIncreasing, IsNonDecreasing};
-ghost use Rattle.std.specs.Prelude.{◌≡◌, ℕ, ◌+◌, ◌<◌, ◌≤◌, ◌^◌, List, length, IfOk};
+ghost use Rattle.std.specs.Prelude.{◌≡◌, ℕ, ◌+◌, ◌*◌, ◌<◌, ◌≤◌, ◌^◌, List, length, IfOk};
 ghost use Rattle.exact_cross.specs.declared.segment.Segment.{Segment};
 ghost use Rattle.exact_cross.specs.Points.{points_of};
 ghost use Rattle.exact_cross.specs.Segmentation.{IsSegmentation};
@@ -111,7 +111,8 @@ fn join_from<L: Ledger>(
 /// Goes on from the place `at` to the end of the piece, or past it, and says where to.
 ///
 /// `piece` is the segments of a piece that ends at `end`. The runs are fitted one by one until one
-/// ends at a start of the piece, and from there on are the piece's own.
+/// ends at a start of the piece, and from there on are the piece's own. Each place that it goes on
+/// by is fitted once at most, at 10 steps.
 pub fn go_on<L: Ledger>(
     hulls: &mut Hulls,
     xs: &[u64],
@@ -140,6 +141,7 @@ pub fn go_on<L: Ledger>(
         (bound_of hulls.old) 0 to place joined.new.items) }
     ensures within { IfOk result (λ place. place ≤ to) }
     ensures whole { IfOk result (λ place. end ≡ to → place ≡ to) }
+    ensures cost { IfOk result (λ place. steps.new + 10 * at ≤ steps.old + 10 * place) }
     ensures room { room_of hulls.old ≤ room_of hulls.new }
     ensures bound { bound_of hulls.new ≡ bound_of hulls.old }
 {
@@ -196,6 +198,9 @@ fn take_rest<L: Ledger>(
         (bound_of hulls.old) 0 to place joined.new.items) }
     ensures within { IfOk result (λ place. place ≤ to) }
     ensures whole { IfOk result (λ place. end ≡ to → place ≡ to) }
+    ensures cost { IfOk result (λ place. (at : ℕ) →
+        IsSegmentation (points_of xs.now ys.now) (bound_of hulls.old) at end rest.now →
+        steps.new + 10 * at ≤ steps.old + 10 * place) }
     ensures room { room_of hulls.old ≤ room_of hulls.new }
     ensures bound { bound_of hulls.new ≡ bound_of hulls.old }
 {
@@ -232,6 +237,7 @@ fn add_run<L: Ledger>(
         (bound_of hulls.old) 0 to place joined.new.items) }
     ensures further { IfOk result (λ place. at < place) }
     ensures within { IfOk result (λ place. place ≤ to) }
+    ensures cost { IfOk result (λ place. steps.new + 10 * at ≤ steps.old + 10 * place) }
     ensures room { room_of hulls.old ≤ room_of hulls.new }
     ensures bound { bound_of hulls.new ≡ bound_of hulls.old }
 {

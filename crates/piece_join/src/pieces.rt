@@ -1,7 +1,7 @@
 // Segmentation by pieces.
 ghost use Rattle.std.specs.List.Sorted.{IsStrictlyIncreasing, IsNonDecreasing};
 ghost use Rattle.std.specs.Prelude.{◌≡◌, ℕ, ◌+◌, ◌*◌, ◌<◌, ◌≤◌, ◌^◌, List, length, vec_len};
-ghost use Rattle.std.specs.Prelude.{All, IfOk};
+ghost use Rattle.std.specs.Prelude.{All, IfOk, OnOk};
 ghost use Rattle.exact_cross.specs.declared.segment.Segment.{Segment};
 ghost use Rattle.exact_cross.specs.Points.{points_of};
 ghost use Rattle.exact_cross.specs.Segmentation.{IsSegmentation};
@@ -36,8 +36,11 @@ use std::thread::Threads;
 /// only if the gate does. No more workers are started than there are pieces.
 ///
 /// A joined run is fitted again from its start where it is the last one of its piece, or begins at
-/// no start of its piece. So no place is fitted more than twice, once by a worker and once in
-/// joining, which is argued in the README and is no clause.
+/// no start of its piece: no place is fitted more than once by a worker, who takes at most 12 steps
+/// for each as [`segment`] does, and once by joining, which takes at most 10. Both are proved, the
+/// one of `segment` and the other of the part that joins; no clause here says their sum.
+///
+/// [`segment`]: segmenter::segment
 ///
 /// # Errors
 ///
@@ -73,7 +76,7 @@ pub fn segment_in_pieces<R: Threads + Sync, G: Gate>(
 {
     let work = Work { xs, ys, eps, cuts };
     let parts = all_parts(rt, alloc, &work, workers, gate)?;
-    joined::<Brand>(alloc, &work, &parts, Blank::new(1))
+    joined_from::<Brand>(alloc, &work, &parts, Blank::new(1))
 }
 
 /// The segments of each piece by itself, in order, made by several workers.
@@ -173,8 +176,9 @@ fn place_all(parts: &mut Vec<Vec<Segment>>, pieces: Vec<Piece>)
     }
 }
 
-/// The segments of all points, from those of each piece.
-fn joined<L: Ledger>(
+/// The segments of all points, from those of each piece, with a counter of its own from a new
+/// ledger.
+fn joined_from<L: Ledger>(
     alloc: Global,
     work: &Work,
     parts: &[Vec<Segment>],
@@ -188,6 +192,22 @@ fn joined<L: Ledger>(
         work.now.eps 0 (length work.now.xs.now) segments.items) }
 {
     let mut steps = Steps::<L>::new(blank);
+    joined(alloc, work, parts, &mut steps)
+}
+
+/// The segments of all points, from those of each piece, at 10 steps a place.
+fn joined<L: Ledger>(
+    alloc: Global,
+    work: &Work,
+    parts: &[Vec<Segment>],
+    steps: &mut Steps<L>,
+) -> Result<Vec<Segment>, NoMemory>
+    requires { ArePlaced work.now parts.now }
+    ensures whole { IfOk result
+        (λ segments. IsSegmentation (points_of work.now.xs.now work.now.ys.now)
+        work.now.eps 0 (length work.now.xs.now) segments.items) }
+    ensures cost { OnOk result (steps.new ≤ steps.old + 10 * length work.now.xs.now) }
+{
     let to = work.len();
     let mut whole = Vec::with_capacity(alloc, count_of(parts))?;
     let mut hulls = Hulls::new(alloc, work.eps, to)?;
@@ -196,7 +216,7 @@ fn joined<L: Ledger>(
         let piece = &parts[number as usize];
         let end = work.edge(number + 1);
         at = go_on(
-            &mut hulls, work.xs, work.ys, &mut whole, at, piece, end, to, &mut steps,
+            &mut hulls, work.xs, work.ys, &mut whole, at, piece, end, to, steps,
         )?;
     }
     Ok(whole)

@@ -1,5 +1,5 @@
 -- The segments so far reach to the place, and the hulls keep their room and their bound.
-use Rattle.std.proofs.Common.{◌≡◌, ◌-◌, ◌≤◌}
+use Rattle.std.proofs.Common.{◌≡◌, ◌+◌, ◌-◌, ◌*◌, ◌≤◌}
 use Rattle.exact_cross.specs.Points.{points_of}
 use Rattle.hulls.specs.Hulls.{room_of, bound_of}
 use Rattle.piece_join.specs.Joined.{IsBegun}
@@ -11,6 +11,7 @@ invariant-loop-at g l = record {
   within : l.at ≤ l.to;
   room : room_of l.fn.hulls ≤ room_of l.hulls;
   bound : bound_of l.hulls ≡ bound_of l.fn.hulls;
+  cost : l.steps + 10 * l.fn.at ≤ l.fn.steps + 10 * l.at;
 }
 
 abbrev pub decreases-loop-at : goal.decreases-loop-at

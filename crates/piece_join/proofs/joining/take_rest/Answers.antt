@@ -2,8 +2,11 @@
 use Rattle.std.proofs.Common.{◌-◌, ℕ, length, subst, arith}
 use Rattle.exact_cross.specs.Points.{points_of}
 use Rattle.hulls.specs.Hulls.{bound_of}
+use Rattle.exact_cross.specs.Covers.{IsLongest}
+use Rattle.exact_cross.specs.Segments.{starts_of}
 use Rattle.exact_cross.specs.Segmentation.{IsSegmentation}
-use Rattle.piece_join.proofs.Begun.{IsBegun-append, IsBegun-whole, rest_below, rest_begun}
+use Rattle.exact_cross.proofs.CallerLemmas.{CutsInto-rises}
+use Rattle.piece_join.proofs.Begun.{IsBegun-append, IsBegun-whole, rest_below, rest_begun, rest_rises, from_before}
 use Rattle.piece_join.proofs.joining.take_rest.Goals as goal
 
 pub returns-then-end-to-clause-begun : goal.returns-then-end-to-clause-begun
@@ -27,3 +30,15 @@ add_run-requires-clause-begun g c =
     rw c.in_ok-extend_from_slice-2.ensures.items
     (rest_begun (points_of c.args.xs.now c.args.ys.now) (bound_of c.args.hulls.now) meets.0 c.args.end c.args.to (length c.args.rest.now - 1) c.args.joined.now.items c.args.rest.now _
     c.requires.end (omega arith) meets.1 meets.2)
+
+pub returns-then-end-to-clause-cost : goal.returns-then-end-to-clause-cost
+returns-then-end-to-clause-cost g c = λ at piece.
+    let p = points_of c.args.xs.now c.args.ys.now in
+    omega (arith, c.if-end-to.true, CutsInto-rises (IsLongest p (bound_of c.args.hulls.now) c.args.end) (starts_of c.args.rest.now) at c.args.end piece.greedy)
+
+pub returns-clause-cost : goal.returns-clause-cost
+returns-clause-cost g c =
+    let p = points_of c.args.xs.now c.args.ys.now in
+    let eps = bound_of c.args.hulls.now in
+    from_before (λ (at : ℕ). IsSegmentation p eps at c.args.end c.args.rest.now) c.add_run.result c.add_run.new.steps c.args.steps.now _ c.add_run.ensures.cost
+    (λ at piece. rest_rises p eps at c.args.end c.args.to (length c.args.rest.now - 1) c.args.rest.now _ c.requires.end (omega arith) piece)

@@ -19,4 +19,5 @@ loop-number-preserved g c =
       whole = λ last. next.whole (c.edge-end.ensures ∙ edge_last _ _ work.cuts.now last);
       room = omega (arith, inv.room, next.room);
       bound = next.bound;
+      cost = omega (arith, inv.cost, next.cost);
     }

@@ -9,4 +9,4 @@ pub returns-clause-one_list : goal.returns-clause-one_list
 returns-clause-one_list g c =
     let xs = c.args.xs.now in
     let p = points_of xs c.args.ys.now in
-    IfOk-weaker c.joined.result _ _ (λ segments own others whole. IsSegmentation-unique p c.args.eps 0 (length xs) segments.items others own whole) c.joined.ensures
+    IfOk-weaker c.joined_from.result _ _ (λ segments own others whole. IsSegmentation-unique p c.args.eps 0 (length xs) segments.items others own whole) c.joined_from.ensures
