@@ -18,6 +18,12 @@ keys_of (Levels index) = index.now.keys
 keys_of (Table buckets) = buckets.index.keys
 keys_of (Sorted sorted) = sorted.now.keys.items
 
+-- by the levels where no bits of a key are told, and else by a table that goes by so many
+abbrev pub FindsBy : ℕ → Finder → Type 0
+FindsBy bits (Levels index) = bits ≡ 0
+FindsBy bits (Table buckets) = (0 < bits) × (buckets.bits ≡ bits)
+FindsBy bits (Sorted sorted) = ⊥
+
 -- the one index of these keys, with these bounds
 pub record IsIndexOf (keys : List ℕ) (bounds : Bounds) (index : PgmIndex) : Type 0 where
   pub of_keys : index.keys ≡ keys

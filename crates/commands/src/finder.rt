@@ -4,7 +4,7 @@ ghost use Rattle.std.specs.Prelude.{◌≡◌, ◌+◌, ◌++◌, ◌<◌, ◌�
 ghost use Rattle.std.specs.Prelude.{vec_capacity, vec_len, IfOk};
 ghost use Rattle.std.specs.List.Sorted.{IsNonDecreasing};
 ghost use Rattle.window_search.specs.Searches.{lb};
-ghost use Rattle.commands.specs.Finders.{keys_of};
+ghost use Rattle.commands.specs.Finders.{keys_of, FindsBy};
 
 use crate::task::SortedKeys;
 use bucketed::Buckets;
@@ -31,7 +31,8 @@ impl<'a> Finder<'a> {
     /// they are 0 by the levels.
     pub fn of(alloc: Global, index: &'a Index, bits: u32) -> Result<Finder<'a>, NoMemory>
         requires few { bits ≤ 20 }
-        ensures { IfOk result (λ finder. keys_of finder ≡ index.now.keys) }
+        ensures keys { IfOk result (λ finder. keys_of finder ≡ index.now.keys) }
+        ensures way { IfOk result (FindsBy bits) }
     {
         if bits == 0 {
             Ok(Finder::Levels(index))
