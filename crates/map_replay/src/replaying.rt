@@ -85,7 +85,8 @@ pub fn replay<R: Threads + Wait + Sync, G: Gate>(
 /// again. A sender for which no thread can be had is served by the writer.
 ///
 /// The writer takes what comes. It publishes when it has a batch of `plan.batch`, and a smaller one
-/// when it has some updates and finds the queue empty. Where it can't, it goes on taking and gives up what it takes.
+/// when it has some updates and finds the queue empty. Where it can't, it goes on taking and gives
+/// up what it takes.
 ///
 /// # Errors
 ///
