@@ -168,6 +168,66 @@ key-between list entries from place j same ascending at le below =
       ap (λ k. (slice_index_or entries k no_entry).key) at,
     ))
 
+-- what is read at a place
+pub key-read : (list entries : List Entry) (place : ℕ) → list ≡ entries → place < length list → (place < length entries) × (slice_index_or (level_keys entries) place 0 ≡ (slice_index_or list place no_entry).key)
+key-read list entries place same inside =
+    let fits : place < length entries = omega (arith, inside, ap (λ (l : List Entry). length l) same) in
+    (fits, key-at entries place 0 no_entry fits ∙ ap (λ (l : List Entry). (slice_index_or l place no_entry).key) (sym same))
+
+-- an entry that stands at a bound's place isn't below the bound, and behind it comes the place of the next key
+pub place-passed : (entries : List Entry) (from place key : ℕ) → IsAscending entries → place ≡ lb (level_keys entries) from → place < length entries → slice_index_or (level_keys entries) place 0 ≡ key
+    → (from ≤ key) × (place + 1 ≡ lb (level_keys entries) (key + 1))
+place-passed entries from place key ascending at inside is =
+    let bound = IsLowerBound-lb (level_keys entries) from (keys-never_fall entries ascending) in
+    let count = length-level_keys entries in
+    let above : from ≤ key = omega (arith, is, bound.from place (omega arith) (omega arith)) in
+    (above, sym (lb-is (level_keys entries) (key + 1) (place + 1) (omega arith) (λ k before. elim (cases_lt k place) [
+      | inl less ↦ omega (arith, bound.before k (omega arith))
+      | inr at_least ↦ let same : place ≡ k = omega arith in omega (arith, is, ap (λ i. slice_index_or (level_keys entries) i 0) same)
+    ]) (λ k past inside'. omega (arith, is, keys-rise entries ascending place k 0 (omega arith) inside'))))
+
+-- before a bound's place keys are below the bound
+pub key-before : (list entries : List Entry) (bound place : ℕ) → list ≡ entries → IsAscending entries → place ≡ lb (level_keys entries) bound → (place ≤ length list) × (0 < place → (slice_index_or list (place - 1) no_entry).key < bound)
+key-before list entries bound place same ascending at =
+    let lower = IsLowerBound-lb (level_keys entries) bound (keys-never_fall entries ascending) in
+    let size = ap (λ (l : List Entry). length l) same in
+    let count = length-level_keys entries in
+    (
+      omega (arith, lower.within),
+      λ some.
+      omega (
+        arith,
+        lower.before (place - 1) (omega arith),
+        key-at entries (place - 1) 0 no_entry (omega (arith, lower.within)),
+        ap (λ (l : List Entry). (slice_index_or l (place - 1) no_entry).key) same,
+      ),
+    )
+
+-- from the key before a bound's place up to the bound no key has an entry, if the bound has none
+pub key-behind : (list entries : List Entry) (bound place j : ℕ) → list ≡ entries → IsAscending entries → place ≡ lb (level_keys entries) bound → entry_at entries bound ≡ None → j ≤ bound
+    → (0 < place → (slice_index_or list (place - 1) no_entry).key < j) → entry_at entries j ≡ None
+key-behind list entries bound place j same ascending at missing le above = go (entry_at entries j) refl
+  where
+    go : (found : Option Entry) → entry_at entries j ≡ found → entry_at entries j ≡ None
+    go None is = is
+    go (Some e) is =
+        let (i, inside, stands) = Contains-entry_at entries j e is in
+        let here : slice_index_or (level_keys entries) i 0 ≡ j = key-at entries i 0 e inside ∙ ap (λ (x : Entry). x.key) stands ∙ key-entry_at entries j e is in
+        let lower = IsLowerBound-lb (level_keys entries) bound (keys-never_fall entries ascending) in
+        let count = length-level_keys entries in
+        elim (cases_lt i place) [
+          | inl less ↦ absurd (omega (
+            arith,
+            above (omega arith),
+            keys-never_fall entries ascending i (place - 1) 0 (omega arith) (omega (arith, lower.within)),
+            key-at entries (place - 1) 0 no_entry (omega (arith, lower.within)),
+            ap (λ (l : List Entry). (slice_index_or l (place - 1) no_entry).key) same,
+          ))
+          | inr past ↦
+              let equal : j ≡ bound = omega (arith, lower.from i (omega arith) (omega arith)) in
+              ap (entry_at entries) equal ∙ missing
+        ]
+
 -- the place of the next key, by whether there is an entry with the key
 pub next-some : (entries : List Entry) (key : ℕ) (e : Entry) → IsAscending entries → entry_at entries key ≡ Some e → (lb (level_keys entries) key < length entries) × (lb (level_keys entries) (key + 1) ≡ lb (level_keys entries) key + 1)
 next-some entries key e ascending found = elim (cases_lt (lb (level_keys entries) key) (length entries)) [

@@ -1,11 +1,12 @@
 // A level as it is kept.
 ghost use Rattle.std.specs.Prelude.{◌≡◌, ◌+◌, ◌*◌, ◌-◌, ◌^◌, ◌<◌, ◌≤◌, ℕ};
 ghost use Rattle.std.specs.Prelude.{None, Some, IfSome, IsTrue, length, vec_len, IfOk};
+ghost use Rattle.std.specs.Prelude.{slice_index};
 ghost use Rattle.std.specs.Bool.{OnFalse};
 ghost use Rattle.std.specs.Option.{option_copied};
 ghost use Rattle.levels.specs.Indexes.{IsIndex};
 ghost use Rattle.tombstones.specs.Entries.{IsAscending, entry_at};
-ghost use Rattle.map_level.specs.Levels.{IsBelow, level_keys};
+ghost use Rattle.map_level.specs.Levels.{IsAbove, IsBelow, level_keys};
 ghost use Rattle.window_search.specs.Searches.{lb};
 
 use crate::builder::Builder;
@@ -167,6 +168,39 @@ impl Level {
             return None;
         }
         Some(entries[place].key)
+    }
+
+    /// The key at a place, if there is one: at the place of a bound the least key from the bound on.
+    #[inline]
+    pub fn key_at(&self, place: usize) -> Option<u64>
+        ensures at { IfSome result (λ key. (place < length self.now) ×
+            (slice_index (level_keys self.now) place ≡ key)) }
+        ensures least { (from key : ℕ) → place ≡ lb (level_keys self.now) from → from ≤ key →
+            IsBelow key result → entry_at self.now key ≡ None }
+    {
+        let entries = self.entries();
+        if place >= entries.len() {
+            return None;
+        }
+        Some(entries[place].key)
+    }
+
+    /// The greatest key up to `bound`, which is at this place, if there is one.
+    #[inline]
+    pub fn key_to(&self, place: usize, bound: u64) -> Option<u64>
+        requires { place ≡ lb (level_keys self.now) bound }
+        ensures within { IfSome result (λ key. key ≤ bound) }
+        ensures greatest { (key : ℕ) → key ≤ bound → IsAbove key result →
+            entry_at self.now key ≡ None }
+    {
+        let entries = self.entries();
+        if let Some(_) = self.entry_from(place, bound) {
+            return Some(bound);
+        }
+        if place == 0 {
+            return None;
+        }
+        Some(entries[place - 1].key)
     }
 
     /// The place of `key + 1`, by that of `key`.
