@@ -10,3 +10,5 @@ pub mod ValueLemmas
 pub mod OccupiedLemmas
 pub mod SearchLemmas
 pub mod WalkLemmas
+pub mod RangeLemmas
+pub mod LoadLemmas

@@ -1,15 +1,17 @@
 -- The ordered map: its keys rise, and its answers follow from its values.
-use Rattle.std.proofs.Common.{◌≡◌, ℕ, ◌+◌, ◌<◌, ◌≤◌, eqb, ltb, leb, Bool, true, false, not, cond, if◌then◌else◌, List, [], ◌∷◌, length, filter, find, Some, None, refl, sym, ap, ◌∙◌, subst, inl, inr, arith, nat_cmp, Less, Equal, Greater, length-append}
-use Rattle.std.proofs.lemmas.List.{length-map}
+use Rattle.std.proofs.Common.{◌≡◌, ℕ, ◌+◌, ◌<◌, ◌≤◌, eqb, ltb, leb, Bool, true, false, not, cond, if◌then◌else◌, List, [], ◌∷◌, length, reverse, filter, find, Some, None, refl, sym, ap, ◌∙◌, subst, inl, inr, arith, nat_cmp, Less, Equal, Greater, length-append}
+use Rattle.std.proofs.lemmas.List.{length-map, reverse-append}
+use Rattle.std.proofs.lemmas.List.Folds.{find-append}
+use Rattle.std.specs.Option.{option_or}
 use Rattle.std.proofs.lemmas.List.Sums.{sum_by-cons}
 use Rattle.std.proofs.lemmas.Bool.{cases_lt, cases_eq, cases_order, eq-eqb, ne_eqb, lt-ltb, le-ltb, le-leb, lt-leb, leb-true, and_from, and_left, and_right, and_parts, cases_Bool, both_ways, cond-true, cond-false}
 use Rattle.std.specs.List.{fold}
 use Rattle.std.specs.Ordering.{is_eq, match_ordering}
-use Rattle.std.specs.Map.{remove_entry, keys_of}
+use Rattle.std.specs.Map.{remove_entry}
 use Rattle.std.specs.BTreeMap.{insert_entry, is_at}
 use Rattle.log_levels.specs.declared.update.Update.{Update}
 use Rattle.log_levels.specs.declared.update.Update.TheVariants.{Put, Del, Sweep}
-use Rattle.log_levels.specs.Maps.{is_between, updated, map_after, value_at, next_from, count_between}
+use Rattle.log_levels.specs.Maps.{is_between, updated, map_after, value_at, next_from, count_between, previous_to, pairs_between}
 use Rattle.log_levels.specs.Accepted.{keys_between, entries_for, entries_from, entries_of}
 
 -- `cmp` of two numbers
@@ -201,6 +203,43 @@ next-none (pair ∷ pairs) q none low (from, rest) = elim (cases_lt pair.0 q) [
   | inr at_least ↦ let apart : Some pair.1 ≡ None = sym (value-here pair pairs pair.0 refl) ∙ none pair.0 at_least in cc
 ]
 
+-- the greatest key up to a bound that the map has
+previous-cons : (pair : ℕ × ℕ) (pairs : List (ℕ × ℕ)) (q : ℕ) → previous_to (pair ∷ pairs) q ≡ option_or (previous_to pairs q) (if leb pair.0 q then Some pair else None)
+previous-cons pair pairs q = ap (find (λ (pair : ℕ × ℕ). leb pair.0 q)) (reverse-append (pair ∷ []) pairs) ∙ find-append (λ (pair : ℕ × ℕ). leb pair.0 q) (reverse pairs) (pair ∷ [])
+
+pub previous-none : (low : ℕ) (pairs : List (ℕ × ℕ)) (q : ℕ) → RisesFrom low pairs → ((other : ℕ) → other ≤ q → value_at pairs other ≡ None) → previous_to pairs q ≡ None
+previous-none low [] q rises none = refl
+previous-none low (pair ∷ pairs) q (from, rest) none = elim (cases_lt q pair.0) [
+  | inr at_most ↦ let apart : Some pair.1 ≡ None = sym (value-here pair pairs pair.0 refl) ∙ none pair.0 at_most in cc
+  | inl above ↦ previous-cons pair pairs q
+      ∙ ap (λ found. option_or found (if leb pair.0 q then Some pair else None)) (previous-none (pair.0 + 1) pairs q rest (λ other le. value-below (pair.0 + 1) pairs other rest (omega arith)))
+      ∙ cond-false (leb pair.0 q) (Some pair) None (lt-leb pair.0 q above)
+]
+
+pub previous-is : (low : ℕ) (pairs : List (ℕ × ℕ)) (q key value : ℕ) → RisesFrom low pairs → key ≤ q → value_at pairs key ≡ Some value
+    → ((other : ℕ) → key < other → other ≤ q → value_at pairs other ≡ None) → previous_to pairs q ≡ Some (key, value)
+previous-is low [] q key value rises le is none = cc
+previous-is low (pair ∷ pairs) q key value (from, rest) le is none = elim (cases_order key pair.0) [
+  | inl here ↦
+      previous-cons pair pairs q
+      ∙ ap (λ found. option_or found (if leb pair.0 q then Some pair else None)) (previous-none (pair.0 + 1) pairs q rest (λ other at_most. elim (cases_lt pair.0 other) [
+        | inl above ↦ sym (value-later pair pairs other (λ same. absurd (omega arith))) ∙ none other (omega arith) at_most
+        | inr below ↦ value-below (pair.0 + 1) pairs other rest (omega arith)
+      ]))
+      ∙ cond-true (leb pair.0 q) (Some pair) None (le-leb pair.0 q (omega arith))
+      ∙ pair-is pair key value (sym here) (sym (value-here pair pairs key here) ∙ is)
+  | inr (inl less) ↦
+      let apart : Some value ≡ None = sym is ∙ value-later pair pairs key (λ same. absurd (omega arith)) ∙ value-below (pair.0 + 1) pairs key rest (omega arith) in cc
+  | inr (inr greater) ↦
+      previous-cons pair pairs q
+      ∙ ap (λ found. option_or found (if leb pair.0 q then Some pair else None))
+        (previous-is (pair.0 + 1) pairs q key value rest le (sym (value-later pair pairs key (λ same. absurd (omega arith))) ∙ is)
+        (λ other above at_most. sym (value-later pair pairs other (λ same. absurd (omega arith))) ∙ none other above at_most))
+]
+  where
+    pair-is : (pair : ℕ × ℕ) (key value : ℕ) → pair.0 ≡ key → Some pair.1 ≡ Some value → Some pair ≡ Some (key, value)
+    pair-is (k, v) key value same_key same_value = cc
+
 -- the keys from one bound to another
 between-inside : (low high key : ℕ) → low ≤ key → key ≤ high → is_between low high key ≡ true
 between-inside low high key above below = and_from _ _ (le-leb low key above) (le-leb key high below)
@@ -211,47 +250,50 @@ between-below low high key less = and_left _ _ (lt-leb low key less)
 between-above : (low high key : ℕ) → high < key → is_between low high key ≡ false
 between-above low high key greater = and_right _ _ (lt-leb key high greater)
 
-pub keys-kept : (pair : ℕ × ℕ) (pairs : List (ℕ × ℕ)) (low high : ℕ) → is_between low high pair.0 ≡ true → keys_between (pair ∷ pairs) low high ≡ pair.0 ∷ keys_between pairs low high
-keys-kept pair pairs low high inside = cond-true _ _ _ inside
+pairs-kept : (pair : ℕ × ℕ) (pairs : List (ℕ × ℕ)) (low high : ℕ) → is_between low high pair.0 ≡ true → pairs_between (pair ∷ pairs) low high ≡ pair ∷ pairs_between pairs low high
+pairs-kept pair pairs low high inside = cond-true _ _ _ inside
 
-pub keys-dropped : (pair : ℕ × ℕ) (pairs : List (ℕ × ℕ)) (low high : ℕ) → is_between low high pair.0 ≡ false → keys_between (pair ∷ pairs) low high ≡ keys_between pairs low high
-keys-dropped pair pairs low high outside = cond-false _ _ _ outside
+pairs-dropped : (pair : ℕ × ℕ) (pairs : List (ℕ × ℕ)) (low high : ℕ) → is_between low high pair.0 ≡ false → pairs_between (pair ∷ pairs) low high ≡ pairs_between pairs low high
+pairs-dropped pair pairs low high outside = cond-false _ _ _ outside
 
 -- below the first key a bound makes no difference
-keys-same : (bound : ℕ) (pairs : List (ℕ × ℕ)) (low high : ℕ) → RisesFrom bound pairs → low ≤ bound → keys_between pairs low high ≡ keys_between pairs bound high
-keys-same bound [] low high rises le = refl
-keys-same bound (pair ∷ pairs) low high (from, rest) le =
-    let rest-same : keys_between pairs low high ≡ keys_between pairs bound high =
-    keys-same (pair.0 + 1) pairs low high rest (omega arith) ∙ sym (keys-same (pair.0 + 1) pairs bound high rest (omega arith)) in
+pairs-same : (bound : ℕ) (pairs : List (ℕ × ℕ)) (low high : ℕ) → RisesFrom bound pairs → low ≤ bound → pairs_between pairs low high ≡ pairs_between pairs bound high
+pairs-same bound [] low high rises le = refl
+pairs-same bound (pair ∷ pairs) low high (from, rest) le =
+    let rest-same : pairs_between pairs low high ≡ pairs_between pairs bound high =
+    pairs-same (pair.0 + 1) pairs low high rest (omega arith) ∙ sym (pairs-same (pair.0 + 1) pairs bound high rest (omega arith)) in
     elim (cases_lt high pair.0) [
-      | inl past ↦ keys-dropped pair pairs low high (between-above low high pair.0 past) ∙ rest-same ∙ sym (keys-dropped pair pairs bound high (between-above bound high pair.0 past))
-      | inr inside ↦ keys-kept pair pairs low high (between-inside low high pair.0 (omega arith) inside) ∙ ap (λ keys. pair.0 ∷ keys) rest-same
-          ∙ sym (keys-kept pair pairs bound high (between-inside bound high pair.0 from inside))
+      | inl past ↦ pairs-dropped pair pairs low high (between-above low high pair.0 past) ∙ rest-same ∙ sym (pairs-dropped pair pairs bound high (between-above bound high pair.0 past))
+      | inr inside ↦ pairs-kept pair pairs low high (between-inside low high pair.0 (omega arith) inside) ∙ ap (λ later. pair ∷ later) rest-same
+          ∙ sym (pairs-kept pair pairs bound high (between-inside bound high pair.0 from inside))
     ]
 
-pub keys-step : (bound : ℕ) (pairs : List (ℕ × ℕ)) (low high key value : ℕ) → RisesFrom bound pairs → low ≤ key → key ≤ high → value_at pairs key ≡ Some value
-    → ((other : ℕ) → low ≤ other → other < key → value_at pairs other ≡ None) → keys_between pairs low high ≡ key ∷ keys_between pairs (key + 1) high
-keys-step bound [] low high key value rises above below is none = cc
-keys-step bound (pair ∷ pairs) low high key value (from, rest) above below is none = elim (cases_lt pair.0 low) [
-  | inl before ↦ keys-dropped pair pairs low high (between-below low high pair.0 before)
-      ∙ keys-step (pair.0 + 1) pairs low high key value rest above below (sym (value-later pair pairs key (λ same. absurd (omega arith))) ∙ is)
+pub pairs-step : (bound : ℕ) (pairs : List (ℕ × ℕ)) (low high key value : ℕ) → RisesFrom bound pairs → low ≤ key → key ≤ high → value_at pairs key ≡ Some value
+    → ((other : ℕ) → low ≤ other → other < key → value_at pairs other ≡ None) → pairs_between pairs low high ≡ (key, value) ∷ pairs_between pairs (key + 1) high
+pairs-step bound [] low high key value rises above below is none = cc
+pairs-step bound (pair ∷ pairs) low high key value (from, rest) above below is none = elim (cases_lt pair.0 low) [
+  | inl before ↦ pairs-dropped pair pairs low high (between-below low high pair.0 before)
+      ∙ pairs-step (pair.0 + 1) pairs low high key value rest above below (sym (value-later pair pairs key (λ same. absurd (omega arith))) ∙ is)
       (λ other least less. sym (value-later pair pairs other (λ same. absurd (omega arith))) ∙ none other least less)
-      ∙ ap (λ keys. key ∷ keys) (sym (keys-dropped pair pairs (key + 1) high (between-below (key + 1) high pair.0 (omega arith))))
+      ∙ ap (λ later. (key, value) ∷ later) (sym (pairs-dropped pair pairs (key + 1) high (between-below (key + 1) high pair.0 (omega arith))))
   | inr at_least ↦ elim (cases_order pair.0 key) [
-    | inl here ↦ keys-kept pair pairs low high (between-inside low high pair.0 at_least (omega arith))
-        ∙ ap (λ k. k ∷ keys_between pairs low high) here
-        ∙ ap (λ keys. key ∷ keys) (keys-same (key + 1) pairs low high (subst (λ k. RisesFrom (k + 1) pairs) here rest) (omega arith)
-        ∙ sym (keys-dropped pair pairs (key + 1) high (between-below (key + 1) high pair.0 (omega arith))))
+    | inl here ↦ pairs-kept pair pairs low high (between-inside low high pair.0 at_least (omega arith))
+        ∙ ap (λ first. first ∷ pairs_between pairs low high) (pair-is pair key value here (sym (value-here pair pairs key (sym here)) ∙ is))
+        ∙ ap (λ later. (key, value) ∷ later) (pairs-same (key + 1) pairs low high (subst (λ k. RisesFrom (k + 1) pairs) here rest) (omega arith)
+        ∙ sym (pairs-dropped pair pairs (key + 1) high (between-below (key + 1) high pair.0 (omega arith))))
     | inr (inl less) ↦ let apart : Some pair.1 ≡ None = sym (value-here pair pairs pair.0 refl) ∙ none pair.0 at_least less in cc
     | inr (inr greater) ↦
         let apart : Some value ≡ None = sym is ∙ value-later pair pairs key (λ same. absurd (omega arith)) ∙ value-below (pair.0 + 1) pairs key rest (omega arith) in cc
   ]
 ]
+  where
+    pair-is : (pair : ℕ × ℕ) (key value : ℕ) → pair.0 ≡ key → Some pair.1 ≡ Some value → pair ≡ (key, value)
+    pair-is (k, v) key value same_key same_value = cc
 
-pub keys-end : (pairs : List (ℕ × ℕ)) (low high : ℕ) → ((other : ℕ) → low ≤ other → other ≤ high → value_at pairs other ≡ None) → (bound : ℕ) → RisesFrom bound pairs → keys_between pairs low high ≡ []
-keys-end [] low high none bound rises = refl
-keys-end (pair ∷ pairs) low high none bound (from, rest) =
-    let later : keys_between pairs low high ≡ [] = keys-end pairs low high (λ other above below. elim (cases_lt other (pair.0 + 1)) [
+pub pairs-end : (pairs : List (ℕ × ℕ)) (low high : ℕ) → ((other : ℕ) → low ≤ other → other ≤ high → value_at pairs other ≡ None) → (bound : ℕ) → RisesFrom bound pairs → pairs_between pairs low high ≡ []
+pairs-end [] low high none bound rises = refl
+pairs-end (pair ∷ pairs) low high none bound (from, rest) =
+    let later : pairs_between pairs low high ≡ [] = pairs-end pairs low high (λ other above below. elim (cases_lt other (pair.0 + 1)) [
       | inl before ↦ value-below (pair.0 + 1) pairs other rest before
       | inr after ↦ sym (value-later pair pairs other (λ same. absurd (omega arith))) ∙ none other above below
     ]) (pair.0 + 1) rest in
@@ -259,17 +301,20 @@ keys-end (pair ∷ pairs) low high none bound (from, rest) =
       | inl inside ↦
           let bounds = and_parts (leb low pair.0) (leb pair.0 high) inside in
           let apart : Some pair.1 ≡ None = sym (value-here pair pairs pair.0 refl) ∙ none pair.0 (leb-true _ _ bounds.0) (leb-true _ _ bounds.1) in cc
-      | inr outside ↦ keys-dropped pair pairs low high outside ∙ later
+      | inr outside ↦ pairs-dropped pair pairs low high outside ∙ later
     ]
 
-pub count-keys : (pairs : List (ℕ × ℕ)) (low high : ℕ) → count_between pairs low high ≡ length (keys_between pairs low high)
-count-keys [] low high = refl
-count-keys (pair ∷ pairs) low high = elim (cases_Bool (is_between low high pair.0)) [
+pub count-pairs : (pairs : List (ℕ × ℕ)) (low high : ℕ) → count_between pairs low high ≡ length (pairs_between pairs low high)
+count-pairs [] low high = refl
+count-pairs (pair ∷ pairs) low high = elim (cases_Bool (is_between low high pair.0)) [
   | inl inside ↦ sum_by-cons (λ (pair : ℕ × ℕ). cond (is_between low high pair.0) 1 0) pair pairs ∙ ap (λ b. cond b 1 0 + count_between pairs low high) inside
-      ∙ omega (arith, count-keys pairs low high, ap (λ (l : List ℕ). length l) (keys-kept pair pairs low high inside))
+      ∙ omega (arith, count-pairs pairs low high, ap (λ (l : List (ℕ × ℕ)). length l) (pairs-kept pair pairs low high inside))
   | inr outside ↦ sum_by-cons (λ (pair : ℕ × ℕ). cond (is_between low high pair.0) 1 0) pair pairs ∙ ap (λ b. cond b 1 0 + count_between pairs low high) outside
-      ∙ omega (arith, count-keys pairs low high, ap (λ (l : List ℕ). length l) (keys-dropped pair pairs low high outside))
+      ∙ omega (arith, count-pairs pairs low high, ap (λ (l : List (ℕ × ℕ)). length l) (pairs-dropped pair pairs low high outside))
 ]
+
+pub count-keys : (pairs : List (ℕ × ℕ)) (low high : ℕ) → count_between pairs low high ≡ length (keys_between pairs low high)
+count-keys pairs low high = count-pairs pairs low high ∙ sym (length-map (pairs_between pairs low high) (λ (pair : ℕ × ℕ). pair.0))
 
 -- a map has no more pairs than entries were accepted
 length-insert : (pairs : List (ℕ × ℕ)) (key value : ℕ) → length (insert_entry nat_cmp pairs key value) ≤ length pairs + 1
@@ -311,7 +356,7 @@ length-after updates = omega (arith, length-fold [] updates)
 
 pub count-few : (updates : List Update) (low high : ℕ) → count_between (map_after updates) low high ≤ length (entries_of updates)
 count-few updates low high =
-    omega (arith, count-keys (map_after updates) low high, length-filter (is_between low high) (keys_of (map_after updates)), length-map (map_after updates) (λ (pair : ℕ × ℕ). pair.0), length-after updates)
+    omega (arith, count-pairs (map_after updates) low high, length-filter (λ pair. is_between low high pair.0) (map_after updates), length-after updates)
 
 -- two maps with the same value at each key are the same
 pub same-pairs : (low : ℕ) (xs ys : List (ℕ × ℕ)) → RisesFrom low xs → RisesFrom low ys → ((key : ℕ) → value_at xs key ≡ value_at ys key) → xs ≡ ys
@@ -333,3 +378,10 @@ same-pairs low (x ∷ xs) (y ∷ ys) (x_from, xs_rise) (y_from, ys_rise) same =
   where
     pair-same : (x y : ℕ × ℕ) (xs ys : List (ℕ × ℕ)) → x.0 ≡ y.0 → Some x.1 ≡ Some y.1 → xs ≡ ys → x ∷ xs ≡ y ∷ ys
     pair-same (k, v) (l, w) xs ys keys values rest = cc
+
+-- up to a bound above which there is none, all are
+pub pairs-all : (pairs : List (ℕ × ℕ)) (high : ℕ) → RisesFrom 0 pairs → ((key : ℕ) → high < key → value_at pairs key ≡ None) → pairs_between pairs 0 high ≡ pairs
+pairs-all pairs high rises none = same-pairs 0 (pairs_between pairs 0 high) pairs (rises-filter (λ pair. is_between 0 high pair.0) 0 pairs rises) rises (λ key. elim (cases_lt high key) [
+  | inl above ↦ value-filter-dropped (is_between 0 high) pairs key (between-above 0 high key above) ∙ sym (none key above)
+  | inr at_most ↦ value-filter-kept (is_between 0 high) pairs key (between-inside 0 high key (omega arith) at_most)
+])

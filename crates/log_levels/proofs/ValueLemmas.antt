@@ -3,6 +3,7 @@ use Rattle.std.proofs.Common.{◌≡◌, ℕ, eqb, Bool, true, false, not, if◌
 use Rattle.std.proofs.lemmas.Bool.{cases_eq, cases_Bool, cond-true, cond-false, eq-eqb, ne_eqb, not_from_true, not_from_false}
 use Rattle.std.specs.Option.{option_or}
 use Rattle.std.specs.List.{fold}
+use Rattle.std.specs.Map.{keys_of}
 use Rattle.std.proofs.lemmas.List.{append_assoc, append-nil}
 use Rattle.tombstones.specs.declared.entry.Entry.{Entry}
 use Rattle.log_levels.specs.declared.update.Update.{Update}
@@ -30,11 +31,11 @@ module _ (low high q : ℕ) where
 
   deletions-kept : (pair : ℕ × ℕ) (pairs : List (ℕ × ℕ)) → is_between low high pair.0 ≡ true → deletions (pair ∷ pairs) ≡ del_entry pair.0 ∷ deletions pairs
   unfolding deletions
-  deletions-kept pair pairs keeps = ap (map del_entry) (cond-true _ _ _ keeps)
+  deletions-kept pair pairs keeps = ap (λ (kept : List (ℕ × ℕ)). map del_entry (keys_of kept)) (cond-true _ _ _ keeps)
 
   deletions-dropped : (pair : ℕ × ℕ) (pairs : List (ℕ × ℕ)) → is_between low high pair.0 ≡ false → deletions (pair ∷ pairs) ≡ deletions pairs
   unfolding deletions
-  deletions-dropped pair pairs drops = ap (map del_entry) (cond-false _ _ _ drops)
+  deletions-dropped pair pairs drops = ap (λ (kept : List (ℕ × ℕ)). map del_entry (keys_of kept)) (cond-false _ _ _ drops)
 
   last-other : (pair : ℕ × ℕ) (pairs : List (ℕ × ℕ)) → (q ≡ pair.0 → ⊥) → last_at (deletions (pair ∷ pairs)) q ≡ last_at (deletions pairs) q
   last-other pair pairs other = elim (cases_Bool (is_between low high pair.0)) [

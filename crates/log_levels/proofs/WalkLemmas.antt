@@ -7,7 +7,7 @@ use Rattle.log_levels.specs.declared.update.Update.{Update}
 use Rattle.log_levels.specs.declared.update.Update.TheVariants.{Sweep}
 use Rattle.log_levels.proofs.UpdateLemmas.{entries_of-sweep}
 use Rattle.std.proofs.lemmas.List.{length-map}
-use Rattle.log_levels.specs.Maps.{map_after, next_from, count_between}
+use Rattle.log_levels.specs.Maps.{map_after, value_at, next_from, count_between, pairs_between}
 use Rattle.log_levels.specs.Accepted.{entries_of, entries_for, keys_between, del_entry}
 use Rattle.map_level.specs.Levels.{last_at, IsBelow}
 use Rattle.log_levels.specs.Shapes.{Held, IsCutOf, IsLevelFor, level_of}
@@ -15,7 +15,7 @@ use Rattle.log_levels.specs.Kept.{IsAbsent, ArePlaces, IsNextLive, value_of}
 use Rattle.map_level.proofs.LevelLemmas.{place-stays}
 use Rattle.log_levels.proofs.SearchLemmas.{absent-value}
 use Rattle.log_levels.proofs.ValueLemmas.{value-after}
-use Rattle.log_levels.proofs.MapLemmas.{rises-after, next-is, next-none, keys-step, keys-end, count-keys}
+use Rattle.log_levels.proofs.MapLemmas.{rises-after, next-is, next-none, pairs-step, pairs-end, count-pairs, count-keys}
 
 pub level-ascends : (held : Held) (entries : List Entry) (i : ℕ) (level : List Entry) → IsCutOf held entries → i < length held.levels → level_of held i ≡ Some level → IsAscending level
 level-ascends held entries i level cut inside is = (subst (IsLevelFor entries (length entries / 64) i) is (cut.levels i inside)).1.ascending
@@ -68,32 +68,49 @@ next-stands updates q None none = sym (next-none (map_after updates) q (λ other
 next-stands updates q (Some (key, value)) (above, is, none) =
     sym (next-is 0 (map_after updates) q key value (rises-after updates) above (value-after updates key ∙ is) (λ other low less. value-after updates other ∙ none other low less))
 
--- a key that a walk finds counts, if it is in the range
-pub keys-found : (updates : List Update) (from high key value : ℕ) → IsNextLive (entries_of updates) from (Some (key, value)) → key ≤ high
-    → keys_between (map_after updates) from high ≡ key ∷ keys_between (map_after updates) (key + 1) high
-keys-found updates from high key value (above, is, none) below =
-    keys-step 0 (map_after updates) from high key value (rises-after updates) above below (value-after updates key ∙ is) (λ other low less. value-after updates other ∙ none other low less)
+-- a key that a walk finds comes next in the range, if it is in it
+pub pairs-found : (updates : List Update) (from high key value : ℕ) → IsNextLive (entries_of updates) from (Some (key, value)) → key ≤ high
+    → pairs_between (map_after updates) from high ≡ (key, value) ∷ pairs_between (map_after updates) (key + 1) high
+pairs-found updates from high key value (above, is, none) below =
+    pairs-step 0 (map_after updates) from high key value (rises-after updates) above below (value-after updates key ∙ is) (λ other low less. value-after updates other ∙ none other low less)
 
-pub keys-past : (updates : List Update) (from high key value : ℕ) → IsNextLive (entries_of updates) from (Some (key, value)) → high < key → keys_between (map_after updates) from high ≡ []
-keys-past updates from high key value (above, is, none) past =
-    keys-end (map_after updates) from high (λ other low below. value-after updates other ∙ none other low (omega arith)) 0 (rises-after updates)
+pub pairs-past : (updates : List Update) (from high key value : ℕ) → IsNextLive (entries_of updates) from (Some (key, value)) → high < key → pairs_between (map_after updates) from high ≡ []
+pairs-past updates from high key value (above, is, none) past =
+    pairs-end (map_after updates) from high (λ other low below. value-after updates other ∙ none other low (omega arith)) 0 (rises-after updates)
 
-pub keys-none : (updates : List Update) (from high : ℕ) → IsNextLive (entries_of updates) from None → keys_between (map_after updates) from high ≡ []
-keys-none updates from high none = keys-end (map_after updates) from high (λ other low below. value-after updates other ∙ none other low) 0 (rises-after updates)
+pub pairs-none : (updates : List Update) (from high : ℕ) → IsNextLive (entries_of updates) from None → pairs_between (map_after updates) from high ≡ []
+pairs-none updates from high none = pairs-end (map_after updates) from high (λ other low below. value-after updates other ∙ none other low) 0 (rises-after updates)
 
+-- where no key is above a bound, what a walk finds isn't
+pub live-within : (updates : List Update) (from high key value : ℕ) → IsNextLive (entries_of updates) from (Some (key, value)) → ((other : ℕ) → high < other → value_at (map_after updates) other ≡ None) → key ≤ high
+live-within updates from high key value (above, is, none) end = elim (cases_lt high key) [
+  | inr at_most ↦ at_most
+  | inl past ↦ let apart : Some value ≡ None = sym is ∙ sym (value-after updates key) ∙ end key past in cc
+]
+
+-- so does it count
 pub count-found : (updates : List Update) (from high key value : ℕ) → IsNextLive (entries_of updates) from (Some (key, value)) → key ≤ high
     → count_between (map_after updates) from high ≡ count_between (map_after updates) (key + 1) high + 1
 count-found updates from high key value live below =
-    omega (arith, count-keys (map_after updates) from high, count-keys (map_after updates) (key + 1) high, ap (λ (l : List ℕ). length l) (keys-found updates from high key value live below))
+    omega (arith, count-pairs (map_after updates) from high, count-pairs (map_after updates) (key + 1) high, ap (λ (l : List (ℕ × ℕ)). length l) (pairs-found updates from high key value live below))
 
 pub count-past : (updates : List Update) (from high key value : ℕ) → IsNextLive (entries_of updates) from (Some (key, value)) → high < key → count_between (map_after updates) from high ≡ 0
-count-past updates from high key value live past = omega (arith, count-keys (map_after updates) from high, ap (λ (l : List ℕ). length l) (keys-past updates from high key value live past))
+count-past updates from high key value live past =
+    omega (arith, count-pairs (map_after updates) from high, ap (λ (l : List (ℕ × ℕ)). length l) (pairs-past updates from high key value live past))
 
 pub count-none : (updates : List Update) (from high : ℕ) → IsNextLive (entries_of updates) from None → count_between (map_after updates) from high ≡ 0
-count-none updates from high none = omega (arith, count-keys (map_after updates) from high, ap (λ (l : List ℕ). length l) (keys-none updates from high none))
+count-none updates from high none = omega (arith, count-pairs (map_after updates) from high, ap (λ (l : List (ℕ × ℕ)). length l) (pairs-none updates from high none))
 
 -- how many entries there are with a sweep
 pub length-sweep : (updates : List Update) (low high : ℕ) → length (entries_of (updates ++ Sweep low high ∷ [])) ≡ length (entries_of updates) + count_between (map_after updates) low high
 length-sweep updates low high =
     ap (λ (l : List Entry). length l) (entries_of-sweep updates low high) ∙ length-append (entries_of updates) (entries_for (map_after updates) (Sweep low high))
     ∙ omega (arith, length-map (keys_between (map_after updates) low high) del_entry, count-keys (map_after updates) low high)
+
+-- above the greatest key up to a bound the map has none, if it has none above the bound
+pub none-above : (held : Held) (updates : List Update) (bound q greatest : ℕ) → IsCutOf held (entries_of updates) → ((key : ℕ) → bound < key → key ≤ q → value_at (map_after updates) key ≡ None)
+    → ((key : ℕ) → key ≤ bound → greatest < key → IsAbsent held key) → (key : ℕ) → greatest < key → key ≤ q → value_at (map_after updates) key ≡ None
+none-above held updates bound q greatest cut past absent key above within = elim (cases_lt bound key) [
+  | inl beyond ↦ past key beyond within
+  | inr at_most ↦ value-after updates key ∙ absent-value held (entries_of updates) key cut (absent key at_most above)
+]

@@ -1,10 +1,10 @@
 -- The entries that updates stand for: a sweep becomes a deletion of each key that it takes away.
-use Rattle.std.specs.Prelude.{ℕ, List, [], ◌∷◌, ◌++◌, map, filter, Some, None, ⊤}
+use Rattle.std.specs.Prelude.{ℕ, List, [], ◌∷◌, ◌++◌, map, Some, None, ⊤}
 use Rattle.std.specs.Map.{keys_of}
 use Rattle.tombstones.specs.declared.entry.Entry.{Entry}
 use Rattle.log_levels.specs.declared.update.Update.{Update}
 use Rattle.log_levels.specs.declared.update.Update.TheVariants.{Put, Del, Sweep}
-use Rattle.log_levels.specs.Maps.{is_between, updated}
+use Rattle.log_levels.specs.Maps.{pairs_between, updated}
 
 -- the entry that puts a value at a key
 abbrev pub put_entry : ℕ → ℕ → Entry
@@ -16,7 +16,7 @@ del_entry key = record { key = key; value = None }
 
 -- the keys of a map from low to high, rising
 abbrev pub keys_between : List (ℕ × ℕ) → ℕ → ℕ → List ℕ
-keys_between pairs low high = filter (is_between low high) (keys_of pairs)
+keys_between pairs low high = keys_of (pairs_between pairs low high)
 
 -- the entries of an update of this map
 abbrev pub entries_for : List (ℕ × ℕ) → Update → List Entry
@@ -38,3 +38,7 @@ abbrev pub IsPlain : Update → Type 0
 IsPlain (Put key value) = ⊤
 IsPlain (Del key) = ⊤
 IsPlain (Sweep low high) = ⊥
+
+-- a put of each of these pairs, in their order
+abbrev pub puts_of : List (ℕ × ℕ) → List Update
+puts_of pairs = map (λ pair. Put pair.0 pair.1) pairs

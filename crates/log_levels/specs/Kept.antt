@@ -9,6 +9,7 @@ use Rattle.tombstones.specs.declared.entry.Entry.{Entry}
 use Rattle.tombstones.specs.Entries.{IsAscending, entry_at, kept}
 use Rattle.log_levels.specs.declared.fault.MapFault.{MapFault}
 use Rattle.log_levels.specs.declared.fault.MapFault.TheVariants.{Full, NoMemory}
+use Rattle.log_levels.specs.declared.fault.LoadFault.{LoadFault}
 use Rattle.log_levels.specs.declared.update.Update.{Update}
 use Rattle.log_levels.specs.declared.update.Update.TheVariants.{Put, Del, Sweep}
 use Rattle.log_levels.specs.Accepted.{put_entry, del_entry}
@@ -80,3 +81,12 @@ plain_entry (Sweep low high) = del_entry low
 abbrev pub IsFull : MapFault → Type 0
 IsFull (Full accepted) = ⊤
 IsFull NoMemory = ⊥
+
+-- the same fault of a list of pairs
+abbrev pub load_fault : MapFault → LoadFault
+load_fault (Full accepted) = LoadFault.Full accepted
+load_fault NoMemory = LoadFault.NoMemory
+
+-- the entries of puts of these pairs
+abbrev pub entries_put : List (ℕ × ℕ) → List Entry
+entries_put pairs = map (λ pair. put_entry pair.0 pair.1) pairs

@@ -1,5 +1,5 @@
 -- The ordered map after updates, as the pairs of key and value by rising key, and its answers.
-use Rattle.std.specs.Prelude.{ℕ, List, [], filter, find, count_by, Option, Bool, not, nat_le, ◌&&◌}
+use Rattle.std.specs.Prelude.{ℕ, ◌-◌, ◌<◌, ◌≤◌, List, [], length, slice_index_or, filter, find, reverse, count_by, Option, Bool, not, nat_le, ◌&&◌}
 use Rattle.std.specs.List.{fold}
 use Rattle.std.specs.Ordering.{nat_cmp}
 use Rattle.std.specs.Map.{lookup, remove_entry}
@@ -32,3 +32,22 @@ next_from map q = find (λ pair. nat_le q pair.0) map
 -- how many keys there are from low to high, both included
 abbrev pub count_between : List (ℕ × ℕ) → ℕ → ℕ → ℕ
 count_between map low high = count_by (λ pair. is_between low high pair.0) map
+
+-- the greatest key up to q with its value, if there is one
+abbrev pub previous_to : List (ℕ × ℕ) → ℕ → Option (ℕ × ℕ)
+previous_to map q = find (λ pair. nat_le pair.0 q) (reverse map)
+
+-- the pairs from low to high, both included, by rising key
+abbrev pub pairs_between : List (ℕ × ℕ) → ℕ → ℕ → List (ℕ × ℕ)
+pairs_between map low high = filter (λ pair. is_between low high pair.0) map
+
+-- the key at this place isn't above the one before it, and each key before is
+pub record IsFirstStall (pairs : List (ℕ × ℕ)) (place : ℕ) : Type 0 where
+  pub some : 1 ≤ place
+  pub inside : place < length pairs
+  pub stalls : (slice_index_or pairs place (0, 0)).0 ≤ (slice_index_or pairs (place - 1) (0, 0)).0
+  pub before : (k : ℕ) → 1 ≤ k → k < place → (slice_index_or pairs (k - 1) (0, 0)).0 < (slice_index_or pairs k (0, 0)).0
+
+-- each key is above the one before it
+abbrev pub AreRising : List (ℕ × ℕ) → Type 0
+AreRising pairs = (k : ℕ) → 1 ≤ k → k < length pairs → (slice_index_or pairs (k - 1) (0, 0)).0 < (slice_index_or pairs k (0, 0)).0

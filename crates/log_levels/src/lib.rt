@@ -7,21 +7,24 @@
 //! oldest in level 1; of each key a level has the last entry.
 //!
 //! Main clauses: that a [`LogMap`] stands for its updates, of each call that changes one; the
-//! answers of [`LogMap::get`], [`LogMap::next`] and [`LogMap::count`], by the map after the
-//! updates; `full` and `full_only` of [`LogMap::put`], [`LogMap::sweep`] and [`LogMap::apply`];
+//! answers of [`LogMap::get`], [`LogMap::next`], [`LogMap::previous`], [`LogMap::count`] and
+//! [`LogMap::range`], by the map after the updates; `puts` and `pairs` of [`LogMap::of_sorted`];
+//! `puts` and `same` of [`LogMap::compacted`]; `full` and `full_only` of [`LogMap::put`], [`LogMap::sweep`] and [`LogMap::apply`];
 //! and the law [`one_map`]. The words of the clauses are in `specs/`.
 #![tactic(auto)]
 
 mod apply;
 mod fault;
 mod growth;
+mod load;
 mod log_map;
 mod questions;
+mod range;
 mod update;
 mod updates;
 mod walk;
 
-pub use fault::MapFault;
+pub use fault::{LoadFault, MapFault};
 pub use log_map::{LogMap, one_map};
 pub use tombstones::Entry;
 pub use update::Update;

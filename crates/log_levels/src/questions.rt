@@ -6,6 +6,7 @@ ghost use Rattle.std.specs.Option.{option_copied};
 ghost use Rattle.tombstones.specs.declared.entry.Entry.{Entry};
 ghost use Rattle.log_levels.specs.declared.update.Update.{Update};
 ghost use Rattle.log_levels.specs.Maps.{map_after, value_at, next_from, count_between};
+ghost use Rattle.log_levels.specs.Maps.{previous_to};
 ghost use Rattle.map_level.specs.Levels.{last_at};
 ghost use Rattle.log_levels.specs.Shapes.{IsCutOf, StandsFor};
 ghost use Rattle.log_levels.specs.Kept.{value_of};
@@ -68,7 +69,28 @@ impl LogMap {
         count
     }
 
-    /// The same, where the buffer has no entry with the key.
+    /// The greatest key up to `q` that the map has, with its value, if there is one.
+    ///
+    /// At each key from it to `q` that the levels and the buffer have, deleted ones, the levels are
+    /// searched anew. Takes no memory.
+    pub fn previous(&self, q: u64) -> Option<(u64, u64)>
+        ensures { (updates : List Update) → StandsFor self.now updates →
+            result ≡ previous_to (map_after updates) q }
+    {
+        let mut bound = q;
+        while let Some(key) = self.greatest_key(bound) {
+            if let Some(value) = self.get(key) {
+                return Some((key, value));
+            }
+            if key == 0 {
+                return None;
+            }
+            bound = key - 1;
+        }
+        None
+    }
+
+    /// The value at a key, if the map has the key, where the buffer has no entry with it.
     pub(crate) fn value_in_levels(&self, key: u64) -> Option<u64>
         requires { last_at self.now.buffer key ≡ None }
         ensures { (entries : List Entry) → IsCutOf self.now entries →

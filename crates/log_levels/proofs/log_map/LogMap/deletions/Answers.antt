@@ -1,16 +1,17 @@
 use Rattle.std.proofs.Common.{◌≡◌, ◌+◌, ◌++◌, ◌∷◌, [], ℕ, List, map, subst, sym, ap, ◌∙◌, arith}
 use Rattle.std.proofs.lemmas.List.{append_assoc, append-nil}
 use Rattle.tombstones.specs.declared.entry.Entry.{Entry}
+use Rattle.std.specs.Map.{keys_of}
 use Rattle.log_levels.specs.Maps.{map_after}
 use Rattle.log_levels.specs.Accepted.{entries_of, keys_between, del_entry}
 use Rattle.log_levels.specs.Kept.{ArePlaces}
-use Rattle.log_levels.proofs.WalkLemmas.{keys-found, keys-past, keys-none}
+use Rattle.log_levels.proofs.WalkLemmas.{pairs-found, pairs-past, pairs-none}
 use Rattle.log_levels.proofs.log_map.LogMap.deletions.Goals as goal
 
 pub returns-then-key-high : goal.returns-then-key-high
 returns-then-key-high c = λ updates stands.
-    let past = keys-past updates c.loop-key.from c.args.high c.in-Some.key c.in-Some.field-0-1 (c.in-Some.ensures.live (entries_of updates) stands) c.if-key-high.true in
-    sym (c.loop-key.invariant.list updates stands ∙ ap (λ (keys : List ℕ). c.loop-key.deletions.items ++ map del_entry keys) past ∙ append-nil c.loop-key.deletions.items)
+    let past = pairs-past updates c.loop-key.from c.args.high c.in-Some.key c.in-Some.field-0-1 (c.in-Some.ensures.live (entries_of updates) stands) c.if-key-high.true in
+    sym (c.loop-key.invariant.list updates stands ∙ ap (λ (pairs : List (ℕ × ℕ)). c.loop-key.deletions.items ++ map del_entry (keys_of pairs)) past ∙ append-nil c.loop-key.deletions.items)
 
 pub loop-key-preserved : goal.loop-key-preserved
 loop-key-preserved c =
@@ -19,9 +20,9 @@ loop-key-preserved c =
       at = subst (λ k. ArePlaces c.args.self.now c.pass.new.places (k + 1)) (sym same) c.pass.ensures;
       few = omega arith;
       list = λ updates stands.
-          let found = keys-found updates c.loop-key.from c.args.high c.in-Some.key c.in-Some.field-0-1 (c.in-Some.ensures.live (entries_of updates) stands) c.if-key-high.false in
+          let found = pairs-found updates c.loop-key.from c.args.high c.in-Some.key c.in-Some.field-0-1 (c.in-Some.ensures.live (entries_of updates) stands) c.if-key-high.false in
           let later = map del_entry (keys_between (map_after updates) (c.in-Some.key + 1) c.args.high) in
-          c.loop-key.invariant.list updates stands ∙ ap (λ (keys : List ℕ). c.loop-key.deletions.items ++ map del_entry keys) found
+          c.loop-key.invariant.list updates stands ∙ ap (λ (pairs : List (ℕ × ℕ)). c.loop-key.deletions.items ++ map del_entry (keys_of pairs)) found
           ∙ sym (append_assoc c.loop-key.deletions.items (del_entry c.in-Some.key ∷ []) later)
           ∙ ap (λ (list : List Entry). list ++ later) (sym c.in_ok-push.ensures.items)
           ∙ ap (λ k. c.push.new.self.items ++ map del_entry (keys_between (map_after updates) (k + 1) c.args.high)) (sym same);
@@ -29,5 +30,5 @@ loop-key-preserved c =
 
 pub returns : goal.returns
 returns c = λ updates stands.
-    let none = keys-none updates c.loop-key.from c.args.high (c.in_default.ensures.live (entries_of updates) stands) in
-    sym (c.loop-key.invariant.list updates stands ∙ ap (λ (keys : List ℕ). c.loop-key.deletions.items ++ map del_entry keys) none ∙ append-nil c.loop-key.deletions.items)
+    let none = pairs-none updates c.loop-key.from c.args.high (c.in_default.ensures.live (entries_of updates) stands) in
+    sym (c.loop-key.invariant.list updates stands ∙ ap (λ (pairs : List (ℕ × ℕ)). c.loop-key.deletions.items ++ map del_entry (keys_of pairs)) none ∙ append-nil c.loop-key.deletions.items)
