@@ -251,6 +251,40 @@ def segmenting(runs):
                                           "2", "4"], by_workers)
 
 
+SETS = ("square1e-6", "square1e-4", "square1e-2", "square1e-1", "thin1e-4")
+
+
+def boxes(runs):
+    rows, points, seed = [], runs.given.size // 10, runs.given.seed
+    for kind, dims in ((kind, dims) for kind in ("uniform", "clustered") for dims in (2, 3)):
+        base = runs.made / "data" / f"{kind}{dims}d.{points}.{seed}"
+        if not base.with_name(base.name + ".points").exists():
+            runs.run(runs.rival("boxes"), "make", kind, points, dims, seed, base)
+        scripts, times, found = [f"{base}.{name}" for name in SETS], {}, {}
+        for _ in runs.rounds():
+            words = "time", f"{base}.points", dims, 1, *scripts
+            for row in rows_of(runs.run(runs.rival("boxes"), *words), "script"):
+                least(times, f"{row['script']} C++", row["nanoseconds"])
+                found.setdefault(row["script"], {})["C++"] = row["found"], row["checksum"]
+            script = None
+            for line in runs.run(runs.bench, "box", f"{base}.points", dims, *scripts).splitlines():
+                name, *rest = line.split()
+                if name == "script":
+                    script = rest[0]
+                elif name == "found":
+                    found[script]["bench"] = rest[0], rest[4]
+                elif name in ("count", "fill", "visit"):
+                    least(times, f"{script} {name}", rest[0])
+        for script, name in zip(scripts, SETS):
+            agree(script, found[script])
+            plain = times[f"{script} C++"]
+            rows.append([f"{kind}{dims}d, {name.replace('1e', ' 1e')}", f"{plain / 1e3:.2f}",
+                         *(f"{times[f'{script} {way}'] / plain:.2f}"
+                           for way in ("count", "fill", "visit"))])
+    write(runs, "boxes", ["microseconds a box, and parts of it", "C++", "`count`", "`fill`",
+                          "`visit`"], rows)
+
+
 def nearest(runs):
     rows, points_py = [], TOP / "bench/points.py"
     points, centres, seed = runs.given.size // 10, runs.given.questions // 100, runs.given.seed
@@ -410,8 +444,8 @@ def write(runs, name, head, rows):
 
 
 PARTS = {"lookups": lookups, "memory": memory, "building": building, "segmenting": segmenting,
-         "nearest": nearest, "map": ordered_map, "readers": readers, "senders": senders,
-         "explain": explain}
+         "boxes": boxes, "nearest": nearest, "map": ordered_map, "readers": readers,
+         "senders": senders, "explain": explain}
 
 
 def main():
