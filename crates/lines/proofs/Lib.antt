@@ -1,0 +1,7 @@
+pub mod LineLemmas
+pub mod LookupLemmas
+mod RoundedLemmas
+mod LeadLemmas
+mod KeyLemmas
+mod SegmentLemmas
+mod WordLemmas

@@ -1,0 +1,4 @@
+pub mod Told
+pub mod Lookups
+pub mod Leads
+pub mod Made

@@ -1,0 +1,27 @@
+//! Lookups over keys that stay where they are.
+//!
+//! An index holds no key here: a lookup borrows, for the time of one call, the caller's keys and
+//! some words that say where to look first. Nothing is asked of either. Words that are right make a
+//! lookup fast; words that are old, damaged or another list's make it slow, and never wrong, since
+//! what they tell is only where the search begins.
+//!
+//! Of the keys 0, 1, 2, 10 the place of 3 is 3, whatever the words: three keys are below it. Where
+//! keys fall, as 5, 1, 9, a lookup gives a place that brackets the question: the key before it is
+//! below the question, and the key there isn't.
+//!
+//! Main clauses: `bracket`, `found`, `worst` and `near` of [`lower_bound`], and `lead` and `least` of
+//! [`lines_of`], which makes the words. The words of the clauses are in `specs/`. No lookup takes
+//! memory, and none fails.
+#![tactic(auto)]
+
+mod line_list;
+mod lookup;
+mod made;
+mod many;
+mod table;
+mod words;
+
+pub use lookup::{lower_bound, position, upper_bound};
+pub use made::lines_of;
+pub use many::positions;
+pub use words::told;

@@ -1,0 +1,216 @@
+// The words of lines that are made of keys.
+ghost use Rattle.std.specs.Prelude.{◌≡◌, ℕ, ◌+◌, ◌*◌, ◌<◌, ◌≤◌, ◌^◌, ◌∷◌, [], ◌++◌, length};
+ghost use Rattle.std.specs.Prelude.{pos, ◌+ℤ◌, ◌≤ℤ◌, ◌<ℤ◌, slice_index, IfOk, OnOk, Err};
+ghost use Rattle.std.specs.List.Sorted.{IsStrictlyIncreasing, IsNonDecreasing};
+ghost use Rattle.exact_cross.specs.Checked.{IsInRange};
+ghost use Rattle.exact_cross.specs.Points.{points_of};
+ghost use Rattle.key_points.specs.KeyPoints.{xs_of, ys_of};
+ghost use Rattle.key_points.specs.Falls.{IsFirstFall};
+ghost use Rattle.key_points.specs.declared.fault.KeysFault.TheVariants.{Falls, TooMany};
+ghost use Rattle.lines.specs.Leads.{HaveLeastLines};
+ghost use Rattle.lines.specs.Lookups.{LeadsWithin};
+ghost use Rattle.lines.specs.Made.{AddsLines, AreLinesOver, AreRuns, AreWordsOf, IsShort};
+ghost use Rattle.lines.specs.Made.{start_at, TellsPoints};
+
+use crate::table::head_of;
+use budget::NoMemory;
+use exact_cross::{Line, MAX_EPSILON, Segment};
+use key_points::{KeysFault, count_distinct, judge, parts_of, places_of};
+use segmenter::segment;
+use std::alloc::Global;
+
+/// The words of lines of keys, which lead a lookup to nearly its place.
+///
+/// `eps` is the error bound ε, in places: with a larger one there are fewer lines, and what they
+/// tell is further off. The keys are borrowed and not copied; while the lines are made it takes 4
+/// bytes a key where none repeats, and at most 12 where one does, beside the hulls of the
+/// segmentation.
+///
+/// # Errors
+///
+/// - `TooMany` where there are 2^32 keys or more. It is judged first.
+/// - `Falls` where a key is below the one before it, with the first place.
+/// - `NoMemory` where memory wasn't found.
+///
+/// Source: Ferragina and Vinciguerra, PVLDB 13(8), 2020, sections 2 and 3.1.
+pub fn lines_of(alloc: Global, keys: &[u64], eps: u32) -> Result<Vec<u64>, KeysFault>
+    requires { eps ≤ MAX_EPSILON }
+    // What is told of each question is at most ε + 2 places from its lower bound.
+    ensures lead { IfOk result (λ words. LeadsWithin words.items keys.now (eps + 2)) }
+    // No cover of the keys' points by lines within ε has fewer lines.
+    ensures least { IfOk result (λ words. HaveLeastLines keys.now eps words.items) }
+    ensures too_many { 2 ^ 32 ≤ length keys.now → result ≡ Err (TooMany (length keys.now)) }
+    ensures too_many_only { (count : ℕ) → result ≡ Err (TooMany count) →
+        (count ≡ length keys.now) × (2 ^ 32 ≤ count) }
+    ensures falls { (place : ℕ) → length keys.now < 2 ^ 32 → IsFirstFall keys.now place →
+        result ≡ Err (Falls place) }
+    ensures falls_only { (place : ℕ) → result ≡ Err (Falls place) → IsFirstFall keys.now place }
+{
+    judge(keys)?;
+    Ok(words_of(alloc, keys, eps)?)
+}
+
+/// The words of lines of keys that never fall.
+fn words_of(alloc: Global, keys: &[u64], eps: u32) -> Result<Vec<u64>, NoMemory>
+    requires never_falls { IsNonDecreasing keys.now }
+    requires few { length keys.now < 2 ^ 32 }
+    requires bounded { eps ≤ MAX_EPSILON }
+    ensures { IfOk result (λ words. AreLinesOver (points_of (xs_of keys.now) (ys_of keys.now)) eps
+        words.items) }
+{
+    let count = count_distinct(keys);
+    if count == keys.len() {
+        let ys = places_of(alloc, keys)?;
+        return words_over(alloc, keys, &ys, eps);
+    }
+    let points = parts_of(alloc, keys, count)?;
+    words_over(alloc, &points.xs, &points.ys, eps)
+}
+
+/// The words of the lines of points.
+fn words_over(alloc: Global, xs: &[u64], ys: &[u32], eps: u32) -> Result<Vec<u64>, NoMemory>
+    requires same_length { length ys.now ≡ length xs.now }
+    requires rising { IsStrictlyIncreasing xs.now }
+    requires never_falls { IsNonDecreasing ys.now }
+    requires few { length xs.now < 2 ^ 32 }
+    requires bounded { eps ≤ MAX_EPSILON }
+    ensures { IfOk result (λ words. AreLinesOver (points_of xs.now ys.now) eps words.items) }
+{
+    let segments = segment(alloc, xs, ys, eps, 0, xs.len() as u32)?;
+    let mut words = head_of(alloc, xs, &segments, eps)?;
+    add_lines(&mut words, xs, ys, &segments, eps)?;
+    Ok(words)
+}
+
+/// Adds the words of the line of each run.
+fn add_lines(
+    words: &mut Vec<u64>,
+    xs: &[u64],
+    ys: &[u32],
+    segments: &[Segment],
+    eps: u32,
+) -> Result<(), NoMemory>
+    requires same_length { length ys.now ≡ length xs.now }
+    requires rising { IsStrictlyIncreasing xs.now }
+    requires never_falls { IsNonDecreasing ys.now }
+    requires bounded { eps ≤ MAX_EPSILON }
+    requires runs { AreRuns (points_of xs.now ys.now) eps segments.now }
+    ensures { OnOk result (AddsLines (points_of xs.now ys.now) eps
+        (start_at (length xs.now) segments.now) (length segments.now) words.old.items
+        words.new.items) }
+{
+    for run in 0..segments.len() {
+        let line = line_of_run(xs, ys, segments, run, eps);
+        push_line(words, &line)?;
+    }
+    Ok(())
+}
+
+/// The words of the line of a run.
+fn line_of_run(xs: &[u64], ys: &[u32], segments: &[Segment], run: usize, eps: u32) -> LineWords
+    requires same_length { length ys.now ≡ length xs.now }
+    requires rising { IsStrictlyIncreasing xs.now }
+    requires never_falls { IsNonDecreasing ys.now }
+    requires bounded { eps ≤ MAX_EPSILON }
+    requires runs { AreRuns (points_of xs.now ys.now) eps segments.now }
+    requires inside { run < length segments.now }
+    ensures { TellsPoints (points_of xs.now ys.now) eps result.first result.multiplier
+        result.packed (start_at (length xs.now) segments.now run)
+        (start_at (length xs.now) segments.now (run + 1)) }
+{
+    let segment = &segments[run];
+    let end = end_of_run(segments, run, xs.len());
+    let first = xs[segment.start as usize];
+    let last = xs[end - 1];
+    LineWords::of(&segment.line, first, last, eps)
+}
+
+/// The end of a run: where the next one starts, or the end of all.
+fn end_of_run(segments: &[Segment], run: usize, to: usize) -> usize
+    requires { run < length segments.now }
+    ensures { result ≡ start_at to segments.now (run + 1) }
+{
+    let next = run + 1;
+    if next < segments.len() {
+        segments[next].start as usize
+    } else {
+        to
+    }
+}
+
+/// Adds the words of a line.
+fn push_line(words: &mut Vec<u64>, line: &LineWords) -> Result<(), NoMemory>
+    ensures { OnOk result (words.new.items ≡
+        words.old.items ++ line.now.first ∷ line.now.multiplier ∷ line.now.packed ∷ []) }
+{
+    words.push(line.first)?;
+    words.push(line.multiplier)?;
+    words.push(line.packed)?;
+    Ok(())
+}
+
+/// The words of a line.
+#[derive(Clone, Copy)]
+pub struct LineWords {
+    /// The first x.
+    pub first: u64,
+    /// The slope, times two to so many binary places.
+    pub multiplier: u64,
+    /// The height at the first x, raised by ε, times 128, and how many binary places those are.
+    pub packed: u64,
+}
+
+impl LineWords {
+    /// The words of a line from the x `first` to `last`.
+    ///
+    /// The multiplier has as many binary places as the distance between them, so that it loses less
+    /// than a place over the run, and the height is rounded up.
+    pub fn of(line: &Line, first: u64, last: u64, eps: u32) -> LineWords
+        requires in_range { IsInRange line.now }
+        requires bounded { eps ≤ MAX_EPSILON }
+        requires short { IsShort line.now first last eps }
+        ensures first { result.first ≡ first }
+        ensures words { AreWordsOf line.now result.first last eps result.multiplier
+            result.packed }
+    {
+        let places = binary_places(last - first);
+        let multiplier = multiplier_of(line, last - first, places);
+        let height = height_above(line.floor_at(first), eps);
+        LineWords {
+            first,
+            multiplier,
+            packed: height * 128 + u64::from(places),
+        }
+    }
+}
+
+/// How many binary places a number has.
+fn binary_places(width: u64) -> u32
+    ensures most { result ≤ 64 }
+    ensures fits { width < 2 ^ result }
+    ensures least { 2 ^ result ≤ 2 * width + 1 }
+{
+    64 - width.leading_zeros()
+}
+
+/// The slope of a line, times two to so many places, rounded down.
+fn multiplier_of(line: &Line, width: u64, places: u32) -> u64
+    requires in_range { IsInRange line.now }
+    requires climb { line.now.rise * width ≤ 2 ^ 33 * line.now.run }
+    requires most { places ≤ 64 }
+    requires least { 2 ^ places ≤ 2 * width + 1 }
+    ensures not_above { result * line.now.run ≤ line.now.rise * 2 ^ places }
+    ensures greatest { line.now.rise * 2 ^ places < result * line.now.run + line.now.run }
+{
+    ((u128::from(line.rise) << places) / u128::from(line.run)) as u64
+}
+
+/// The number above a floor, raised by ε.
+fn height_above(floor: i128, eps: u32) -> u64
+    requires bounded { eps ≤ MAX_EPSILON }
+    requires not_below { pos 0 ≤ℤ (floor +ℤ pos eps) }
+    requires low { floor <ℤ pos (2 ^ 33) }
+    ensures { pos result ≡ floor +ℤ pos (eps + 1) }
+{
+    (floor + 1 + i128::from(eps)) as u64
+}

@@ -1,0 +1,61 @@
+// The places of many questions.
+ghost use Rattle.std.specs.Prelude.{◌≤◌, ◌<◌, ℕ, length, min, slice_index};
+ghost use Rattle.lines.specs.Lookups.{ArePositions, IsPosition, IsSameOutside};
+
+use crate::lookup::position_from;
+use crate::words::told;
+use std::marker::Brand;
+use std::sync::ledger::Blank;
+use window_search::KeyList;
+
+/// So many questions are asked at once, so that their reads of memory overlap.
+const LANES: usize = 16;
+
+/// The places of many questions, each as by [`position`](crate::position), written into the
+/// caller's room: as many as there are questions and room. Room beyond that stays as it is.
+///
+/// Sixteen are told where to look first, and then searched, since reads of memory for one don't
+/// wait for those of another. Cannot fail and takes no memory.
+pub fn positions<K: KeyList>(keys: K, words: &[u64], questions: &[u64], places: &mut [usize])
+    ensures places { ArePositions (K.listed keys) questions.now places.new
+        (min (length questions.now) (length places.old)) }
+    ensures rest { IsSameOutside 0 (length questions.now) places.old places.new }
+{
+    let count = questions.len().min(places.len());
+    let mut first = 0;
+    while first < count {
+        let end = first + LANES.min(count - first);
+        tell(words, keys.len(), questions, places, first, end);
+        search(keys, questions, places, first, end);
+        first = end;
+    }
+}
+
+/// Writes where the words say that the places of the questions `first..end` are.
+#[inline(always)]
+fn tell(words: &[u64], n: usize, questions: &[u64], places: &mut [usize], first: usize, end: usize)
+    requires order { first ≤ end }
+    requires asked { end ≤ length questions.now }
+    requires room { end ≤ length places.old }
+    ensures { IsSameOutside first end places.old places.new }
+{
+    for lane in first..end {
+        places[lane] = told(words, n, questions[lane]);
+    }
+}
+
+/// Searches the places of the questions `first..end`, each from where its room says.
+#[inline(always)]
+fn search<K: KeyList>(keys: K, questions: &[u64], places: &mut [usize], first: usize, end: usize)
+    requires order { first ≤ end }
+    requires asked { end ≤ length questions.now }
+    requires room { end ≤ length places.old }
+    ensures same { IsSameOutside first end places.old places.new }
+    ensures places { (k : ℕ) → first ≤ k → k < end → IsPosition (K.listed keys)
+        (slice_index questions.now k) (slice_index places.new k) }
+{
+    for lane in first..end {
+        let hint = places[lane];
+        places[lane] = position_from::<K, Brand>(keys, hint, questions[lane], Blank::new(1));
+    }
+}
