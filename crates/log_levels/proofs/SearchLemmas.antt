@@ -99,6 +99,36 @@ absent-value held entries key cut absent =
     down zero within = ap value_of (search-none entries held.buffer (length entries / 64) key cut.buffer absent.buffer)
     down (suc i) within = down i (omega arith) ∙ step i (level_of held i) (omega arith) refl ∙ ap (λ k. value_of (last_at (before entries (length entries / 64) k) key)) (add-one i)
 
+-- the same by what a level has, occupied or not
+pub search-in-found : (entries : List Entry) (f i key : ℕ) (stored : Option (List Entry)) (entry : Entry) → IsLevelFor entries f i stored → Some entry ≡ entry_in stored key
+    → last_at (before entries f i) key ≡ Some entry
+search-in-found entries f i key None entry has found = cc
+search-in-found entries f i key (Some level) entry has found = search-found entries level f i key entry has (sym found)
+
+pub search-in-missed : (entries : List Entry) (f i key : ℕ) (stored : Option (List Entry)) → IsLevelFor entries f i stored → None ≡ entry_in stored key
+    → value_of (last_at (before entries f i) key) ≡ value_of (last_at (before entries f (i + 1)) key)
+search-in-missed entries f i key None has missed = ap value_of (search-clear entries f i key has)
+search-in-missed entries f i key (Some level) has missed = search-missed entries level f i key has (sym missed)
+
+-- with no newer entry what a level has is the last one
+pub found-level : (held : Held) (entries : List Entry) (i key : ℕ) (level : List Entry) (entry : Entry) → IsCutOf held entries → i < length held.levels → last_at held.buffer key ≡ None
+    → ((j : ℕ) (other : List Entry) → j < i → level_of held j ≡ Some other → entry_at other key ≡ None) → level_of held i ≡ Some level → entry_at level key ≡ Some entry
+    → value_of (last_at entries key) ≡ entry.value
+found-level held entries i key level entry cut inside none newer is found =
+    down i (omega arith) (λ j other less. newer j other less)
+    ∙ ap value_of (search-in-found entries (length entries / 64) i key (Some level) entry (subst (IsLevelFor entries (length entries / 64) i) is (cut.levels i inside)) (sym found))
+  where
+    step : (j : ℕ) (stored : Option (List Entry)) → j < length held.levels → level_of held j ≡ stored → ((other : List Entry) → level_of held j ≡ Some other → entry_at other key ≡ None)
+        → value_of (last_at (before entries (length entries / 64) j) key) ≡ value_of (last_at (before entries (length entries / 64) (j + 1)) key)
+    step j None inside is none = ap value_of (search-clear entries (length entries / 64) j key (subst (IsLevelFor entries (length entries / 64) j) is (cut.levels j inside)))
+    step j (Some other) inside is none = search-missed entries other (length entries / 64) j key (subst (IsLevelFor entries (length entries / 64) j) is (cut.levels j inside)) (none other is)
+
+    down : (j : ℕ) → j ≤ length held.levels → ((k : ℕ) (other : List Entry) → k < j → level_of held k ≡ Some other → entry_at other key ≡ None)
+        → value_of (last_at entries key) ≡ value_of (last_at (before entries (length entries / 64) j) key)
+    down zero within newer = ap value_of (search-none entries held.buffer (length entries / 64) key cut.buffer none)
+    down (suc j) within newer = down j (omega arith) (λ k other less. newer k other (omega arith)) ∙ step j (level_of held j) (omega arith) refl (λ other. newer j other (omega arith))
+        ∙ ap (λ k. value_of (last_at (before entries (length entries / 64) k) key)) (add-one j)
+
 -- where no entry has the key, there is no last one
 pub last-absent : (entries : List Entry) (key : ℕ) → ((k : ℕ) (d : Entry) → k < length entries → (slice_index_or entries k d).key ≡ key → ⊥) → last_at entries key ≡ None
 last-absent entries key absent = none (last_at entries key) (some-last_at entries key ∙ ap is_some (first (entry_at entries key) refl))
@@ -112,17 +142,6 @@ last-absent entries key absent = none (last_at entries key) (some-last_at entrie
     none : (found : Option Entry) → is_some found ≡ false → found ≡ None
     none None is = refl
     none (Some e) is = cc
-
--- the same by what a level has, occupied or not
-pub search-in-found : (entries : List Entry) (f i key : ℕ) (stored : Option (List Entry)) (entry : Entry) → IsLevelFor entries f i stored → Some entry ≡ entry_in stored key
-    → last_at (before entries f i) key ≡ Some entry
-search-in-found entries f i key None entry has found = cc
-search-in-found entries f i key (Some level) entry has found = search-found entries level f i key entry has (sym found)
-
-pub search-in-missed : (entries : List Entry) (f i key : ℕ) (stored : Option (List Entry)) → IsLevelFor entries f i stored → None ≡ entry_in stored key
-    → value_of (last_at (before entries f i) key) ≡ value_of (last_at (before entries f (i + 1)) key)
-search-in-missed entries f i key None has missed = ap value_of (search-clear entries f i key has)
-search-in-missed entries f i key (Some level) has missed = search-missed entries level f i key has (sym missed)
 
 -- a map has one value at each key
 pub one-value : (held : Held) (one two : List Entry) (key : ℕ) → IsCutOf held one → IsCutOf held two → value_of (last_at one key) ≡ value_of (last_at two key)

@@ -1,34 +1,29 @@
 -- A walk over the keys of a map.
-use Rattle.std.proofs.Common.{◌≡◌, ℕ, ◌+◌, ◌/◌, ◌<◌, ◌≤◌, List, [], ◌∷◌, ◌++◌, length, length-append, Option, Some, None, IfSome, sym, ap, ◌∙◌, subst, inl, inr, arith}
-use Rattle.std.proofs.lemmas.Bool.{cases_lt}
+use Rattle.std.proofs.Common.{◌≡◌, ℕ, ◌+◌, ◌-◌, ◌/◌, ◌^◌, ◌<◌, ◌≤◌, ◌⊎◌, max, if◌then◌else◌, MatchOption, slice_index, slice_set, refl, List, [], ◌∷◌, ◌++◌, length, length-append, Option, Some, None, IfSome, IsSome, sym, ap, ◌∙◌, subst, inl, inr, arith}
+use Rattle.std.proofs.lemmas.Bool.{cases_lt, cases_eq, eq-eqb, ne_eqb}
 use Rattle.tombstones.specs.declared.entry.Entry.{Entry}
-use Rattle.tombstones.specs.Entries.{IsAscending}
+use Rattle.tombstones.specs.Entries.{IsAscending, entry_at}
 use Rattle.log_levels.specs.declared.update.Update.{Update}
 use Rattle.log_levels.specs.declared.update.Update.TheVariants.{Sweep}
 use Rattle.log_levels.proofs.UpdateLemmas.{entries_of-sweep}
 use Rattle.std.proofs.lemmas.List.{length-map}
 use Rattle.log_levels.specs.Maps.{map_after, value_at, next_from, count_between, pairs_between}
 use Rattle.log_levels.specs.Accepted.{entries_of, entries_for, keys_between, del_entry}
-use Rattle.map_level.specs.Levels.{last_at, IsBelow}
+use Rattle.map_level.specs.Levels.{level_keys, last_at, IsBelow}
+use Rattle.window_search.specs.Searches.{lb}
+use Rattle.std.specs.Option.{option_or}
+use Rattle.std.proofs.lemmas.List.{get_or-set_same, get_or-set_other, length-set}
+use Rattle.std.proofs.lemmas.List.Sums.{sum_by-set}
 use Rattle.log_levels.specs.Shapes.{Held, IsCutOf, IsLevelFor, level_of}
-use Rattle.log_levels.specs.Kept.{IsAbsent, ArePlaces, IsNextLive, value_of}
-use Rattle.map_level.proofs.LevelLemmas.{place-stays}
-use Rattle.log_levels.proofs.SearchLemmas.{absent-value}
+use Rattle.log_levels.specs.Kept.{IsAbsent, IsNextLive, IsFirstFrom, AreBehind, AreNewer, IsLeastLeft, StandsAt, first_key, left_of, value_of}
+use Rattle.map_level.proofs.LevelLemmas.{place-passed}
+use Rattle.map_level.proofs.LastLemmas.{last_at-append}
+use Rattle.log_levels.proofs.SearchLemmas.{absent-value, search-buffer, found-level}
 use Rattle.log_levels.proofs.ValueLemmas.{value-after}
 use Rattle.log_levels.proofs.MapLemmas.{rises-after, next-is, next-none, pairs-step, pairs-end, count-pairs, count-keys}
 
 pub level-ascends : (held : Held) (entries : List Entry) (i : ℕ) (level : List Entry) → IsCutOf held entries → i < length held.levels → level_of held i ≡ Some level → IsAscending level
 level-ascends held entries i level cut inside is = (subst (IsLevelFor entries (length entries / 64) i) is (cut.levels i inside)).1.ascending
-
--- where no key is from a bound up to another, the places of both are the same
-pub places-stay : (held : Held) (entries : List Entry) (places : List ℕ) (from : ℕ) (least : Option ℕ) → IsCutOf held entries → ArePlaces held places from → IfSome least (λ key. from ≤ key)
-    → ((key : ℕ) → from ≤ key → IsBelow key least → IsAbsent held key) → IfSome least (λ key. ArePlaces held places key)
-places-stay held entries places from None cut at above absent = above
-places-stay held entries places from (Some key) cut at above absent = record {
-  count = at.count;
-  each = λ i level inside is. at.each i level inside is
-      ∙ place-stays level from key (level-ascends held entries i level cut inside is) above (λ j low high. (absent j low high).levels i level inside is);
-}
 
 -- the walk goes on past a key without a value
 pub next-live : (held : Held) (entries : List Entry) (from low key value : ℕ) → IsCutOf held entries → from ≤ low → low ≤ key
@@ -114,3 +109,130 @@ none-above held updates bound q greatest cut past absent key above within = elim
   | inl beyond ↦ past key beyond within
   | inr at_most ↦ value-after updates key ∙ absent-value held (entries_of updates) key cut (absent key at_most above)
 ]
+
+-- what lies behind places from a bound on lies behind them from a later one on
+pub first-later : (buffer : List Entry) (low next : ℕ) (found : Option Entry) → IsFirstFrom buffer low found → low ≤ next → IfSome found (λ entry. next ≤ entry.key) → IsFirstFrom buffer next found
+first-later buffer low next None none le later = λ key above. none key (omega arith)
+first-later buffer low next (Some entry) (from, is, before) le later = (later, is, λ key above less. before key (omega arith) less)
+
+pub behind-later : (held : Held) (places : List ℕ) (low next : ℕ) → AreBehind held places low → low ≤ next → AreBehind held places next
+behind-later held places low next behind le = record {
+  count = behind.count;
+  each = λ i level inside is. let (from, (within, at)) = behind.each i level inside is in (from, (omega arith, at));
+}
+
+-- a level's entry at its place is passed
+pub behind-passed : (held : Held) (places : List ℕ) (low key i : ℕ) → ((level : List Entry) → level_of held i ≡ Some level → IsAscending level) → i < 26 → AreBehind held places low → StandsAt held places key i
+    → AreBehind held (slice_set places i (slice_index places i + 1)) (max low (key + 1))
+behind-passed held places low key i ascends fits behind at = record {
+  count = length-set places i (slice_index places i + 1) ∙ behind.count;
+  each = λ j level inside is. elim (cases_eq i j) [
+    | inl here ↦
+        let (from, (within, place)) = behind.each j level inside is in
+        let (some, has) = at.stands level (ap (level_of held) here ∙ is) in
+        let there : slice_index places i ≡ slice_index places j = ap (slice_index places) here in
+        let (above, past) = place-passed level from (slice_index places i) key (ascends level (ap (level_of held) here ∙ is)) (there ∙ place) some has in
+        (key + 1, (omega arith, ap (λ k. slice_index (slice_set places i (slice_index places i + 1)) k) (sym here)
+        ∙ get_or-set_same places i (slice_index places i + 1) 0 (omega (arith, fits, behind.count)) ∙ past))
+    | inr other ↦
+        let (from, (within, place)) = behind.each j level inside is in
+        (from, (omega arith, get_or-set_other places i j (slice_index places i + 1) 0 (λ same. other (sym same)) ∙ place))
+  ];
+}
+
+-- it leaves less
+pub left-passed : (held : Held) (places : List ℕ) (low key i : ℕ) → length places ≡ 26 → i < 26 → slice_index places i < 2 ^ 32 → low ≤ 2 ^ 64
+    → left_of (slice_set places i (slice_index places i + 1)) (max low (key + 1)) < left_of places low
+left-passed held places low key i count inside small few =
+    omega (arith, sum_by-set (λ place. 2 ^ 32 - place) places i (slice_index places i + 1) 0 (omega arith))
+
+-- of what was found so far and one more key either stands
+pub pick : (P : ℕ × ℕ → Type 0) (key : Option ℕ) (i : ℕ) (least found : Option (ℕ × ℕ)) → (found ≡ least) ⊎ MatchOption key ⊥ (λ k. (found ≡ Some (k, i)) × IsBelow k (first_key least))
+    → IfSome least P → ((k : ℕ) → key ≡ Some k → IsBelow k (first_key least) → P (k, i)) → IfSome found P
+pick P key i least found (inl is) old new = subst (λ r. IfSome r P) (sym is) old
+pick P None i least found (inr never) old new = absurd never
+pick P (Some k) i least found (inr (is, below)) old new = subst (λ r. IfSome r P) (sym is) (new k refl below)
+
+-- the last one with a key behind one entry more
+last-one : (entries : List Entry) (entry : Entry) (key : ℕ) → entry.key ≡ key → last_at (entries ++ entry ∷ []) key ≡ Some entry
+last-one entries entry key same = last_at-append entries (entry ∷ []) key ∙ ap (λ b. option_or (if b then Some entry else None) (last_at entries key)) (eq-eqb entry.key key same)
+
+last-kept : (entries : List Entry) (entry : Entry) (key : ℕ) → (entry.key ≡ key → ⊥) → last_at (entries ++ entry ∷ []) key ≡ last_at entries key
+last-kept entries entry key other = last_at-append entries (entry ∷ []) key ∙ ap (λ b. option_or (if b then Some entry else None) (last_at entries key)) (ne_eqb entry.key key other)
+
+-- an entry below the bound, or above the first one, changes nothing
+pub first-below : (entries : List Entry) (entry : Entry) (from : ℕ) (first : Option Entry) → IsFirstFrom entries from first → entry.key < from → IsFirstFrom (entries ++ entry ∷ []) from first
+first-below entries entry from None none less = λ key above. last-kept entries entry key (λ same. absurd (omega arith)) ∙ none key above
+first-below entries entry from (Some e) (above, is, before) less = (
+  above,
+  last-kept entries entry e.key (λ same. absurd (omega arith)) ∙ is,
+  λ key from_key below. last-kept entries entry key (λ same. absurd (omega arith)) ∙ before key from_key below,
+)
+
+pub first-above : (entries : List Entry) (entry e : Entry) (from : ℕ) → IsFirstFrom entries from (Some e) → e.key < entry.key → IsFirstFrom (entries ++ entry ∷ []) from (Some e)
+first-above entries entry e from (above, is, before) greater = (
+  above,
+  last-kept entries entry e.key (λ same. absurd (omega arith)) ∙ is,
+  λ key from_key below. last-kept entries entry key (λ same. absurd (omega arith)) ∙ before key from_key below,
+)
+
+-- else it is the first one
+pub first-taken : (entries : List Entry) (entry : Entry) (from : ℕ) (first : Option Entry) → IsFirstFrom entries from first → from ≤ entry.key → IfSome first (λ e. entry.key ≤ e.key)
+    → IsFirstFrom (entries ++ entry ∷ []) from (Some entry)
+first-taken entries entry from first was above up_to =
+    (above, last-one entries entry entry.key refl, λ key from_key below. last-kept entries entry key (λ same. absurd (omega arith)) ∙ unmet first was up_to key from_key below)
+  where
+    unmet : (first : Option Entry) → IsFirstFrom entries from first → IfSome first (λ e. entry.key ≤ e.key) → (key : ℕ) → from ≤ key → key < entry.key → last_at entries key ≡ None
+    unmet None was up_to key from_key below = was key from_key
+    unmet (Some e) (from_e, is, before) up_to key from_key below = before key from_key (omega arith)
+
+-- no entry is at a key before the first of the buffer and those of the levels
+pub absent-before : (held : Held) (buffered : Option Entry) (places : List ℕ) (low key : ℕ) (found : Option (ℕ × ℕ)) → IsFirstFrom held.buffer low buffered → IsLeastLeft held places low found → low ≤ key
+    → IfSome buffered (λ entry. key < entry.key) → IsBelow key (first_key found) → IsAbsent held key
+absent-before held buffered places low key found first least from before below = record {
+  buffer = unmet buffered first before;
+  levels = λ i level inside is. least.before key i level from below inside is;
+}
+  where
+    unmet : (buffered : Option Entry) → IsFirstFrom held.buffer low buffered → IfSome buffered (λ entry. key < entry.key) → last_at held.buffer key ≡ None
+    unmet None was before = was key from
+    unmet (Some entry) (above, is, was) before = was key from before
+
+-- a key below what was found so far is below one that isn't
+pub below-other : (other key : ℕ) (least : Option (ℕ × ℕ)) → MatchOption least ⊥ (λ pair. pair.0 ≤ key) → IsBelow other (first_key least) → other < key
+below-other other key None never below = absurd never
+below-other other key (Some pair) le below = omega arith
+
+-- the buffer's entry comes first
+pub taken-first : (held : Held) (entries : List Entry) (low : ℕ) (entry : Entry) → IsCutOf held entries → IsFirstFrom held.buffer low (Some entry) → value_of (last_at entries entry.key) ≡ entry.value
+taken-first held entries low entry cut (from, is, before) = ap value_of (search-buffer entries held.buffer entry.key entry cut.buffer is)
+
+-- a level's entry comes first
+pub taken-level : (held : Held) (entries : List Entry) (buffered : Option Entry) (low key i : ℕ) (entry : Entry) → IsCutOf held entries → IsFirstFrom held.buffer low buffered → IfSome buffered (λ e. key < e.key)
+    → AreNewer held low key i → low ≤ key → i < length held.levels → IsSome (level_of held i) → ((level : List Entry) → level_of held i ≡ Some level → entry_at level key ≡ Some entry) → value_of (last_at entries key) ≡ entry.value
+taken-level held entries buffered low key i entry cut first later newer from inside taken found = go (level_of held i) refl taken
+  where
+    unmet : (buffered : Option Entry) → IsFirstFrom held.buffer low buffered → IfSome buffered (λ e. key < e.key) → last_at held.buffer key ≡ None
+    unmet None was before = was key from
+    unmet (Some e) (above, at, was) before = was key from before
+
+    go : (stored : Option (List Entry)) → level_of held i ≡ stored → IsSome stored → value_of (last_at entries key) ≡ entry.value
+    go None is some = cc
+    go (Some level) is some = found-level held entries i key level entry cut inside (unmet buffered first later) (λ j other less at. newer j other from less at) is (found level is)
+
+pub later-key : (key other : ℕ) (buffered : Option Entry) → IfSome buffered (λ entry. key < entry.key) → other < key → IfSome buffered (λ entry. other < entry.key)
+later-key key other None later less = tt
+later-key key other (Some entry) later less = omega arith
+
+pub first-max : (buffer : List Entry) (low key : ℕ) (buffered : Option Entry) → IsFirstFrom buffer low buffered → IfSome buffered (λ entry. key < entry.key) → IsFirstFrom buffer (max low (key + 1)) buffered
+first-max buffer low key None was later = λ other above. was other (omega arith)
+first-max buffer low key (Some entry) (from, is, before) later = (omega arith, is, λ other above less. before other (omega arith) less)
+
+-- behind the buffer's entry the level's come later
+pub later-than : (key : ℕ) (buffered : Option Entry) (found : Option (ℕ × ℕ)) (i : ℕ) → found ≡ Some (key, i) → IfSome buffered (λ entry. MatchOption found ⊥ (λ least. least.0 < entry.key)) → IfSome buffered (λ entry. key < entry.key)
+later-than key None found i is later = tt
+later-than key (Some entry) found i is later = subst (λ f. MatchOption f ⊥ (λ least. least.0 < entry.key)) is later
+
+pub none-first : (buffered : Option Entry) (found : Option (ℕ × ℕ)) → found ≡ None → IfSome buffered (λ entry. MatchOption found ⊥ (λ least. least.0 < entry.key)) → buffered ≡ None
+none-first None found is later = refl
+none-first (Some entry) found is later = absurd (subst (λ f. MatchOption f ⊥ (λ least. least.0 < entry.key)) is later)

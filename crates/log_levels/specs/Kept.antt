@@ -1,6 +1,7 @@
 -- How maps are kept. No public clause cites it.
-use Rattle.std.specs.Prelude.{◌≡◌, ℕ, ◌+◌, ◌*◌, ◌/◌, ◌≤◌, ◌<◌, ◌^◌, ◌==◌, List, ◌++◌, length, map, drop, Option, Some, None, slice_index, ⊤}
+use Rattle.std.specs.Prelude.{◌≡◌, ℕ, ◌+◌, ◌-◌, ◌*◌, ◌/◌, ◌≤◌, ◌<◌, ◌^◌, ◌==◌, List, ◌++◌, length, map, drop, Option, Some, None, IsSome, IfSome, slice_index, ⊤}
 use Rattle.window_search.specs.Searches.{lb}
+use Rattle.std.specs.List.{sum_by}
 use Rattle.std.specs.Int.{bit_at}
 use Rattle.std.specs.Option.{option_map}
 use Rattle.std.specs.declared.sync.Arc.{Arc}
@@ -13,7 +14,7 @@ use Rattle.log_levels.specs.declared.fault.LoadFault.{LoadFault}
 use Rattle.log_levels.specs.declared.update.Update.{Update}
 use Rattle.log_levels.specs.declared.update.Update.TheVariants.{Put, Del, Sweep}
 use Rattle.log_levels.specs.Accepted.{put_entry, del_entry}
-use Rattle.map_level.specs.Levels.{level_keys, last_at}
+use Rattle.map_level.specs.Levels.{level_keys, last_at, IsBelow}
 use Rattle.log_levels.specs.Shapes.{Held, IsCutOf, level_of, from_bit}
 
 -- the entries of shared levels
@@ -90,3 +91,42 @@ load_fault NoMemory = LoadFault.NoMemory
 -- the entries of puts of these pairs
 abbrev pub entries_put : List (ℕ × ℕ) → List Entry
 entries_put pairs = map (λ pair. put_entry pair.0 pair.1) pairs
+
+-- the first entry of a buffer from a bound on: of the least key there the last one
+abbrev pub IsFirstFrom : List Entry → ℕ → Option Entry → Type 0
+IsFirstFrom buffer low None = (key : ℕ) → low ≤ key → last_at buffer key ≡ None
+IsFirstFrom buffer low (Some entry) = (low ≤ entry.key) × (last_at buffer entry.key ≡ Some entry) × ((key : ℕ) → low ≤ key → key < entry.key → last_at buffer key ≡ None)
+
+-- each place is that of a key up to a bound, so what a level has from the bound on lies behind it
+pub record AreBehind (held : Held) (places : List ℕ) (low : ℕ) : Type 0 where
+  pub count : length places ≡ 26
+  pub each : (i : ℕ) (level : List Entry) → i < length held.levels → level_of held i ≡ Some level → (from : ℕ) × ((from ≤ low) × (slice_index places i ≡ lb (level_keys level) from))
+
+-- what is left of a map from a bound on
+pub record IsLeft (held : Held) (buffered : Option Entry) (places : List ℕ) (low : ℕ) : Type 0 where
+  pub buffer : IsFirstFrom held.buffer low buffered
+  pub levels : AreBehind held places low
+
+-- the key of what was found, if there is one
+abbrev pub first_key : Option (ℕ × ℕ) → Option ℕ
+first_key found = option_map (λ pair. pair.0) found
+
+-- a level has this key at its place
+pub record StandsAt (held : Held) (places : List ℕ) (key i : ℕ) : Type 0 where
+  pub inside : i < length held.levels
+  pub taken : IsSome (level_of held i)
+  pub stands : (level : List Entry) → level_of held i ≡ Some level → (slice_index places i < length level) × (slice_index (level_keys level) (slice_index places i) ≡ key)
+
+-- no level before this one has the key, unless it was passed
+abbrev pub AreNewer : Held → ℕ → ℕ → ℕ → Type 0
+AreNewer held low key i = (j : ℕ) (level : List Entry) → low ≤ key → j < i → level_of held j ≡ Some level → entry_at level key ≡ None
+
+-- the least key that a level has behind its place, with the newest of the levels that have it there
+pub record IsLeastLeft (held : Held) (places : List ℕ) (low : ℕ) (found : Option (ℕ × ℕ)) : Type 0 where
+  pub before : (key j : ℕ) (level : List Entry) → low ≤ key → IsBelow key (first_key found) → j < length held.levels → level_of held j ≡ Some level → entry_at level key ≡ None
+  pub newer : IfSome found (λ pair. AreNewer held low pair.0 pair.1)
+  pub at : IfSome found (λ pair. StandsAt held places pair.0 pair.1)
+
+-- how much a walk has left at most, in keys and in places
+abbrev pub left_of : List ℕ → ℕ → ℕ
+left_of places low = 2 ^ 64 - low + sum_by (λ place. 2 ^ 32 - place) places

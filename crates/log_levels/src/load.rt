@@ -21,7 +21,7 @@ impl LogMap {
     /// The map of pairs of key and value whose keys rise strictly, with so many levels, 1 to 26: as
     /// after a put of each.
     ///
-    /// It is made in one pass: each level is cut from the list, and none is merged.
+    /// Each level is cut from the list as the logarithmic form says, and made once.
     ///
     /// # Errors
     ///
@@ -104,12 +104,11 @@ impl LogMap {
         ensures { IfOk result (λ pairs. (updates : List Update) → StandsFor self.now updates →
             pairs.items ≡ map_after updates) }
     {
-        let mut places = self.places(0);
+        let mut walk = self.walk(0);
         let mut from = 0;
         let mut pairs = Vec::new(alloc);
-        while let Some((key, value)) = self.next_live(&mut places, from) {
+        while let Some((key, value)) = self.next_pair(&mut walk, from) {
             pairs.push((key, value))?;
-            self.pass(&mut places, key);
             from = u128::from(key) + 1;
         }
         Ok(pairs)

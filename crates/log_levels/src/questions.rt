@@ -40,8 +40,8 @@ impl LogMap {
         ensures { (updates : List Update) → StandsFor self.now updates →
             result ≡ next_from (map_after updates) q }
     {
-        let mut places = self.places(q);
-        self.next_live(&mut places, u128::from(q))
+        let mut walk = self.walk(q);
+        self.next_pair(&mut walk, u128::from(q))
     }
 
     /// How many keys from `low` to `high` the map has, both included; none where `low` is above
@@ -55,15 +55,14 @@ impl LogMap {
             result ≡ count_between (map_after updates) low high }
     {
         let _ = self.accepted();
-        let mut places = self.places(low);
+        let mut walk = self.walk(low);
         let mut from = u128::from(low);
         let mut count = 0;
-        while let Some((key, _)) = self.next_live(&mut places, from) {
+        while let Some((key, _)) = self.next_pair(&mut walk, from) {
             if key > high {
                 return count;
             }
             count += 1;
-            self.pass(&mut places, key);
             from = u128::from(key) + 1;
         }
         count

@@ -22,11 +22,11 @@ impl LogMap {
             take result (pairs_between (map_after updates) from to) ++ drop result pairs.old }
         ensures within { result ≤ length pairs.old }
     {
-        let mut places = self.places(from);
+        let mut walk = self.walk(from);
         let mut low = u128::from(from);
         let mut count = 0;
         while count < pairs.len() {
-            let Some((key, value)) = self.next_live(&mut places, low) else {
+            let Some((key, value)) = self.next_pair(&mut walk, low) else {
                 return count;
             };
             if key > to {
@@ -34,7 +34,6 @@ impl LogMap {
             }
             pairs[count] = (key, value);
             count += 1;
-            self.pass(&mut places, key);
             low = u128::from(key) + 1;
         }
         count

@@ -140,15 +140,14 @@ impl LogMap {
             StandsFor self.now updates →
             deletions.items ≡ entries_for (map_after updates) (Sweep low high)) }
     {
-        let mut places = self.places(low);
+        let mut walk = self.walk(low);
         let mut from = u128::from(low);
         let mut deletions = Vec::with_capacity(alloc, count as usize)?;
-        while let Some((key, _)) = self.next_live(&mut places, from) {
+        while let Some((key, _)) = self.next_pair(&mut walk, from) {
             if key > high {
                 return Ok(deletions);
             }
             deletions.push(Entry { key, value: None })?;
-            self.pass(&mut places, key);
             from = u128::from(key) + 1;
         }
         Ok(deletions)

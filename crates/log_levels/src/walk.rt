@@ -1,24 +1,130 @@
-// A walk over the keys of a map in rising order.
-ghost use Rattle.std.specs.Prelude.{◌≡◌, ◌+◌, ◌*◌, ◌<◌, ◌≤◌, ◌^◌, ◌⊎◌};
-ghost use Rattle.std.specs.Prelude.{◌++◌, ℕ, List, length, All};
-ghost use Rattle.std.specs.Prelude.{Option, Some, None, IfSome, MatchOption, slice_index};
+// A walk over the keys of a map in rising order, and the greatest key up to a bound.
+ghost use Rattle.std.specs.Prelude.{◌≡◌, ◌+◌, ◌-◌, ◌*◌, ◌<◌, ◌≤◌, ◌^◌, ◌⊎◌};
+ghost use Rattle.std.specs.Prelude.{◌++◌, ◌∷◌, [], ℕ, List, length, max, IsTrue, MatchOption};
+ghost use Rattle.std.specs.Prelude.{Some, None, IfSome, IsNone};
+ghost use Rattle.std.specs.Bool.{OnFalse};
 ghost use Rattle.std.specs.Option.{option_copied};
 ghost use Rattle.tombstones.specs.declared.entry.Entry.{Entry};
 ghost use Rattle.map_level.specs.Levels.{last_at, level_keys, IsBelow, IsAbove};
 ghost use Rattle.log_levels.specs.Shapes.{IsCutOf, level_of};
 ghost use Rattle.window_search.specs.Searches.{lb};
 ghost use Rattle.tombstones.specs.Entries.{entry_at};
-ghost use Rattle.log_levels.specs.Kept.{ArePlaces, IsAbsent};
-ghost use Rattle.log_levels.specs.Kept.{IsNextLive, entry_in, value_of};
+ghost use Rattle.log_levels.specs.Kept.{ArePlaces, AreBehind, IsLeft, IsLeastLeft, StandsAt};
+ghost use Rattle.log_levels.specs.Kept.{IsAbsent, IsFirstFrom, IsNextLive, first_key};
+ghost use Rattle.log_levels.specs.Kept.{left_of, value_of};
 
 use crate::log_map::{LogMap, lowest_and_rest};
-use crate::questions::last_of;
 use tombstones::Entry;
 
 /// A place in each level, 26 at most.
 pub type Places = [usize; 26];
 
+/// What a walk has not passed: the next entry of the buffer, if there is one, and what lies behind
+/// a place in each level.
+///
+/// Where several levels have a key, only the newest moves on with it. In the others the entry of a
+/// key that was passed is met later, and left out.
+#[derive(Clone, Copy)]
+pub struct Walk {
+    buffered: Option<Entry>,
+    places: Places,
+}
+
 impl LogMap {
+    /// A walk from a key on.
+    pub(crate) fn walk(&self, from: u64) -> Walk
+        ensures { IsLeft self.now result.buffered result.places from }
+    {
+        let places = self.places(from);
+        let buffered = first_from(&self.buffer, u128::from(from));
+        Walk { buffered, places }
+    }
+
+    /// The least key from `from` on that the map has, with its value, if there is one. The walk
+    /// passes it.
+    pub(crate) fn next_pair(&self, walk: &mut Walk, from: u128) -> Option<(u64, u64)>
+        requires left { IsLeft self.now walk.old.buffered walk.old.places from }
+        requires few { from ≤ 2 ^ 64 }
+        ensures live { (entries : List Entry) → IsCutOf self.now entries →
+            IsNextLive entries from result }
+        ensures from { IfSome result (λ pair. from ≤ pair.0) }
+        ensures left { IfSome result (λ pair.
+            IsLeft self.now walk.new.buffered walk.new.places (pair.0 + 1)) }
+    {
+        let mut low = from;
+        while let Some(entry) = self.take_least(walk, low) {
+            if u128::from(entry.key) < low {
+                continue;
+            }
+            if let Some(value) = entry.value {
+                return Some((entry.key, value));
+            }
+            low = u128::from(entry.key) + 1;
+        }
+        None
+    }
+
+    /// Takes an entry with the least key that is left, of the buffer or else of the newest level
+    /// that has it. Below `low` it is one that was left out, and else the last one of its key.
+    fn take_least(&self, walk: &mut Walk, low: u128) -> Option<Entry>
+        requires left { IsLeft self.now walk.old.buffered walk.old.places low }
+        requires few { low ≤ 2 ^ 64 }
+        ensures none { IsNone result → (key : ℕ) → low ≤ key → IsAbsent self.now key }
+        ensures least { IfSome result (λ entry. (key : ℕ) → low ≤ key → key < entry.key →
+            IsAbsent self.now key) }
+        ensures last { IfSome result (λ entry. (entries : List Entry) → low ≤ entry.key →
+            IsCutOf self.now entries → value_of (last_at entries entry.key) ≡ entry.value) }
+        ensures left { IfSome result (λ entry.
+            IsLeft self.now walk.new.buffered walk.new.places (max low (entry.key + 1))) }
+        ensures fewer { IfSome result (λ entry.
+            left_of walk.new.places (max low (entry.key + 1)) < left_of walk.old.places low) }
+    {
+        let found = self.least_left(&walk.places);
+        if let Some(entry) = next_of(walk.buffered, found) {
+            walk.buffered = first_from(&self.buffer, u128::from(entry.key) + 1);
+            return Some(entry);
+        }
+        let (key, i) = found?;
+        Some(self.take_from_level(walk, key, i))
+    }
+
+    /// Takes the entry at the place of a level, which has this key there.
+    fn take_from_level(&self, walk: &mut Walk, key: u64, i: usize) -> Entry
+        requires at { StandsAt self.now walk.old.places key i }
+        requires inside { i < 26 }
+        requires count { length walk.old.places ≡ 26 }
+        ensures key { result.key ≡ key }
+        ensures entry { (level : List Entry) → level_of self.now i ≡ Some level →
+            entry_at level key ≡ Some result }
+        ensures buffered { walk.new.buffered ≡ walk.old.buffered }
+        ensures behind { (low : ℕ) → AreBehind self.now walk.old.places low →
+            AreBehind self.now walk.new.places (max low (key + 1)) }
+        ensures fewer { (low : ℕ) → low ≤ 2 ^ 64 →
+            left_of walk.new.places (max low (key + 1)) < left_of walk.old.places low }
+    {
+        let entries = self.occupied_level(i).entries();
+        let place = walk.places[i];
+        walk.places[i] = place + 1;
+        entries[place]
+    }
+
+    /// The least key that a level has behind its place, with the newest level that has it there.
+    #[inline(always)]
+    fn least_left(&self, places: &Places) -> Option<(u64, usize)>
+        ensures least { (low : ℕ) → AreBehind self.now places.now low →
+            IsLeastLeft self.now places.now low result }
+        ensures inside { IfSome result (λ least. least.1 < 26) }
+    {
+        let mut least = None;
+        let mut rest = self.occupied();
+        while rest != 0 {
+            let (i, behind) = lowest_and_rest(rest);
+            least = lesser(least, self.occupied_level(i).key_at(places[i]), i);
+            rest = behind;
+        }
+        least
+    }
+
     /// The places of a key.
     ///
     /// The searches of all levels are interleaved, so that their reads of memory don't wait for one
@@ -52,88 +158,6 @@ impl LogMap {
         }
     }
 
-    /// The least key from `from` on that the map has, with its value, if there is one, by the
-    /// places of `from`. They become those of the key.
-    pub(crate) fn next_live(&self, places: &mut Places, from: u128) -> Option<(u64, u64)>
-        requires at { ArePlaces self.now places.old from }
-        requires few { from ≤ 2 ^ 64 }
-        ensures live { (entries : List Entry) → IsCutOf self.now entries →
-            IsNextLive entries from result }
-        ensures from { IfSome result (λ pair. from ≤ pair.0) }
-        ensures places { IfSome result (λ pair. ArePlaces self.now places.new pair.0) }
-    {
-        let mut low = from;
-        while let Some(key) = self.least_key(places, low) {
-            if let Some(value) = self.value_from(places, key) {
-                return Some((key, value));
-            }
-            self.pass(places, key);
-            low = u128::from(key) + 1;
-        }
-        None
-    }
-
-    /// The least key from `from` on with an entry, if there is one, by the places of `from`.
-    fn least_key(&self, places: &Places, from: u128) -> Option<u64>
-        requires { ArePlaces self.now places.now from }
-        ensures from { IfSome result (λ key. from ≤ key) }
-        ensures least { (key : ℕ) → from ≤ key → IsBelow key result →
-            IsAbsent self.now key }
-        ensures places { IfSome result (λ key. ArePlaces self.now places.now key) }
-    {
-        let mut least = least_from(&self.buffer, from);
-        let mut rest = self.occupied();
-        while rest != 0 {
-            let (i, behind) = lowest_and_rest(rest);
-            least = lesser(least, self.key_in_level(i, places[i], from));
-            rest = behind;
-        }
-        least
-    }
-
-    /// The value at a key, by its places.
-    fn value_from(&self, places: &Places, key: u64) -> Option<u64>
-        requires { ArePlaces self.now places.now key }
-        ensures { (entries : List Entry) → IsCutOf self.now entries →
-            result ≡ value_of (last_at entries key) }
-    {
-        if let Some(entry) = last_of(&self.buffer, key) {
-            return entry.value;
-        }
-        let mut rest = self.occupied();
-        while rest != 0 {
-            let (i, behind) = lowest_and_rest(rest);
-            if let Some(entry) = self.entry_in_level(i, places[i], key) {
-                return entry.value;
-            }
-            rest = behind;
-        }
-        None
-    }
-
-    /// The entry of a level with a key, which is at this place, if there is one.
-    fn entry_in_level(&self, i: usize, place: usize, key: u64) -> Option<&Entry>
-        requires { (level : List Entry) → level_of self.now i ≡ Some level →
-            place ≡ lb (level_keys level) key }
-        ensures { option_copied result ≡ entry_in (level_of self.now i) key }
-    {
-        let level = self.level(i)?;
-        level.entry_from(place, key)
-    }
-
-    /// Moves the places of a key to those of the next one.
-    pub(crate) fn pass(&self, places: &mut Places, key: u64)
-        requires { ArePlaces self.now places.old key }
-        ensures { ArePlaces self.now places.new (key + 1) }
-    {
-        let mut rest = self.occupied();
-        while rest != 0 {
-            let (i, behind) = lowest_and_rest(rest);
-            places[i] = self.occupied_level(i).place_past(places[i], key);
-            rest = behind;
-        }
-    }
-
     /// The greatest key up to `bound` with an entry, if there is one.
     pub(crate) fn greatest_key(&self, bound: u64) -> Option<u64>
         ensures within { IfSome result (λ key. key ≤ bound) }
@@ -161,54 +185,86 @@ impl LogMap {
         let level = self.level(i)?;
         level.key_to(place, bound)
     }
-
-    /// The least key of a level from `from` on, which is at this place, if there is one.
-    fn key_in_level(&self, i: usize, place: usize, from: u128) -> Option<u64>
-        requires { (level : List Entry) → level_of self.now i ≡ Some level →
-            place ≡ lb (level_keys level) from }
-        ensures from { IfSome result (λ key. from ≤ key) }
-        ensures least { (key : ℕ) (level : List Entry) → from ≤ key → IsBelow key result →
-            level_of self.now i ≡ Some level → entry_at level key ≡ None }
-    {
-        let level = self.level(i)?;
-        level.key_from(place, from)
-    }
 }
 
-/// The least key from `from` on, if there is one.
-fn least_from(entries: &[Entry], from: u128) -> Option<u64>
-    ensures from { IfSome result (λ key. from ≤ key) }
-    ensures least { (key : ℕ) → from ≤ key → IsBelow key result →
-        last_at entries.now key ≡ None }
+/// The first entry from a key on: of the least key the last one.
+fn first_from(entries: &[Entry], from: u128) -> Option<Entry>
+    ensures { IsFirstFrom entries.now from result }
 {
-    let mut least = None;
+    let mut first = None;
     for entry in entries {
-        least = lesser(least, key_above(entry.key, from));
+        first = first_with(first, *entry, from);
     }
-    least
+    first
 }
 
-/// A key, where it isn't below `from`.
-fn key_above(key: u64, from: u128) -> Option<u64>
-    ensures from { IfSome result (λ key. from ≤ key) }
-    ensures least { from ≤ key → result ≡ Some key }
+/// The same with an entry more, by that without it.
+#[inline(always)]
+fn first_with(first: Option<Entry>, entry: Entry, from: u128) -> Option<Entry>
+    ensures { (entries : List Entry) → IsFirstFrom entries from first →
+        IsFirstFrom (entries ++ entry ∷ []) from result }
 {
-    if u128::from(key) < from {
-        None
-    } else {
-        Some(key)
+    if u128::from(entry.key) < from {
+        return first;
+    }
+    match first {
+        Some(other) if other.key < entry.key => first,
+        _ => Some(entry),
     }
 }
 
-/// The lesser of two keys, where there are two.
-fn lesser(one: Option<u64>, other: Option<u64>) -> Option<u64>
-    ensures one { (key : ℕ) → IsBelow key result → IsBelow key one }
-    ensures other { (key : ℕ) → IsBelow key result → IsBelow key other }
-    ensures either { (result ≡ one) ⊎ (result ≡ other) }
+/// The entry of the buffer, if it comes next: its key is at most that of a level.
+#[inline(always)]
+fn next_of(buffered: Option<Entry>, found: Option<(u64, usize)>) -> Option<Entry>
+    ensures next { IfSome result (λ entry. (buffered ≡ Some entry) ×
+        ((other : ℕ) → other < entry.key → IsBelow other (first_key found))) }
+    ensures none { IsNone result →
+        IfSome buffered (λ entry. MatchOption found ⊥ (λ least. least.0 < entry.key)) }
 {
-    match (one, other) {
-        (Some(a), Some(b)) => Some(a.min(b)),
-        (None, key) | (key, None) => key,
+    let entry = buffered?;
+    match found {
+        Some((least, _)) => {
+            if least < entry.key {
+                None
+            } else {
+                Some(entry)
+            }
+        }
+        None => Some(entry),
+    }
+}
+
+/// Whether a key is below that of a level, if there is one.
+#[inline(always)]
+fn is_below(key: u64, found: Option<(u64, usize)>) -> bool
+    ensures below { IsTrue result → IsBelow key (first_key found) }
+    ensures from { OnFalse result (MatchOption found ⊥ (λ least. least.0 ≤ key)) }
+{
+    match found {
+        Some((least, _)) => key < least,
+        None => true,
+    }
+}
+
+/// The lesser of two keys, the first with its level, where there are two, and the first of equal
+/// ones.
+#[inline(always)]
+fn lesser(least: Option<(u64, usize)>, key: Option<u64>, i: usize) -> Option<(u64, usize)>
+    ensures one { (other : ℕ) → IsBelow other (first_key result) →
+        IsBelow other (first_key least) }
+    ensures other { (other : ℕ) → IsBelow other (first_key result) → IsBelow other key }
+    ensures either { (result ≡ least) ⊎ MatchOption key ⊥ (λ k.
+        (result ≡ Some (k, i)) × IsBelow k (first_key least)) }
+{
+    match key {
+        Some(key) => {
+            if is_below(key, least) {
+                Some((key, i))
+            } else {
+                least
+            }
+        }
+        None => least,
     }
 }
 

@@ -1,7 +1,7 @@
 use Rattle.std.proofs.Common.{◌≡◌, ◌+◌, subst, sym, ap, arith}
 use Rattle.log_levels.specs.Maps.{map_after, count_between}
 use Rattle.log_levels.specs.Accepted.{entries_of}
-use Rattle.log_levels.specs.Kept.{ArePlaces}
+use Rattle.log_levels.specs.Kept.{IsLeft}
 use Rattle.log_levels.proofs.MapLemmas.{count-few}
 use Rattle.log_levels.proofs.WalkLemmas.{count-found, count-past, count-none}
 use Rattle.log_levels.proofs.log_map.LogMap.count.Goals as goal
@@ -21,7 +21,7 @@ pub loop-key-preserved : goal.loop-key-preserved
 loop-key-preserved c =
     let same : c.from-from-in-Some.result ≡ c.in-Some.key = c.from-from-in-Some.ensures in
     record {
-      at = subst (λ k. ArePlaces c.args.self.now c.pass.new.places (k + 1)) (sym same) c.pass.ensures;
+      at = subst (λ k. IsLeft c.args.self.now c.next_pair.new.walk.buffered c.next_pair.new.walk.places (k + 1)) (sym same) c.in-Some.ensures.left;
       few = omega arith;
       sum = λ updates stands.
           let found = count-found updates c.loop-key.from c.args.high c.in-Some.key c.in-Some.field-0-1 (c.in-Some.ensures.live (entries_of updates) stands) c.if-key-high.false in

@@ -2,12 +2,12 @@ use Rattle.std.proofs.Common.{◌≡◌, ◌+◌, ◌-◌, ◌^◌, ◌≤◌, L
 use Rattle.log_levels.specs.declared.update.Update.{Update}
 use Rattle.log_levels.specs.Maps.{map_after, count_between}
 use Rattle.log_levels.specs.Shapes.{StandsFor}
-use Rattle.log_levels.specs.Kept.{ArePlaces}
+use Rattle.log_levels.specs.Kept.{IsLeft}
 use Rattle.log_levels.proofs.log_map.LogMap.count.Given as goal
 
 abbrev pub invariant-loop-key : goal.invariant-loop-key
 invariant-loop-key l = record {
-  at : ArePlaces l.self l.places l.from;
+  at : IsLeft l.self l.walk.buffered l.walk.places l.from;
   few : l.from ≤ 2 ^ 64;
   sum : (updates : List Update) → StandsFor l.self updates → count_between (map_after updates) l.low l.high ≡ l.count + count_between (map_after updates) l.from l.high;
 }

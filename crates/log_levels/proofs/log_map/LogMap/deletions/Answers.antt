@@ -4,7 +4,7 @@ use Rattle.tombstones.specs.declared.entry.Entry.{Entry}
 use Rattle.std.specs.Map.{keys_of}
 use Rattle.log_levels.specs.Maps.{map_after}
 use Rattle.log_levels.specs.Accepted.{entries_of, keys_between, del_entry}
-use Rattle.log_levels.specs.Kept.{ArePlaces}
+use Rattle.log_levels.specs.Kept.{IsLeft}
 use Rattle.log_levels.proofs.WalkLemmas.{pairs-found, pairs-past, pairs-none}
 use Rattle.log_levels.proofs.log_map.LogMap.deletions.Goals as goal
 
@@ -17,7 +17,7 @@ pub loop-key-preserved : goal.loop-key-preserved
 loop-key-preserved c =
     let same : c.from-from-in-Some.result ≡ c.in-Some.key = c.from-from-in-Some.ensures in
     record {
-      at = subst (λ k. ArePlaces c.args.self.now c.pass.new.places (k + 1)) (sym same) c.pass.ensures;
+      at = subst (λ k. IsLeft c.args.self.now c.next_pair.new.walk.buffered c.next_pair.new.walk.places (k + 1)) (sym same) c.in-Some.ensures.left;
       few = omega arith;
       list = λ updates stands.
           let found = pairs-found updates c.loop-key.from c.args.high c.in-Some.key c.in-Some.field-0-1 (c.in-Some.ensures.live (entries_of updates) stands) c.if-key-high.false in

@@ -3,7 +3,7 @@ use Rattle.std.proofs.lemmas.Bool.{cases_lt}
 use Rattle.std.proofs.lemmas.List.{append_assoc, append-nil}
 use Rattle.log_levels.specs.Maps.{map_after, value_at, pairs_between}
 use Rattle.log_levels.specs.Accepted.{entries_of}
-use Rattle.log_levels.specs.Kept.{ArePlaces}
+use Rattle.log_levels.specs.Kept.{IsLeft}
 use Rattle.log_levels.proofs.MapLemmas.{rises-after, pairs-all}
 use Rattle.log_levels.proofs.ValueLemmas.{value-after}
 use Rattle.log_levels.proofs.WalkLemmas.{pairs-found, pairs-none, live-within}
@@ -13,8 +13,8 @@ pub loop-key-preserved : goal.loop-key-preserved
 loop-key-preserved c =
     let same : c.from-from.result ≡ c.in-Some.key = c.from-from.ensures in
     record {
-      at = subst (λ k. ArePlaces c.args.self.now c.pass.new.places (k + 1)) (sym same) c.pass.ensures;
-      few = (let typed = rw c.in-Some.is at c.next_live.type_inv in omega (arith, typed));
+      at = subst (λ k. IsLeft c.args.self.now c.next_pair.new.walk.buffered c.next_pair.new.walk.places (k + 1)) (sym same) c.in-Some.ensures.left;
+      few = (let typed = rw c.in-Some.is at c.next_pair.type_inv in omega (arith, typed));
       list = λ updates high stands none.
           let live = c.in-Some.ensures.live (entries_of updates) stands in
           let found = pairs-found updates c.loop-key.from high c.in-Some.key c.in-Some.value live (live-within updates c.loop-key.from high c.in-Some.key c.in-Some.value live none) in

@@ -2,12 +2,12 @@ use Rattle.std.proofs.Common.{◌≡◌, ◌-◌, ◌^◌, ◌<◌, ◌≤◌, �
 use Rattle.log_levels.specs.declared.update.Update.{Update}
 use Rattle.log_levels.specs.Maps.{map_after, value_at, pairs_between}
 use Rattle.log_levels.specs.Shapes.{StandsFor}
-use Rattle.log_levels.specs.Kept.{ArePlaces}
+use Rattle.log_levels.specs.Kept.{IsLeft}
 use Rattle.log_levels.proofs.log_map.LogMap.pairs.Given as goal
 
 abbrev pub invariant-loop-key : goal.invariant-loop-key
 invariant-loop-key l = record {
-  at : ArePlaces l.self l.places l.from;
+  at : IsLeft l.self l.walk.buffered l.walk.places l.from;
   few : l.from ≤ 2 ^ 64;
   list : (updates : List Update) (high : ℕ) → StandsFor l.self updates → ((key : ℕ) → high < key → value_at (map_after updates) key ≡ None)
       → pairs_between (map_after updates) 0 high ≡ l.pairs.items ++ pairs_between (map_after updates) l.from high;

@@ -2,7 +2,7 @@ use Rattle.std.proofs.Common.{◌≡◌, ◌+◌, ◌≤◌, List, length, slice
 use Rattle.std.proofs.lemmas.List.{length-set}
 use Rattle.log_levels.specs.Maps.{map_after, pairs_between}
 use Rattle.log_levels.specs.Accepted.{entries_of}
-use Rattle.log_levels.specs.Kept.{ArePlaces}
+use Rattle.log_levels.specs.Kept.{IsLeft}
 use Rattle.log_levels.proofs.MapLemmas.{count-pairs}
 use Rattle.log_levels.proofs.RangeLemmas.{IsWritten, written-more, written-full, written-out}
 use Rattle.log_levels.proofs.WalkLemmas.{pairs-found, pairs-past, pairs-none}
@@ -34,7 +34,7 @@ pub loop-count-preserved : goal.loop-count-preserved
 loop-count-preserved c =
     let same : c.from-low-in-loop-count.result ≡ c.in-Some.key = c.from-low-in-loop-count.ensures in
     record {
-      at = subst (λ k. ArePlaces c.args.self.now c.pass.new.places (k + 1)) (sym same) c.pass.ensures;
+      at = subst (λ k. IsLeft c.args.self.now c.next_pair.new.walk.buffered c.next_pair.new.walk.places (k + 1)) (sym same) c.in-Some.ensures.left;
       few = omega arith;
       within = omega (arith, length-set c.loop-count.pairs c.loop-count.count (c.in-Some.key, c.in-Some.value));
       written = λ updates stands.

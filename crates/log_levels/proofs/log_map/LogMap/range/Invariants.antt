@@ -2,13 +2,13 @@ use Rattle.std.proofs.Common.{◌≡◌, ◌-◌, ◌^◌, ◌≤◌, List, leng
 use Rattle.log_levels.specs.declared.update.Update.{Update}
 use Rattle.log_levels.specs.Maps.{map_after, pairs_between}
 use Rattle.log_levels.specs.Shapes.{StandsFor}
-use Rattle.log_levels.specs.Kept.{ArePlaces}
+use Rattle.log_levels.specs.Kept.{IsLeft}
 use Rattle.log_levels.proofs.RangeLemmas.{IsWritten}
 use Rattle.log_levels.proofs.log_map.LogMap.range.Given as goal
 
 abbrev pub invariant-loop-count : goal.invariant-loop-count
 invariant-loop-count l = record {
-  at : ArePlaces l.self l.places l.low;
+  at : IsLeft l.self l.walk.buffered l.walk.places l.low;
   few : l.low ≤ 2 ^ 64;
   within : l.count ≤ length l.pairs;
   written : (updates : List Update) → StandsFor l.self updates → IsWritten (pairs_between (map_after updates) l.from l.to) (pairs_between (map_after updates) l.low l.to) l.pairs l.initial.pairs l.count;
