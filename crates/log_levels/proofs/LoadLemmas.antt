@@ -1,12 +1,11 @@
 -- Pairs that rise, and a put of each.
-use Rattle.std.proofs.Common.{◌≡◌, ℕ, zero, suc, ◌+◌, ◌-◌, ◌<◌, ◌≤◌, eqb, if◌then◌else◌, List, [], ◌∷◌, length, map, slice_index_or, Option, Some, None, refl, sym, ap, ◌∙◌, inl, inr, arith}
+use Rattle.std.proofs.Common.{◌≡◌, ℕ, zero, suc, ◌+◌, ◌-◌, ◌<◌, ◌≤◌, eqb, if◌then◌else◌, List, [], ◌∷◌, length, slice_index_or, Option, Some, None, refl, sym, ap, ◌∙◌, inl, inr, arith}
 use Rattle.std.specs.Option.{option_or, option_map}
 use Rattle.std.proofs.lemmas.Bool.{cases_eq, eq-eqb, ne_eqb}
 use Rattle.tombstones.specs.declared.entry.Entry.{Entry}
-use Rattle.log_levels.specs.declared.update.Update.{Update}
 use Rattle.log_levels.specs.declared.update.Update.TheVariants.{Put}
 use Rattle.log_levels.specs.Maps.{updated, map_after, value_at, AreRising, IsFirstStall}
-use Rattle.log_levels.specs.Accepted.{entries_of, entries_from, entries_for, put_entry, puts_of}
+use Rattle.log_levels.specs.Accepted.{entries_of, entries_from, put_entry, puts_of}
 use Rattle.log_levels.specs.Kept.{value_of, entries_put}
 use Rattle.map_level.specs.Levels.{last_at}
 use Rattle.map_level.proofs.LastLemmas.{last_at-cons}

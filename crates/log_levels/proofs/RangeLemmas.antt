@@ -1,6 +1,6 @@
 -- Pairs of a range that are written one behind the other.
-use Rattle.std.proofs.Common.{◌≡◌, ℕ, ◌+◌, ◌-◌, ◌<◌, ◌≤◌, min, List, [], ◌∷◌, ◌++◌, length, take, drop, get_or, slice_set, sym, ap, ◌∙◌, refl, arith, length-drop, add-one, add-zero}
-use Rattle.std.proofs.lemmas.List.{take-append-drop, take_more, take_more_set, drop-set-lt, drop_more, get_or-drop, length-set}
+use Rattle.std.proofs.Common.{◌≡◌, ℕ, ◌+◌, ◌<◌, ◌≤◌, min, List, [], ◌∷◌, ◌++◌, length, take, drop, get_or, slice_set, sym, ap, ◌∙◌, refl, arith, length-drop}
+use Rattle.std.proofs.lemmas.List.{take-append-drop, take_more, take_more_set, drop-set-lt, drop_more, length-set}
 
 -- the first pairs are written, so many; what is behind them is as it was, and these are left
 pub record IsWritten (pairs left now old : List (ℕ × ℕ)) (count : ℕ) : Type 0 where

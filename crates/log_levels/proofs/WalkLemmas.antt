@@ -9,8 +9,7 @@ use Rattle.log_levels.proofs.UpdateLemmas.{entries_of-sweep}
 use Rattle.std.proofs.lemmas.List.{length-map}
 use Rattle.log_levels.specs.Maps.{map_after, value_at, next_from, count_between, pairs_between}
 use Rattle.log_levels.specs.Accepted.{entries_of, entries_for, keys_between, del_entry}
-use Rattle.map_level.specs.Levels.{level_keys, last_at, IsBelow}
-use Rattle.window_search.specs.Searches.{lb}
+use Rattle.map_level.specs.Levels.{last_at, IsBelow}
 use Rattle.std.specs.Option.{option_or}
 use Rattle.std.proofs.lemmas.List.{get_or-set_same, get_or-set_other, length-set}
 use Rattle.std.proofs.lemmas.List.Sums.{sum_by-set}

@@ -1,4 +1,4 @@
-use Rattle.std.proofs.Common.{ℕ, List, subst, sym, ◌∙◌}
+use Rattle.std.proofs.Common.{ℕ, List, subst, ◌∙◌}
 use Rattle.log_levels.specs.Maps.{map_after, IsFirstStall}
 use Rattle.log_levels.proofs.LoadLemmas.{map-puts, no-stall}
 use Rattle.log_levels.proofs.MapLemmas.{rises-after}

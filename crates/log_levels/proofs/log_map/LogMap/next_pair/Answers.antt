@@ -1,4 +1,4 @@
-use Rattle.std.proofs.Common.{◌≡◌, ◌+◌, ◌<◌, ◌≤◌, max, refl, ◌∙◌, subst, sym, arith}
+use Rattle.std.proofs.Common.{◌≡◌, ◌+◌, ◌≤◌, max, refl, ◌∙◌, subst, sym, arith}
 use Rattle.log_levels.specs.Kept.{IsLeft}
 use Rattle.log_levels.proofs.WalkLemmas.{next-live, none-past, none-left}
 use Rattle.log_levels.proofs.log_map.LogMap.next_pair.Goals as goal

@@ -1,4 +1,4 @@
-use Rattle.std.proofs.Common.{◌≡◌, ◌+◌, ◌≤◌, List, length, slice_set, subst, sym, ap, ◌∙◌, arith}
+use Rattle.std.proofs.Common.{◌≡◌, ◌+◌, slice_set, subst, sym, arith}
 use Rattle.std.proofs.lemmas.List.{length-set}
 use Rattle.log_levels.specs.Maps.{map_after, pairs_between}
 use Rattle.log_levels.specs.Accepted.{entries_of}

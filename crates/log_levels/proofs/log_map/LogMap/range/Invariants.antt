@@ -1,4 +1,4 @@
-use Rattle.std.proofs.Common.{◌≡◌, ◌-◌, ◌^◌, ◌≤◌, List, length}
+use Rattle.std.proofs.Common.{◌-◌, ◌^◌, ◌≤◌, List, length}
 use Rattle.log_levels.specs.declared.update.Update.{Update}
 use Rattle.log_levels.specs.Maps.{map_after, pairs_between}
 use Rattle.log_levels.specs.Shapes.{StandsFor}

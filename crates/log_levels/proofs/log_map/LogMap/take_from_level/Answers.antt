@@ -2,7 +2,6 @@ use Rattle.std.proofs.Common.{◌≡◌, ◌<◌, List, length, Some, subst, sym
 use Rattle.tombstones.specs.declared.entry.Entry.{Entry}
 use Rattle.tombstones.specs.Entries.{IsAscending}
 use Rattle.map_level.proofs.LevelLemmas.{entry-found, key-read}
-use Rattle.log_levels.specs.Shapes.{level_of}
 use Rattle.std.specs.Prelude.{slice_index}
 use Rattle.log_levels.proofs.WalkLemmas.{behind-passed, left-passed}
 use Rattle.log_levels.proofs.log_map.LogMap.take_from_level.Goals as goal

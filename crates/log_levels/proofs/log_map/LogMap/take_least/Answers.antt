@@ -1,6 +1,6 @@
-use Rattle.std.proofs.Common.{◌≡◌, ◌+◌, ◌<◌, max, Some, None, IfSome, refl, subst, sym, ap, arith}
+use Rattle.std.proofs.Common.{◌≡◌, ◌+◌, ◌<◌, max, Some, None, IfSome, refl, subst, sym, arith}
 use Rattle.map_level.specs.Levels.{last_at}
-use Rattle.log_levels.specs.Kept.{AreBehind, AreNewer, IsFirstFrom, IsLeastLeft, StandsAt, value_of}
+use Rattle.log_levels.specs.Kept.{AreBehind, IsFirstFrom, IsLeastLeft, StandsAt, value_of}
 use Rattle.log_levels.proofs.WalkLemmas.{absent-before, taken-first, taken-level, later-than, later-key, none-first, first-max}
 use Rattle.log_levels.proofs.log_map.LogMap.take_least.Goals as goal
 
