@@ -1,8 +1,10 @@
 // Readers, looks and notes. None of their calls waits or takes memory.
-ghost use Rattle.std.specs.Prelude.{◌≡◌, Some, IfOk, IfErr, OnOk, OnErr};
+ghost use Rattle.std.specs.Prelude.{◌≡◌, ◌++◌, Some, IfOk, IfErr, OnOk, OnErr};
+ghost use Rattle.std.specs.Prelude.{length, take, drop, min};
 ghost use mathlib.Core.List.{IsPrefix};
 ghost use Rattle.edge.specs.Risen.{HasRisen};
 ghost use Rattle.log_levels.specs.Maps.{map_after, value_at, next_from, count_between};
+ghost use Rattle.log_levels.specs.Maps.{previous_to, pairs_between};
 ghost use Rattle.left_right.specs.Sides.{view};
 ghost use Rattle.published.specs.Histories.{Front, updates_of, count_of, longer_of};
 
@@ -192,6 +194,27 @@ impl Look {
         ensures { result ≡ next_from (map_after (updates_of self.now.batches)) q }
     {
         self.reading.get().next(q)
+    }
+
+    /// The greatest key not above `q` with its value, if there is one.
+    pub fn previous(&self, q: u64) -> Option<(u64, u64)>
+        ensures { result ≡ previous_to (map_after (updates_of self.now.batches)) q }
+    {
+        self.reading.get().previous(q)
+    }
+
+    /// Writes the first pairs of key and value from `from` to `to`, both included, by rising key,
+    /// as many as there is room for, and gives how many. What lies behind them in the room stays as
+    /// it was. Where the room was filled, the rest comes from the last key plus 1 on, unless that
+    /// key is `to`.
+    pub fn range(&self, from: u64, to: u64, pairs: &mut [(u64, u64)]) -> usize
+        ensures count { result ≡ min (length pairs.old)
+            (count_between (map_after (updates_of self.now.batches)) from to) }
+        ensures pairs { pairs.new ≡
+            take result (pairs_between (map_after (updates_of self.now.batches)) from to)
+            ++ drop result pairs.old }
+    {
+        self.reading.get().range(from, to, pairs)
     }
 
     /// How many keys there are from `a` to `b`, both included.

@@ -1,8 +1,9 @@
 // A version of the map, which readers take whole.
-ghost use Rattle.std.specs.Prelude.{◌≡◌, IfOk};
+ghost use Rattle.std.specs.Prelude.{◌≡◌, ◌++◌, IfOk, length, take, drop, min};
 ghost use Rattle.std.specs.Arc.{arc_value};
 ghost use Rattle.log_levels.specs.Shapes.{StandsFor};
 ghost use Rattle.log_levels.specs.Maps.{map_after, value_at, next_from, count_between};
+ghost use Rattle.log_levels.specs.Maps.{previous_to, pairs_between};
 ghost use Rattle.published.specs.Histories.{updates_of};
 
 use crate::history::Prefix;
@@ -69,6 +70,24 @@ impl Version {
         ensures { result ≡ next_from (map_after (updates_of self.now.batches)) q }
     {
         self.map.next(q)
+    }
+
+    /// The greatest key not above this one, with its value.
+    pub fn previous(&self, q: u64) -> Option<(u64, u64)>
+        ensures { result ≡ previous_to (map_after (updates_of self.now.batches)) q }
+    {
+        self.map.previous(q)
+    }
+
+    /// Writes the first pairs between these two keys, and gives how many.
+    pub fn range(&self, from: u64, to: u64, pairs: &mut [(u64, u64)]) -> usize
+        ensures count { result ≡ min (length pairs.old)
+            (count_between (map_after (updates_of self.now.batches)) from to) }
+        ensures pairs { pairs.new ≡
+            take result (pairs_between (map_after (updates_of self.now.batches)) from to)
+            ++ drop result pairs.old }
+    {
+        self.map.range(from, to, pairs)
     }
 
     /// How many keys there are between these two.
