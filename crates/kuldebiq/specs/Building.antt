@@ -1,5 +1,5 @@
 -- Which keys and error bounds have an index, and how others are refused.
-use Rattle.std.specs.Prelude.{◌≡◌, ◌⊎◌, ℕ, ◌^◌, ◌<◌, ◌≤◌, List, length, Option}
+use Rattle.std.specs.Prelude.{◌≡◌, ◌⊎◌, ℕ, ◌^◌, ◌<◌, ◌≤◌, List, length, max, Option}
 use Rattle.std.specs.Option.{MatchOption}
 use Rattle.std.specs.List.Sorted.{IsNonDecreasing}
 use Rattle.key_points.specs.Falls.{IsFirstFall}
@@ -16,21 +16,18 @@ pub record CanBeIndexed (keys : List ℕ) (eps eps_rec : ℕ) : Type 0 where
   pub bounded : eps ≤ 1048576
   pub bounded_rec : eps_rec ≤ 1048576
 
--- an error bound that is too great, with the bound
-abbrev pub RefusesBound : ℕ → ℕ → Answer → Type 0
-RefusesBound eps eps_rec answer = (answer.status ≡ 6) × (1048576 < answer.number) × ((answer.number ≡ eps) ⊎ (answer.number ≡ eps_rec))
-
--- too many keys, with their number
-abbrev pub RefusesCount : List ℕ → Answer → Type 0
-RefusesCount keys answer = (answer.status ≡ 5) × (answer.number ≡ length keys) × (2 ^ 32 ≤ length keys)
-
 -- keys that fall, with the first place whose key is below the key before it
 abbrev pub RefusesOrder : List ℕ → Answer → Type 0
-RefusesOrder keys answer = (answer.status ≡ 4) × IsFirstFall keys answer.number
+RefusesOrder keys answer = (place : ℕ) × (answer ≡ refuses 4 place) × IsFirstFall keys place
 
--- why keys and error bounds have no index
-abbrev pub RefusesKeys : List ℕ → ℕ → ℕ → Answer → Type 0
-RefusesKeys keys eps eps_rec answer = RefusesBound eps eps_rec answer ⊎ (RefusesCount keys answer ⊎ RefusesOrder keys answer)
+-- too many keys, with their number, or else keys that fall
+abbrev pub RefusesKeys : List ℕ → Answer → Type 0
+RefusesKeys keys answer = ((answer ≡ refuses 5 (length keys)) × (2 ^ 32 ≤ length keys)) ⊎ ((length keys < 2 ^ 32) × RefusesOrder keys answer)
+
+-- an error bound that is too great, with the greater of the two, or else keys that are refused
+abbrev pub IsRefusal : List ℕ → ℕ → ℕ → Answer → Type 0
+IsRefusal keys eps eps_rec answer =
+    ((answer ≡ refuses 6 (max eps eps_rec)) × (1048576 < max eps eps_rec)) ⊎ ((max eps eps_rec ≤ 1048576) × RefusesKeys keys answer)
 
 -- a fault of keys as an answer
 abbrev pub refused_as : KeysFault → Answer

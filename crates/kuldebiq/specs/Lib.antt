@@ -1,5 +1,7 @@
 pub mod Owned
 pub mod Answers
+pub mod Judged
 pub mod Building
+pub mod Positions
 pub mod Segments
 pub mod Changes

@@ -1,6 +1,9 @@
 // What a call answers.
 ghost use Rattle.std.specs.Prelude.{◌≡◌};
 ghost use Rattle.kuldebiq.specs.Answers.{gives, refuses, found};
+ghost use Rattle.kuldebiq.specs.Changes.{fault_as};
+
+use log_levels::MapFault;
 
 /// The call was done.
 pub const DONE: u32 = 0;
@@ -29,14 +32,17 @@ pub const NO_SUCH_LEVEL: u32 = 7;
 /// There is no such segment. The number is how many segments the level has.
 pub const NO_SUCH_SEGMENT: u32 = 8;
 
-/// There isn't room for exactly one answer to each question. The number is for how many there is.
-pub const UNEQUAL_LENGTHS: u32 = 9;
+/// There isn't room for an answer to each question. The number is for how many there is.
+pub const TOO_LITTLE_ROOM: u32 = 9;
 
 /// A map has 1 to 26 levels. The number is how many were asked for.
 pub const LEVELS_OUT_OF_RANGE: u32 = 10;
 
 /// The map can't accept as many entries. The number is how many it has accepted.
 pub const FULL: u32 = 11;
+
+/// There is no key at such a place. The number is how many keys there are.
+pub const NO_SUCH_PLACE: u32 = 12;
 
 /// What a call answers: how it ended, and a number, which is what was asked for where the call was
 /// done, and else tells why it was refused.
@@ -76,5 +82,16 @@ pub(crate) fn found_or_absent(value: Option<u64>) -> Answer
     match value {
         Some(value) => given(value),
         None => refused(ABSENT, 0),
+    }
+}
+
+/// Why an update of a map was refused.
+#[inline(always)]
+pub(crate) fn fault_as(fault: MapFault) -> Answer
+    ensures { result ≡ fault_as fault }
+{
+    match fault {
+        MapFault::Full { accepted } => refused(FULL, accepted),
+        MapFault::NoMemory => refused(NO_MEMORY, 0),
     }
 }

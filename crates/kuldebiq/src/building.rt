@@ -1,18 +1,19 @@
 // An index from keys that C hands over.
-ghost use Rattle.std.specs.Prelude.{◌≡◌, ◌≤◌, ◌⊎◌, IfOk, IfErr};
+ghost use Rattle.std.specs.Prelude.{◌≡◌, ◌⊎◌, IfOk, IfErr};
 ghost use Rattle.kuldebiq.specs.Answers.{refuses};
-ghost use Rattle.kuldebiq.specs.Building.{CanBeIndexed, IsIndexOf, refused_as};
-ghost use Rattle.kuldebiq.specs.Building.{RefusesKeys, RefusesCount, RefusesOrder};
+ghost use Rattle.kuldebiq.specs.Building.{CanBeIndexed, IsIndexOf, IsRefusal, refused_as};
 
 use crate::answer::{Answer, EPSILON_TOO_GREAT, NO_MEMORY, TOO_MANY_KEYS, UNSORTED, refused};
+use crate::judging::judge;
 use crate::kept_index::KeptIndex;
 use budget::NoMemory;
 use exact_cross::MAX_EPSILON;
 use levels::{Index, Keys, KeysFault};
 use std::alloc::Global;
 
-/// The index of keys, which are copied, in a box. Or how they are refused: where an error bound is
-/// too great, where there are too many keys, where they fall, or where memory isn't found.
+/// The index of keys, which are judged and then copied, in a box. Or how they are refused: where an
+/// error bound is too great, where there are too many keys, where they fall, in this order, or
+/// where memory isn't found.
 pub(crate) fn boxed_index(
     alloc: Global,
     keys: &[u64],
@@ -21,29 +22,20 @@ pub(crate) fn boxed_index(
 ) -> Result<Box<KeptIndex>, Answer>
     ensures index { IfOk result (λ kept. IsIndexOf keys.now eps eps_rec kept.value) }
     ensures judged { IfOk result (λ _. CanBeIndexed keys.now eps eps_rec) }
-    ensures refused { IfErr result (λ answer.
-        (answer ≡ refuses NO_MEMORY 0) ⊎ RefusesKeys keys.now eps eps_rec answer) }
+    ensures refused { IfErr result (λ answer. IsRefusal keys.now eps eps_rec answer ⊎
+        (CanBeIndexed keys.now eps eps_rec × (answer ≡ refuses NO_MEMORY 0))) }
 {
     let greater = eps.max(eps_rec);
     if greater > MAX_EPSILON {
         return Err(refused(EPSILON_TOO_GREAT, u64::from(greater)));
     }
-    match tested_keys(alloc, keys) {
-        Ok(tested) => match index_of(alloc, tested, eps, eps_rec) {
+    match judge(keys) {
+        Ok(()) => match index_of(alloc, keys, eps, eps_rec) {
             Ok(kept) => Ok(kept),
             Err(_) => Err(refused(NO_MEMORY, 0)),
         },
         Err(fault) => Err(answer_of(fault)),
     }
-}
-
-/// The keys, copied.
-fn tested_keys(alloc: Global, keys: &[u64]) -> Result<Keys, KeysFault>
-    ensures keys { IfOk result (λ tested. tested ≡ keys.now) }
-    ensures refused { IfErr result (λ fault. (refused_as fault ≡ refuses NO_MEMORY 0) ⊎
-        (RefusesCount keys.now (refused_as fault) ⊎ RefusesOrder keys.now (refused_as fault))) }
-{
-    Keys::tested(alloc, Vec::from_slice(alloc, keys)?)
 }
 
 fn answer_of(fault: KeysFault) -> Answer
@@ -56,18 +48,16 @@ fn answer_of(fault: KeysFault) -> Answer
     }
 }
 
-/// The index of keys, in a box.
+/// The index of keys, which are copied, in a box.
 ///
 /// # Errors
 ///
 /// `NoMemory` alone.
-fn index_of(alloc: Global, keys: Keys, eps: u32, eps_rec: u32) -> Result<Box<KeptIndex>, NoMemory>
-    requires bounded { eps ≤ MAX_EPSILON }
-    requires bounded_rec { eps_rec ≤ MAX_EPSILON }
-    ensures index { IfOk result (λ kept. IsIndexOf keys eps eps_rec kept.value) }
-    ensures judged { CanBeIndexed keys eps eps_rec }
+fn index_of(alloc: Global, keys: &[u64], eps: u32, eps_rec: u32) -> Result<Box<KeptIndex>, NoMemory>
+    requires { CanBeIndexed keys.now eps eps_rec }
+    ensures { IfOk result (λ kept. IsIndexOf keys.now eps eps_rec kept.value) }
 {
-    let _sorted = keys.file();
+    let keys = Keys::of(alloc, Vec::from_slice(alloc, keys)?)?;
     let index = Index::of(alloc, keys, eps, eps_rec)?;
     let kept = KeptIndex::of(alloc, index)?;
     Ok(Box::new(alloc, kept)?)

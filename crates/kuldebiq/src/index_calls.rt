@@ -1,5 +1,6 @@
 // The calls over an index.
-ghost use Rattle.std.specs.Prelude.{◌≡◌, ◌≢◌, ◌⊎◌, ◌<◌, ◌≤◌, ℕ, ⊤, length, map, slice_index_or};
+ghost use Rattle.std.specs.Prelude.{◌≡◌, ◌≢◌, ◌⊎◌, ◌<◌, ◌≤◌, ◌++◌};
+ghost use Rattle.std.specs.Prelude.{ℕ, ⊤, length, map, drop, slice_index, slice_index_or};
 ghost use Rattle.std.specs.Option.{MatchOption};
 ghost use Rattle.std.specs.declared.option.Option.TheVariants.{None, Some};
 ghost use Rattle.exact_cross.specs.declared.segment.Segment.{Segment};
@@ -7,27 +8,29 @@ ghost use Rattle.exact_cross.specs.IndexLevels.{level_at};
 ghost use Rattle.window_search.specs.Searches.{lb};
 ghost use Rattle.levels.specs.Indexes.{PgmIndex};
 ghost use Rattle.kuldebiq.specs.Answers.{gives, refuses, IsDone};
-ghost use Rattle.kuldebiq.specs.Building.{CanBeIndexed, RefusesKeys, HoldsIndexOf};
+ghost use Rattle.kuldebiq.specs.Building.{CanBeIndexed, IsRefusal, HoldsIndexOf};
+ghost use Rattle.kuldebiq.specs.Positions.{at_most};
 ghost use Rattle.kuldebiq.specs.Segments.{parts_of};
 
 use crate::answer::{
-    Answer, NO_MEMORY, NO_SUCH_LEVEL, NO_SUCH_SEGMENT, NOTHING_HELD, UNEQUAL_LENGTHS, given,
-    refused,
+    Answer, NO_MEMORY, NO_SUCH_LEVEL, NO_SUCH_PLACE, NO_SUCH_SEGMENT, NOTHING_HELD,
+    TOO_LITTLE_ROOM, given, refused,
 };
 use crate::building::boxed_index;
 use crate::index_handle::IndexHandle;
 use crate::kept_index::KeptIndex;
-use crate::many::write_positions;
+use crate::many::{position_after, write_positions};
 use crate::segment_parts::{SegmentParts, parts_of};
+use levels::Index;
 use std::alloc::Global;
 
-/// Builds the index of sorted keys, which are copied, and has the handle hold it. The number is how
-/// many keys there are.
+/// Builds the index of sorted keys, which are judged and then copied, and has the handle hold it.
+/// The number is how many keys there are.
 ///
 /// `epsilon` is the error bound of level 0, in positions, and `epsilon_above` that of the levels
 /// above. What the handle held is let go. A refusal is `EPSILON_TOO_GREAT`, `TOO_MANY_KEYS`,
-/// `UNSORTED` or `NO_MEMORY`, and then the handle holds what it held; where several hold, no clause
-/// says which of them is told.
+/// `UNSORTED` or `NO_MEMORY`, judged in this order, and then the handle holds what it held. Memory
+/// is taken only for keys and bounds that have an index.
 #[unsafe(no_mangle)]
 pub extern "C" fn kuldebiq_index_build(
     alloc: Global,
@@ -39,8 +42,8 @@ pub extern "C" fn kuldebiq_index_build(
     ensures done { IsDone result → HoldsIndexOf keys.now epsilon epsilon_above handle.new.index }
     ensures judged { IsDone result → CanBeIndexed keys.now epsilon epsilon_above }
     ensures number { IsDone result → result.number ≡ length keys.now }
-    ensures refused { result.status ≢ 0 →
-        (result ≡ refuses NO_MEMORY 0) ⊎ RefusesKeys keys.now epsilon epsilon_above result }
+    ensures refused { result.status ≢ 0 → IsRefusal keys.now epsilon epsilon_above result ⊎
+        (CanBeIndexed keys.now epsilon epsilon_above × (result ≡ refuses NO_MEMORY 0)) }
     ensures unchanged { result.status ≢ 0 → handle.new.index ≡ handle.old.index }
 {
     match boxed_index(alloc, keys, epsilon, epsilon_above) {
@@ -129,9 +132,65 @@ pub extern "C" fn kuldebiq_position(
     }
 }
 
-/// Writes the position of each question at its place. The number is how many there are.
+/// How many keys are at most the question: the position behind the last of them.
 ///
-/// It is faster than one call for each. A refusal is `NOTHING_HELD` or `UNEQUAL_LENGTHS`, judged in
+/// A refusal is `NOTHING_HELD`.
+#[unsafe(no_mangle)]
+pub extern "C" fn kuldebiq_position_after(
+    alloc: Global,
+    handle: &mut IndexHandle,
+    question: u64,
+) -> Answer
+    ensures answer { MatchOption handle.old.index (result ≡ refuses NOTHING_HELD 0)
+        (λ index. result ≡ gives (at_most index.keys question)) }
+    ensures unchanged { handle.new.index ≡ handle.old.index }
+{
+    match handle.take(alloc) {
+        Some(kept) => {
+            let position = position_after(kept.index(), question);
+            handle.put(kept);
+            given(u64::from(position))
+        }
+        None => refused(NOTHING_HELD, 0),
+    }
+}
+
+/// The key at a position. It is the number.
+///
+/// A refusal is `NOTHING_HELD` or `NO_SUCH_PLACE`.
+#[unsafe(no_mangle)]
+pub extern "C" fn kuldebiq_key_at(alloc: Global, handle: &mut IndexHandle, place: u64) -> Answer
+    ensures none { handle.old.index ≡ None → result ≡ refuses NOTHING_HELD 0 }
+    ensures outside { (index : PgmIndex) → handle.old.index ≡ Some index →
+        length index.keys ≤ place → result ≡ refuses NO_SUCH_PLACE (length index.keys) }
+    ensures answer { (index : PgmIndex) → handle.old.index ≡ Some index →
+        place < length index.keys → result ≡ gives (slice_index index.keys place) }
+    ensures unchanged { handle.new.index ≡ handle.old.index }
+{
+    match handle.take(alloc) {
+        Some(kept) => {
+            let answer = key_at(kept.index().keys().file(), place);
+            handle.put(kept);
+            answer
+        }
+        None => refused(NOTHING_HELD, 0),
+    }
+}
+
+fn key_at(keys: &[u64], place: u64) -> Answer
+    ensures outside { length keys.now ≤ place → result ≡ refuses NO_SUCH_PLACE (length keys.now) }
+    ensures answer { place < length keys.now → result ≡ gives (slice_index keys.now place) }
+{
+    if place >= keys.len() as u64 {
+        return refused(NO_SUCH_PLACE, keys.len() as u64);
+    }
+    given(keys[place as usize])
+}
+
+/// Writes the position of each question at its place. The number is how many there are. What lies
+/// behind them stays.
+///
+/// It is faster than one call for each. A refusal is `NOTHING_HELD` or `TOO_LITTLE_ROOM`, judged in
 /// this order, and then nothing is written.
 #[unsafe(no_mangle)]
 pub extern "C" fn kuldebiq_positions(
@@ -141,31 +200,42 @@ pub extern "C" fn kuldebiq_positions(
     positions: &mut [u32],
 ) -> Answer
     ensures none { handle.old.index ≡ None → result ≡ refuses NOTHING_HELD 0 }
-    ensures unequal { (index : PgmIndex) → handle.old.index ≡ Some index →
-        length questions.now ≢ length positions.old →
-        result ≡ refuses UNEQUAL_LENGTHS (length positions.old) }
+    ensures room { (index : PgmIndex) → handle.old.index ≡ Some index →
+        length positions.old < length questions.now →
+        result ≡ refuses TOO_LITTLE_ROOM (length positions.old) }
     ensures done { (index : PgmIndex) → handle.old.index ≡ Some index →
-        length questions.now ≡ length positions.old →
+        length questions.now ≤ length positions.old →
         (result ≡ gives (length questions.now)) ×
-        (positions.new ≡ map (lb index.keys) questions.now) }
+        (positions.new ≡ map (lb index.keys) questions.now ++
+        drop (length questions.now) positions.old) }
     ensures refused { result.status ≢ 0 → positions.new ≡ positions.old }
     ensures unchanged { handle.new.index ≡ handle.old.index }
 {
     match handle.take(alloc) {
         Some(kept) => {
-            let same = questions.len() == positions.len();
-            if same {
-                write_positions(alloc, kept.index(), questions, positions);
-            }
+            let answer = positions_at(alloc, kept.index(), questions, positions);
             handle.put(kept);
-            if same {
-                given(questions.len() as u64)
-            } else {
-                refused(UNEQUAL_LENGTHS, positions.len() as u64)
-            }
+            answer
         }
         None => refused(NOTHING_HELD, 0),
     }
+}
+
+fn positions_at(alloc: Global, index: &Index, questions: &[u64], positions: &mut [u32]) -> Answer
+    ensures room { length positions.old < length questions.now →
+        result ≡ refuses TOO_LITTLE_ROOM (length positions.old) }
+    ensures done { length questions.now ≤ length positions.old →
+        (result ≡ gives (length questions.now)) ×
+        (positions.new ≡ map (lb index.now.keys) questions.now ++
+        drop (length questions.now) positions.old) }
+    ensures refused { result.status ≢ 0 → positions.new ≡ positions.old }
+{
+    let count = questions.len();
+    if positions.len() < count {
+        return refused(TOO_LITTLE_ROOM, positions.len() as u64);
+    }
+    write_positions(alloc, index, questions, &mut positions[..count]);
+    given(count as u64)
 }
 
 /// How many keys there are.

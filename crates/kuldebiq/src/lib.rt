@@ -2,8 +2,8 @@
 //!
 //! Each call is named `kuldebiq_..` and is declared in `include/kuldebiq.h`, which says for each
 //! what C owes. A handle is a pointer in C's memory, null where it holds nothing, and each call is
-//! passed the handle's place. A call answers a status and a number ([`Answer`]): what a test can
-//! tell is tested, and refused with a number that says why.
+//! passed the handle's place. A call answers a status and a number ([`Answer`]): what a call can test
+//! is tested, and refused with a number that says why.
 //!
 //! Main clauses: `done`, `judged` and `refused` of [`kuldebiq_index_build`], `answer` of
 //! [`kuldebiq_position`], `done` of [`kuldebiq_positions`] and of each call that updates a map, and
@@ -14,6 +14,7 @@ mod answer;
 mod building;
 mod index_calls;
 mod index_handle;
+mod judging;
 mod kept_index;
 mod loose;
 mod many;
@@ -21,8 +22,35 @@ mod map_calls;
 mod map_handle;
 mod segment_parts;
 
+ghost use Rattle.std.specs.Prelude.{◌≡◌};
+
+use answer::Answer;
 use index_handle::IndexHandle;
+use map_calls::Pair;
 use map_handle::MapHandle;
+use segment_parts::SegmentParts;
+
+/// The version of the library: `1_002_003` would be 1.2.3.
+pub const VERSION: u32 = 1_000;
+
+// The sizes that the header asserts.
+const _: () = prove!(size_of::<Answer>() == 16);
+
+const _: () = prove!(size_of::<IndexHandle>() == 8);
+
+const _: () = prove!(size_of::<MapHandle>() == 8);
+
+const _: () = prove!(size_of::<SegmentParts>() == 64);
+
+const _: () = prove!(size_of::<Pair>() == 16);
+
+/// The version of the library, [`VERSION`].
+#[unsafe(no_mangle)]
+pub extern "C" fn kuldebiq_version() -> u32
+    ensures { result ≡ VERSION }
+{
+    VERSION
+}
 
 /// Handles may go to another thread: this is checked only where both are [`Send`]. It runs nothing.
 pub fn handles_may_move() {

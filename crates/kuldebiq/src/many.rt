@@ -1,13 +1,32 @@
-// The positions of many questions, at the place of each.
-ghost use Rattle.std.specs.Prelude.{◌≡◌, ◌⊎◌, ◌+◌, ◌≤◌, ◌<◌, ◌++◌};
+// The position behind a key, and the positions of many questions, at the place of each.
+ghost use Rattle.std.specs.Prelude.{◌≡◌, ◌⊎◌, ◌+◌, ◌^◌, ◌<◌, ◌≤◌, ◌++◌};
 ghost use Rattle.std.specs.Prelude.{ℕ, length, map, slice_index, vec_capacity};
 ghost use Rattle.window_search.specs.Searches.{lb};
+ghost use Rattle.kuldebiq.specs.Positions.{at_most};
 
 use levels::Index;
 use std::alloc::Global;
 
 /// How many questions are asked at a time.
 const AT_ONCE: usize = 4096;
+
+/// How many keys are at most the question.
+pub(crate) fn position_after(index: &Index, question: u64) -> u32
+    ensures { result ≡ at_most index.now.keys question }
+{
+    match question.checked_add(1) {
+        Some(next) => index.position(next),
+        None => count_of(index.keys().file()),
+    }
+}
+
+/// How many keys are at most the greatest number: all of them.
+fn count_of(keys: &[u64]) -> u32
+    requires { length keys.now < 2 ^ 32 }
+    ensures { result ≡ at_most keys.now 18446744073709551615 }
+{
+    keys.len() as u32
+}
 
 /// Writes the position of each question at its place. Takes memory for 4096 positions, and where it
 /// isn't found asks one question after the other.

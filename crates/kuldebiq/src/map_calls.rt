@@ -9,14 +9,14 @@ ghost use Rattle.log_levels.specs.Accepted.{entries_of};
 ghost use Rattle.log_levels.specs.Maps.{map_after, value_at, next_from, count_between};
 ghost use Rattle.log_levels.specs.Shapes.{Held, StandsFor, capacity_of};
 ghost use Rattle.kuldebiq.specs.Answers.{gives, refuses, found, IsDone};
-ghost use Rattle.kuldebiq.specs.Changes.{HoldsEmpty, HasAdded, ended_as};
+ghost use Rattle.kuldebiq.specs.Changes.{HoldsEmpty, HasAdded, one_if_some};
 
 use crate::answer::{
-    ABSENT, Answer, FULL, LEVELS_OUT_OF_RANGE, NO_MEMORY, NOTHING_HELD, found_or_absent, given,
-    refused,
+    ABSENT, Answer, FULL, LEVELS_OUT_OF_RANGE, NO_MEMORY, NOTHING_HELD, fault_as, found_or_absent,
+    given, refused,
 };
 use crate::map_handle::MapHandle;
-use log_levels::{LogMap, MapFault};
+use log_levels::LogMap;
 use std::alloc::Global;
 
 /// A key with its value.
@@ -92,7 +92,7 @@ pub extern "C" fn kuldebiq_map_put(
     key: u64,
     value: u64,
 ) -> Answer
-    ensures done { IsDone result → HasAdded (Put key value) handle.old.map handle.new.map }
+    ensures done { IsDone result → HasAdded (Put key value ∷ []) handle.old.map handle.new.map }
     ensures none { handle.old.map ≡ None → result ≡ refuses NOTHING_HELD 0 }
     ensures full { (map : Held) → handle.old.map ≡ Some map →
         capacity_of map < map.accepted + 1 → result ≡ refuses FULL map.accepted }
@@ -103,7 +103,10 @@ pub extern "C" fn kuldebiq_map_put(
     match handle.take(alloc) {
         Some(map) => {
             let mut map = map;
-            let answer = answer_of(map.put(alloc, key, value));
+            let answer = match map.put(alloc, key, value) {
+                Ok(()) => given(0),
+                Err(fault) => fault_as(fault),
+            };
             handle.put(map);
             answer
         }
@@ -111,39 +114,36 @@ pub extern "C" fn kuldebiq_map_put(
     }
 }
 
-/// Takes a key out of the map. It is an entry, whether or not the key was there. The number is 0.
+/// Takes a key out of the map. It is an entry, whether or not the key was there. The number is 1
+/// where it was, and else 0.
 ///
 /// A refusal is `NOTHING_HELD`, `FULL` or `NO_MEMORY`, judged in this order, and then the map is as
 /// it was.
 #[unsafe(no_mangle)]
 pub extern "C" fn kuldebiq_map_del(alloc: Global, handle: &mut MapHandle, key: u64) -> Answer
-    ensures done { IsDone result → HasAdded (Del key) handle.old.map handle.new.map }
+    ensures done { IsDone result → HasAdded (Del key ∷ []) handle.old.map handle.new.map }
+    ensures number { (map : Held) (updates : List Update) → handle.old.map ≡ Some map →
+        StandsFor map updates → IsDone result →
+        result ≡ gives (one_if_some (value_at (map_after updates) key)) }
     ensures none { handle.old.map ≡ None → result ≡ refuses NOTHING_HELD 0 }
     ensures full { (map : Held) → handle.old.map ≡ Some map →
         capacity_of map < map.accepted + 1 → result ≡ refuses FULL map.accepted }
     ensures room { (map : Held) → handle.old.map ≡ Some map →
-        map.accepted + 1 ≤ capacity_of map → (result ≡ gives 0) ⊎ (result ≡ refuses NO_MEMORY 0) }
+        map.accepted + 1 ≤ capacity_of map → IsDone result ⊎ (result ≡ refuses NO_MEMORY 0) }
     ensures unchanged { result.status ≢ 0 → handle.new.map ≡ handle.old.map }
 {
     match handle.take(alloc) {
         Some(map) => {
             let mut map = map;
-            let answer = answer_of(map.del(alloc, key));
+            let was_there = map.get(key).is_some();
+            let answer = match map.del(alloc, key) {
+                Ok(()) => given(u64::from(was_there)),
+                Err(fault) => fault_as(fault),
+            };
             handle.put(map);
             answer
         }
         None => refused(NOTHING_HELD, 0),
-    }
-}
-
-/// How an update ended.
-fn answer_of(ended: Result<(), MapFault>) -> Answer
-    ensures { result ≡ ended_as ended }
-{
-    match ended {
-        Ok(()) => given(0),
-        Err(MapFault::Full { accepted }) => refused(FULL, accepted),
-        Err(MapFault::NoMemory) => refused(NO_MEMORY, 0),
     }
 }
 
@@ -159,7 +159,7 @@ pub extern "C" fn kuldebiq_map_sweep(
     low: u64,
     high: u64,
 ) -> Answer
-    ensures done { IsDone result → HasAdded (Sweep low high) handle.old.map handle.new.map }
+    ensures done { IsDone result → HasAdded (Sweep low high ∷ []) handle.old.map handle.new.map }
     ensures number { (map : Held) (updates : List Update) → handle.old.map ≡ Some map →
         StandsFor map updates → IsDone result →
         result.number ≡ count_between (map_after updates) low high }
@@ -179,7 +179,7 @@ pub extern "C" fn kuldebiq_map_sweep(
             let mut map = map;
             let answer = match map.sweep(alloc, low, high) {
                 Ok(count) => given(count),
-                Err(fault) => answer_of(Err(fault)),
+                Err(fault) => fault_as(fault),
             };
             handle.put(map);
             answer
