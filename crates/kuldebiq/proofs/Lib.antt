@@ -3,3 +3,4 @@ pub mod Crossing
 pub mod IndexHandles
 pub mod MapHandles
 pub mod Blocks
+pub mod Applied

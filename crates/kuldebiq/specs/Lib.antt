@@ -5,3 +5,4 @@ pub mod Building
 pub mod Positions
 pub mod Segments
 pub mod Changes
+pub mod Updates

@@ -44,6 +44,9 @@ pub const FULL: u32 = 11;
 /// There is no key at such a place. The number is how many keys there are.
 pub const NO_SUCH_PLACE: u32 = 12;
 
+/// An update is neither a put nor a deletion nor a sweep. The number is the first place of one.
+pub const NO_SUCH_KIND: u32 = 13;
+
 /// What a call answers: how it ended, and a number, which is what was asked for where the call was
 /// done, and else tells why it was refused.
 #[repr(C)]

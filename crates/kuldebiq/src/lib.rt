@@ -21,6 +21,7 @@ mod many;
 mod map_calls;
 mod map_handle;
 mod segment_parts;
+mod updates;
 
 ghost use Rattle.std.specs.Prelude.{◌≡◌};
 
@@ -29,6 +30,7 @@ use index_handle::IndexHandle;
 use map_calls::Pair;
 use map_handle::MapHandle;
 use segment_parts::SegmentParts;
+use updates::UpdateParts;
 
 /// The version of the library: `1_002_003` would be 1.2.3.
 pub const VERSION: u32 = 1_000;
@@ -43,6 +45,8 @@ const _: () = prove!(size_of::<MapHandle>() == 8);
 const _: () = prove!(size_of::<SegmentParts>() == 64);
 
 const _: () = prove!(size_of::<Pair>() == 16);
+
+const _: () = prove!(size_of::<UpdateParts>() == 24);
 
 /// The version of the library, [`VERSION`].
 #[unsafe(no_mangle)]

@@ -1,6 +1,6 @@
 // The calls over a map.
 ghost use Rattle.std.specs.Prelude.{◌≡◌, ◌≢◌, ◌⊎◌, ◌+◌, ◌<◌, ◌≤◌, ◌∷◌};
-ghost use Rattle.std.specs.Prelude.{◌++◌, [], ℕ, ⊤, List, length};
+ghost use Rattle.std.specs.Prelude.{◌++◌, [], ℕ, ⊤, List, length, map, All};
 ghost use Rattle.std.specs.Option.{MatchOption};
 ghost use Rattle.std.specs.declared.option.Option.TheVariants.{None, Some};
 ghost use Rattle.log_levels.specs.declared.update.Update.{Update};
@@ -10,12 +10,14 @@ ghost use Rattle.log_levels.specs.Maps.{map_after, value_at, next_from, count_be
 ghost use Rattle.log_levels.specs.Shapes.{Held, StandsFor, capacity_of};
 ghost use Rattle.kuldebiq.specs.Answers.{gives, refuses, found, IsDone};
 ghost use Rattle.kuldebiq.specs.Changes.{HoldsEmpty, HasAdded, one_if_some};
+ghost use Rattle.kuldebiq.specs.Updates.{IsUpdate, update_of, RefusesUpdates};
 
 use crate::answer::{
     ABSENT, Answer, FULL, LEVELS_OUT_OF_RANGE, NO_MEMORY, NOTHING_HELD, fault_as, found_or_absent,
     given, refused,
 };
 use crate::map_handle::MapHandle;
+use crate::updates::{UpdateParts, apply};
 use log_levels::LogMap;
 use std::alloc::Global;
 
@@ -182,6 +184,39 @@ pub extern "C" fn kuldebiq_map_sweep(
                 Err(fault) => fault_as(fault),
             };
             handle.put(map);
+            answer
+        }
+        None => refused(NOTHING_HELD, 0),
+    }
+}
+
+/// Has the map take updates in order, all or none. The number is how many there are.
+///
+/// A refusal is `NOTHING_HELD`, `NO_SUCH_KIND`, `FULL` or `NO_MEMORY`, the first two judged in this
+/// order, and then the map is as it was.
+#[unsafe(no_mangle)]
+pub extern "C" fn kuldebiq_map_apply(
+    alloc: Global,
+    handle: &mut MapHandle,
+    updates: &[UpdateParts],
+) -> Answer
+    ensures done { IsDone result →
+        HasAdded (map update_of updates.now) handle.old.map handle.new.map }
+    ensures number { IsDone result → result ≡ gives (length updates.now) }
+    ensures none { handle.old.map ≡ None → result ≡ refuses NOTHING_HELD 0 }
+    ensures full { (held : Held) (before : List Update) → handle.old.map ≡ Some held →
+        All IsUpdate updates.now → StandsFor held before →
+        capacity_of held < length (entries_of (before ++ map update_of updates.now)) →
+        (result ≡ refuses FULL held.accepted) ⊎ (result ≡ refuses NO_MEMORY 0) }
+    ensures refused { (held : Held) → handle.old.map ≡ Some held → result.status ≢ 0 →
+        RefusesUpdates held updates.now result }
+    ensures unchanged { result.status ≢ 0 → handle.new.map ≡ handle.old.map }
+{
+    match handle.take(alloc) {
+        Some(held) => {
+            let mut held = held;
+            let answer = apply(alloc, &mut held, updates);
+            handle.put(held);
             answer
         }
         None => refused(NOTHING_HELD, 0),
