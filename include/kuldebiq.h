@@ -1,7 +1,8 @@
 /* Kuldebiq for C and C++: the PGM-index over sorted keys, and an ordered map that changes.
  *
- * Each call below is proved to do what is said of it, if its caller keeps to the rules here. No rule
- * is asked that a call can test: such a condition is tested, and a refusal is a status with a number.
+ * What a call answers, what it writes and what a handle holds then is proved to be what is said below,
+ * if the caller keeps to the rules here. That this header declares the calls of the library, how long
+ * they take and what memory they ask for isn't proved.
  *
  * Handles. A kuldebiq_index or a kuldebiq_map is a variable of yours that holds an index or a map, or
  * nothing. Begin with KULDEBIQ_NOTHING. From then on only the calls change it: don't copy it, nor
@@ -9,22 +10,42 @@
  * holding nothing and may be made again, or by a call that fills it anew. A handle that holds nothing
  * is refused with KULDEBIQ_NOTHING_HELD by each call but these.
  *
- * Pointers. Each pointer is not null, and points to as many values of its type as are said, which lie
- * apart from those of each other pointer of the call; this holds also where the number is 0. Keys and
- * questions are only read, and may be freed once the call has returned. Nothing that a call gives
- * points into what a handle holds.
+ * Pointers. These are rules, since a call is given its pointers as such that aren't null and can't ask
+ * them: each pointer is not null, is aligned as its type, and points to as many values of its type as
+ * are said, which lie apart from those of each other pointer of the call. One that goes with a count
+ * may be null where the count is 0: (NULL, 0) is an empty list in each call. Keys, questions and
+ * updates are only read, nobody writes to them while the call runs, and they may be freed once it has
+ * returned. Nothing that a call gives points into what a handle holds. A compiler that knows the
+ * attribute nonnull warns of a null handle, and -fsanitize=undefined tells one where it is passed.
+ *
+ * All else that a rule could ask is tested, and a refusal is a status with a number. Where several
+ * refusals fit, the first one is told, in the order in which a call names them. What a handle held
+ * when a call was refused it holds still, also when memory wasn't found.
  *
  * Threads. A handle is used by one call at a time, also by a call that only asks. Different handles
  * may be used side by side, also two that share an index (kuldebiq_index_share): a program whose
- * threads ask one index gives each thread a handle. A handle may go to another thread by what orders
- * memory between them, as starting or joining a thread or a lock. No call waits or starts a thread.
+ * threads ask one index gives each thread a handle, in a cache line of its own, since each call writes
+ * to its handle. A handle may go to another thread by what orders memory between them, as starting or
+ * joining a thread or a lock. No call waits or starts a thread.
  *
  * Surroundings. No call is made from a signal handler, or in the forked child of a process with
- * threads, and each finds stack enough. Memory is asked for by malloc, realloc and free, through the
- * three functions of the kit's archive liblibc_c.a: they are of one allocator, and align a block to
- * each power of two up to 16 that divides its size.
+ * threads, and each finds stack enough.
  *
- * Want of memory is a status too, and then what a handle held it holds still.
+ * Memory. The library asks for memory by three functions, which the archive that examples/install.sh
+ * makes has inside, over malloc, realloc and free. A program that links crates/kuldebiq's own archive
+ * may bring its own three; their contract:
+ *
+ *     typedef struct { bool found; void *at; } tried;
+ *     tried rattle_alloc(size_t size, size_t align);
+ *     tried rattle_realloc(void *at, size_t old_size, size_t size, size_t align);
+ *     void rattle_dealloc(void *at);
+ *
+ * align is a power of two, 1 to 16. A block is aligned to each power of two up to 16 that divides its
+ * size. Where memory isn't found, found is false, at is not null and is not used, and a block that was
+ * to grow stands. Where it is, at is the block, also for size 0: then it is one of its own, as of
+ * align bytes, which is given back as any other. rattle_realloc keeps the first bytes of the block, as
+ * many as the lesser size has, and the block at the old place is given back. Each block is given back
+ * once by rattle_dealloc. All three are of one allocator, and don't call this library.
  */
 #ifndef KULDEBIQ_H
 #define KULDEBIQ_H
@@ -34,6 +55,17 @@
 
 #ifdef __cplusplus
 extern "C" {
+#endif
+
+/* The version of this header, as a number and as a text. kuldebiq_version() is the library's. */
+#define KULDEBIQ_VERSION 1000
+#define KULDEBIQ_VERSION_TEXT "0.1.0"
+
+/* The parameters at these places, counted from 1, are not null. */
+#if defined(__GNUC__)
+#define KULDEBIQ_NOT_NULL(places) __attribute__((nonnull places))
+#else
+#define KULDEBIQ_NOT_NULL(places)
 #endif
 
 /* How a call ended, and the number that goes with it. */
@@ -57,14 +89,39 @@ enum {
     KULDEBIQ_NO_SUCH_LEVEL = 7,
     /* There is no such segment. The number is how many segments the level has. */
     KULDEBIQ_NO_SUCH_SEGMENT = 8,
-    /* There isn't room for exactly one answer to each question. The number is for how many there
-       is. */
-    KULDEBIQ_UNEQUAL_LENGTHS = 9,
+    /* There isn't room for an answer to each question. The number is for how many there is. */
+    KULDEBIQ_TOO_LITTLE_ROOM = 9,
     /* A map has 1 to 26 levels. The number is how many were asked for. */
     KULDEBIQ_LEVELS_OUT_OF_RANGE = 10,
     /* The map can't accept as many entries. The number is how many it has accepted. */
-    KULDEBIQ_FULL = 11
+    KULDEBIQ_FULL = 11,
+    /* There is no key at such a place. The number is how many keys there are. */
+    KULDEBIQ_NO_SUCH_PLACE = 12,
+    /* An update is neither a put nor a deletion nor a sweep. The number is the first place, counted
+       from 0, of one. */
+    KULDEBIQ_NO_SUCH_KIND = 13
 };
+
+/* The words of a status. They stand as long as the program. */
+static inline const char *kuldebiq_status_text(uint32_t status) {
+    switch (status) {
+    case KULDEBIQ_DONE: return "done";
+    case KULDEBIQ_NO_MEMORY: return "no memory was found";
+    case KULDEBIQ_NOTHING_HELD: return "the handle holds nothing";
+    case KULDEBIQ_ABSENT: return "there is no such key";
+    case KULDEBIQ_UNSORTED: return "the keys fall";
+    case KULDEBIQ_TOO_MANY_KEYS: return "there are 2^32 keys or more";
+    case KULDEBIQ_EPSILON_TOO_GREAT: return "an error bound is above 1,048,576";
+    case KULDEBIQ_NO_SUCH_LEVEL: return "there is no such level";
+    case KULDEBIQ_NO_SUCH_SEGMENT: return "there is no such segment";
+    case KULDEBIQ_TOO_LITTLE_ROOM: return "there isn't room for each answer";
+    case KULDEBIQ_LEVELS_OUT_OF_RANGE: return "a map has 1 to 26 levels";
+    case KULDEBIQ_FULL: return "the map can't accept as many entries";
+    case KULDEBIQ_NO_SUCH_PLACE: return "there is no key at such a place";
+    case KULDEBIQ_NO_SUCH_KIND: return "an update is neither a put nor a deletion nor a sweep";
+    default: return "no status of this version";
+    }
+}
 
 typedef struct kuldebiq_answer {
     uint32_t status; /* KULDEBIQ_DONE, or why the call was refused */
@@ -90,18 +147,20 @@ typedef struct kuldebiq_map {
  * behind a key that is repeated the number after it, at the position after the last of these keys,
  * unless that number is a key too or has more than 64 bits. The places of a level above are the
  * segments of the level below, each at its first x. The line y0 + rise * (x - x0) / run, in exact
- * fractions, is within the level's error bound of each place of the run. No line is within it at the
- * places p, q and r. */
+ * fractions, is within the level's error bound of each place of the run. It is the steepest one that
+ * is: with x and y of a place and the bound e it goes through (x of a, y of a - e) and (x of b, y of
+ * b + e), and x0 is the x of a. Where the run has one place it is level, at that place's y. No line is
+ * within the bound at the places p, q and r. */
 typedef struct kuldebiq_segment {
     uint32_t start; /* the first place of the run, which goes to the next segment's start */
-    uint32_t a;     /* the lower place of the two by which the line is told */
-    uint32_t b;     /* the upper one, which is a where the run has one place */
+    uint32_t a;     /* the place whose point the line passes by the bound below */
+    uint32_t b;     /* the place whose point it passes by the bound above; a where the run has one */
     uint32_t side;  /* how the place r lies to all lines that fit the run: 1 over the steepest, 2 under
                        the flattest; 0 where the run is the level's last one, and p, q and r are 0 */
     uint32_t p;     /* the first place of a pair in the run */
     uint32_t q;     /* the second place of that pair */
     uint32_t r;     /* the place that the run had to leave out */
-    uint64_t x0;    /* the x at which the line has the height y0 */
+    uint64_t x0;    /* the x of a, at which the line has the height y0 */
     int64_t y0;     /* may be below 0 */
     uint64_t rise;  /* upwards */
     uint64_t run;   /* to the right, at least 1 */
@@ -113,70 +172,129 @@ typedef struct kuldebiq_pair {
     uint64_t value;
 } kuldebiq_pair;
 
+/* What an update does. */
+enum {
+    KULDEBIQ_PUT = 0,  /* puts the value at the key */
+    KULDEBIQ_DEL = 1,  /* takes the key out; the value isn't read */
+    KULDEBIQ_SWEEP = 2 /* takes out the keys from the key to the value, both included */
+};
+
+/* An update of a map, one of many. */
+typedef struct kuldebiq_update {
+    uint32_t kind;  /* KULDEBIQ_PUT, KULDEBIQ_DEL or KULDEBIQ_SWEEP */
+    uint64_t key;   /* the key; of a sweep the lowest one */
+    uint64_t value; /* the value of a put; of a sweep the highest key */
+} kuldebiq_update;
+
+/* Sizes and offsets are those that the library has. */
+#if defined(__cplusplus) && __cplusplus >= 201103L
+#define KULDEBIQ_IS(holds) static_assert(holds, "another layout than the library's")
+#elif !defined(__cplusplus) && defined(__STDC_VERSION__) && __STDC_VERSION__ >= 201112L
+#define KULDEBIQ_IS(holds) _Static_assert(holds, "another layout than the library's")
+#endif
+#ifdef KULDEBIQ_IS
+KULDEBIQ_IS(sizeof(void *) == 8 && sizeof(size_t) == 8);
+KULDEBIQ_IS(sizeof(kuldebiq_answer) == 16 && offsetof(kuldebiq_answer, number) == 8);
+KULDEBIQ_IS(sizeof(kuldebiq_index) == 8 && offsetof(kuldebiq_index, held) == 0);
+KULDEBIQ_IS(sizeof(kuldebiq_map) == 8 && offsetof(kuldebiq_map, held) == 0);
+KULDEBIQ_IS(sizeof(kuldebiq_segment) == 64 && offsetof(kuldebiq_segment, a) == 4);
+KULDEBIQ_IS(offsetof(kuldebiq_segment, b) == 8 && offsetof(kuldebiq_segment, side) == 12);
+KULDEBIQ_IS(offsetof(kuldebiq_segment, p) == 16 && offsetof(kuldebiq_segment, q) == 20);
+KULDEBIQ_IS(offsetof(kuldebiq_segment, r) == 24 && offsetof(kuldebiq_segment, x0) == 32);
+KULDEBIQ_IS(offsetof(kuldebiq_segment, y0) == 40 && offsetof(kuldebiq_segment, rise) == 48);
+KULDEBIQ_IS(offsetof(kuldebiq_segment, run) == 56);
+KULDEBIQ_IS(sizeof(kuldebiq_pair) == 16 && offsetof(kuldebiq_pair, value) == 8);
+KULDEBIQ_IS(sizeof(kuldebiq_update) == 24 && offsetof(kuldebiq_update, key) == 8);
+KULDEBIQ_IS(offsetof(kuldebiq_update, value) == 16);
+#endif
+#undef KULDEBIQ_IS
+
+/* The version of the library, as KULDEBIQ_VERSION is that of this header. */
+uint32_t kuldebiq_version(void);
+
 /* ---- The index ----
  *
  * Levels of segments over sorted keys: level 0 has the fewest segments whose lines are within epsilon
  * of the keys' positions, each level above the fewest within epsilon_above over the first x of those
  * below, and the last level has one. A key may repeat. */
 
-/* Builds the index of the sorted keys, and has the handle hold it. The keys are copied.
+/* Builds the index of the sorted keys, and has the handle hold it. The keys are judged first, before
+ * any memory is asked for, and then copied.
  *
  * epsilon is the error bound of level 0, in positions, and epsilon_above that of the levels above, in
  * places: both are at most 1,048,576. 64 and 4 are good for most keys. The number is how many keys
  * there are. What the handle held before is freed.
  *
- * Refused with KULDEBIQ_EPSILON_TOO_GREAT, KULDEBIQ_TOO_MANY_KEYS, KULDEBIQ_UNSORTED or
- * KULDEBIQ_NO_MEMORY. Where several hold, it isn't proved which of them is told. Then the handle
- * holds what it held. */
+ * Refused with KULDEBIQ_EPSILON_TOO_GREAT (the number is the greater bound), KULDEBIQ_TOO_MANY_KEYS,
+ * KULDEBIQ_UNSORTED or KULDEBIQ_NO_MEMORY, judged in this order. Then the handle holds what it
+ * held. */
 kuldebiq_answer kuldebiq_index_build(kuldebiq_index *index, const uint64_t *keys, size_t count,
-                                     uint32_t epsilon, uint32_t epsilon_above);
+                                     uint32_t epsilon, uint32_t epsilon_above)
+    KULDEBIQ_NOT_NULL((1));
 
 /* Has a second handle hold the index of the first one too, for use by another thread. The number
  * is 0. The index is freed once each handle to it was. What the second handle held before is freed.
  *
  * Refused with KULDEBIQ_NOTHING_HELD or KULDEBIQ_NO_MEMORY. Then the second handle holds what it
  * held. */
-kuldebiq_answer kuldebiq_index_share(kuldebiq_index *index, kuldebiq_index *other);
+kuldebiq_answer kuldebiq_index_share(kuldebiq_index *index, kuldebiq_index *other)
+    KULDEBIQ_NOT_NULL((1, 2));
 
 /* Frees what the handle holds, if anything. It holds nothing then. */
-void kuldebiq_index_free(kuldebiq_index *index);
+void kuldebiq_index_free(kuldebiq_index *index) KULDEBIQ_NOT_NULL((1));
 
 /* The position of a question: the number is how many keys are below it. So it is where the first key
  * is that is not below the question, or the number of keys where there is none.
  *
  * Refused with KULDEBIQ_NOTHING_HELD. */
-kuldebiq_answer kuldebiq_position(kuldebiq_index *index, uint64_t question);
+kuldebiq_answer kuldebiq_position(kuldebiq_index *index, uint64_t question) KULDEBIQ_NOT_NULL((1));
+
+/* How many keys are at most the question: the number. So it is where the first key is that is above
+ * the question, or the number of keys where there is none, as for 2^64 - 1. The keys that equal the
+ * question stand from its position to here.
+ *
+ * Refused with KULDEBIQ_NOTHING_HELD. */
+kuldebiq_answer kuldebiq_position_after(kuldebiq_index *index, uint64_t question)
+    KULDEBIQ_NOT_NULL((1));
+
+/* The number is the key at a place, counted from 0.
+ *
+ * Refused with KULDEBIQ_NOTHING_HELD or KULDEBIQ_NO_SUCH_PLACE. */
+kuldebiq_answer kuldebiq_key_at(kuldebiq_index *index, uint64_t place) KULDEBIQ_NOT_NULL((1));
 
 /* The positions of many questions, which is faster than a call for each. The position of the question
  * at a place is written at the same place. The number is how many there are. The questions may come
- * in any order; room is for how many positions there is room, and has to be their count. It takes
- * memory for at most 4096 positions, and does without where it isn't found.
+ * in any order. room is for how many positions there is room, at least as many as questions: what
+ * lies behind the positions stays. It takes memory for at most 4096 positions, and does without where
+ * it isn't found.
  *
- * Refused with KULDEBIQ_NOTHING_HELD or KULDEBIQ_UNEQUAL_LENGTHS. Then nothing is written. */
+ * Refused with KULDEBIQ_NOTHING_HELD or KULDEBIQ_TOO_LITTLE_ROOM, judged in this order. Then nothing
+ * is written. */
 kuldebiq_answer kuldebiq_positions(kuldebiq_index *index, const uint64_t *questions, size_t count,
-                                   uint32_t *positions, size_t room);
+                                   uint32_t *positions, size_t room) KULDEBIQ_NOT_NULL((1));
 
 /* The number is how many keys there are.
  *
  * Refused with KULDEBIQ_NOTHING_HELD. */
-kuldebiq_answer kuldebiq_index_keys(kuldebiq_index *index);
+kuldebiq_answer kuldebiq_index_keys(kuldebiq_index *index) KULDEBIQ_NOT_NULL((1));
 
 /* The number is how many levels there are, 0 where there is no key.
  *
  * Refused with KULDEBIQ_NOTHING_HELD. */
-kuldebiq_answer kuldebiq_index_levels(kuldebiq_index *index);
+kuldebiq_answer kuldebiq_index_levels(kuldebiq_index *index) KULDEBIQ_NOT_NULL((1));
 
 /* The number is how many segments a level has. Levels are counted from 0, the lowest.
  *
  * Refused with KULDEBIQ_NOTHING_HELD or KULDEBIQ_NO_SUCH_LEVEL. */
-kuldebiq_answer kuldebiq_index_segments(kuldebiq_index *index, uint32_t level);
+kuldebiq_answer kuldebiq_index_segments(kuldebiq_index *index, uint32_t level)
+    KULDEBIQ_NOT_NULL((1));
 
 /* Writes the segment at a place of a level, counted from 0. The number is 0.
  *
  * Refused with KULDEBIQ_NOTHING_HELD, KULDEBIQ_NO_SUCH_LEVEL or KULDEBIQ_NO_SUCH_SEGMENT, judged in
  * this order. Then nothing is written. */
 kuldebiq_answer kuldebiq_index_segment(kuldebiq_index *index, uint32_t level, uint64_t place,
-                                       kuldebiq_segment *segment);
+                                       kuldebiq_segment *segment) KULDEBIQ_NOT_NULL((1, 4));
 
 /* ---- The map ----
  *
@@ -188,55 +306,69 @@ kuldebiq_answer kuldebiq_index_segment(kuldebiq_index *index, uint32_t level, ui
  *
  * Refused with KULDEBIQ_LEVELS_OUT_OF_RANGE or KULDEBIQ_NO_MEMORY. Then the handle holds what it
  * held. */
-kuldebiq_answer kuldebiq_map_new(kuldebiq_map *map, uint32_t levels);
+kuldebiq_answer kuldebiq_map_new(kuldebiq_map *map, uint32_t levels) KULDEBIQ_NOT_NULL((1));
 
 /* Frees what the handle holds, if anything. It holds nothing then. */
-void kuldebiq_map_free(kuldebiq_map *map);
+void kuldebiq_map_free(kuldebiq_map *map) KULDEBIQ_NOT_NULL((1));
 
 /* Puts a value at a key, in the place of the one that was there. The number is 0.
  *
  * Refused with KULDEBIQ_NOTHING_HELD, KULDEBIQ_FULL or KULDEBIQ_NO_MEMORY, judged in this order. Then
  * the map is as it was. */
-kuldebiq_answer kuldebiq_map_put(kuldebiq_map *map, uint64_t key, uint64_t value);
+kuldebiq_answer kuldebiq_map_put(kuldebiq_map *map, uint64_t key, uint64_t value)
+    KULDEBIQ_NOT_NULL((1));
 
-/* Takes a key out of the map, if it is there. The number is 0.
+/* Takes a key out of the map. The number is 1 where it was there, and 0 where it wasn't; either is an
+ * entry.
  *
  * Refused as kuldebiq_map_put is. */
-kuldebiq_answer kuldebiq_map_del(kuldebiq_map *map, uint64_t key);
+kuldebiq_answer kuldebiq_map_del(kuldebiq_map *map, uint64_t key) KULDEBIQ_NOT_NULL((1));
 
 /* Takes the keys from low to high, both included, out of the map. The number is how many they were;
  * none where low is above high.
  *
  * Refused as kuldebiq_map_put is, with KULDEBIQ_FULL where there isn't room for an entry for each. */
-kuldebiq_answer kuldebiq_map_sweep(kuldebiq_map *map, uint64_t low, uint64_t high);
+kuldebiq_answer kuldebiq_map_sweep(kuldebiq_map *map, uint64_t low, uint64_t high)
+    KULDEBIQ_NOT_NULL((1));
+
+/* Has the map take many updates in order, all or none: as one call for each, but faster, and where one
+ * can't be taken the map is as it was. The number is count. It takes memory for a copy of the updates.
+ *
+ * Refused with KULDEBIQ_NOTHING_HELD, KULDEBIQ_NO_SUCH_KIND, KULDEBIQ_FULL or KULDEBIQ_NO_MEMORY; the
+ * first two are judged in this order, and where there isn't room either of the last two is told. Then
+ * the map is as it was. */
+kuldebiq_answer kuldebiq_map_apply(kuldebiq_map *map, const kuldebiq_update *updates, size_t count)
+    KULDEBIQ_NOT_NULL((1));
 
 /* The number is the value at a key.
  *
  * Refused with KULDEBIQ_NOTHING_HELD, or with KULDEBIQ_ABSENT where the map doesn't have the key. */
-kuldebiq_answer kuldebiq_map_get(kuldebiq_map *map, uint64_t key);
+kuldebiq_answer kuldebiq_map_get(kuldebiq_map *map, uint64_t key) KULDEBIQ_NOT_NULL((1));
 
 /* Writes the least key from a key on that the map has, with its value. The number is 0. To go through
  * a map, ask from 0 on, and then from each key plus 1 on, up to the greatest number.
  *
  * Refused with KULDEBIQ_NOTHING_HELD, or with KULDEBIQ_ABSENT where there is no such key. Then nothing
  * is written. */
-kuldebiq_answer kuldebiq_map_next(kuldebiq_map *map, uint64_t from, kuldebiq_pair *pair);
+kuldebiq_answer kuldebiq_map_next(kuldebiq_map *map, uint64_t from, kuldebiq_pair *pair)
+    KULDEBIQ_NOT_NULL((1, 3));
 
 /* The number is how many keys from low to high the map has, both included; none where low is above
  * high. It goes along these keys.
  *
  * Refused with KULDEBIQ_NOTHING_HELD. */
-kuldebiq_answer kuldebiq_map_count(kuldebiq_map *map, uint64_t low, uint64_t high);
+kuldebiq_answer kuldebiq_map_count(kuldebiq_map *map, uint64_t low, uint64_t high)
+    KULDEBIQ_NOT_NULL((1));
 
 /* The number is how many entries were accepted.
  *
  * Refused with KULDEBIQ_NOTHING_HELD. */
-kuldebiq_answer kuldebiq_map_accepted(kuldebiq_map *map);
+kuldebiq_answer kuldebiq_map_accepted(kuldebiq_map *map) KULDEBIQ_NOT_NULL((1));
 
 /* The number is how many entries can be accepted.
  *
  * Refused with KULDEBIQ_NOTHING_HELD. */
-kuldebiq_answer kuldebiq_map_capacity(kuldebiq_map *map);
+kuldebiq_answer kuldebiq_map_capacity(kuldebiq_map *map) KULDEBIQ_NOT_NULL((1));
 
 #ifdef __cplusplus
 }
