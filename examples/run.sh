@@ -1,5 +1,5 @@
 #!/usr/bin/env bash
-# Builds the archive, and builds and runs the examples over it: as they are, and once more with the
+# Installs the library for itself, and builds and runs the examples over it: as they are, and once more with the
 # sanitizers for addresses and for undefined behaviour. A part whose compiler isn't there is skipped.
 set -eu
 cd "$(dirname "$0")/.."
@@ -15,13 +15,14 @@ fi
 log=$(mktemp)
 made=$(mktemp -d)
 trap 'rm -rf "$log" "$made"' EXIT
-if ! (cd crates/kuldebiq && rt lib) >"$log" 2>&1; then
+prefix=$made/kuldebiq
+if ! examples/install.sh "$prefix" >"$log" 2>&1; then
     tail -n 20 "$log"
-    echo "examples: the archive wasn't built"
+    echo "examples: the library wasn't built"
     exit 1
 fi
-archive=(crates/kuldebiq/out/libkuldebiq.a "$(dirname "$(rt doc)")/c/liblibc_c.a")
-flags=(-Wall -Wextra -Werror -O2 -Iinclude)
+archive=$prefix/lib/libkuldebiq.a
+flags=(-Wall -Wextra -Wpedantic -Werror -O2 "-I$prefix/include")
 
 # Whether the compiler makes programs with sanitizers here.
 sanitizes() {
@@ -35,7 +36,7 @@ try() {
     local compiler=$1 source=$2 words=$3 name
     shift 3
     name=$(basename "$source")
-    "$compiler" "${flags[@]}" "$@" "$source" "${archive[@]}" -o "$made/program"
+    "$compiler" "${flags[@]}" "$@" "$source" "$archive" -o "$made/program"
     # The words are separate ones.
     # shellcheck disable=SC2086
     if ! "$made/program" $words >"$made/output"; then
@@ -59,17 +60,34 @@ both() {
     fi
 }
 
+# The shared object exports the calls alone, and pkg-config finds it.
+if nm -D --defined-only "$prefix/lib/libkuldebiq.so" | grep -v ' T kuldebiq_'; then
+    echo "examples: the shared object exports other names too"
+    exit 1
+fi
+if have pkg-config; then
+    export PKG_CONFIG_PATH=$prefix/lib/pkgconfig
+    # The words are separate ones.
+    # shellcheck disable=SC2046
+    "$cc" examples/c/walk.c $(pkg-config --cflags --libs kuldebiq) -o "$made/walk"
+    "$made/walk" | diff examples/c/walk.out -
+fi
+
 both "$cc" examples/c/walk.c "" -std=c11
 both "$cc" examples/c/no_memory.c "" -std=c11
 ran="C"
 if have "$cxx"; then
     both "$cxx" examples/cpp/walk.cpp "" -std=c++17
-    both "$cxx" examples/cpp/compare.cpp 50000 -std=gnu++17 -pthread
+    both "$cxx" examples/cpp/compare.cpp 50000 -std=gnu++17 -pthread -Wno-pedantic
+    both "$cxx" examples/cpp/threads.cpp 20000 -std=c++17 -pthread
     ran="$ran, C++"
 fi
 if have python3; then
-    "$cc" -shared -o "$made/libkuldebiq.so" -Wl,--whole-archive "${archive[@]}" -Wl,--no-whole-archive
-    PYTHONDONTWRITEBYTECODE=1 KULDEBIQ="$made/libkuldebiq.so" python3 examples/python/walk.py >"$made/output"
+    # The package carries the shared object.
+    python3 examples/python/wheel.py "$prefix/lib/libkuldebiq.so" "$made" >/dev/null
+    python3 -m zipfile -e "$made"/kuldebiq-*.whl "$made/package"
+    PYTHONDONTWRITEBYTECODE=1 PYTHONPATH=$made/package python3 -c \
+        'import runpy; runpy.run_path("examples/python/walk.py")' >"$made/output"
     diff examples/python/walk.out "$made/output"
     ran="$ran, Python"
 fi

@@ -8,7 +8,7 @@
 /* The number of a call that was done. Ends the program at one that was refused. */
 static uint64_t number(const char *call, kuldebiq_answer answer) {
     if (answer.status != KULDEBIQ_DONE) {
-        fprintf(stderr, "%s: status %" PRIu32 ", number %" PRIu64 "\n", call, answer.status,
+        fprintf(stderr, "%s: %s (%" PRIu64 ")\n", call, kuldebiq_status_text(answer.status),
                 answer.number);
         exit(1);
     }
@@ -31,7 +31,7 @@ static void ask(void) {
     const uint64_t falling[] = {1, 4, 3};
     kuldebiq_answer refused = kuldebiq_index_build(&index, falling, 3, 64, 4);
     if (refused.status != KULDEBIQ_UNSORTED) exit(1);
-    printf("falls at %" PRIu64 "\n", refused.number);
+    printf("refused: %s (%" PRIu64 ")\n", kuldebiq_status_text(refused.status), refused.number);
     kuldebiq_index_free(&index);
 }
 
@@ -42,6 +42,8 @@ static void walk(void) {
         number("put", kuldebiq_map_put(&map, key, key * key));
     }
     number("del", kuldebiq_map_del(&map, 20));
+    const kuldebiq_update updates[] = {{KULDEBIQ_PUT, 70, 4900}, {KULDEBIQ_DEL, 10, 0}};
+    printf("applied %" PRIu64 "\n", number("apply", kuldebiq_map_apply(&map, updates, 2)));
     printf("swept %" PRIu64 "\n", number("sweep", kuldebiq_map_sweep(&map, 35, 55)));
     uint64_t from = 0;
     kuldebiq_pair pair;

@@ -9,6 +9,7 @@
 #include <iterator>
 #include <map>
 #include <random>
+#include <sys/mman.h>
 #include <thread>
 #include <utility>
 #include <vector>
@@ -60,7 +61,8 @@ Keys random_questions(std::mt19937_64 &random, const Keys &keys) {
 }
 
 void compare_positions(kuldebiq_index &index, const Keys &keys, const Keys &questions) {
-    std::vector<std::uint32_t> positions(questions.size());
+    // Room for three more, which stays as it is.
+    std::vector<std::uint32_t> positions(questions.size() + 3, 7);
     expect(gives(kuldebiq_positions(&index, questions.data(), questions.size(), positions.data(),
                                     positions.size()),
                  questions.size()),
@@ -69,7 +71,17 @@ void compare_positions(kuldebiq_index &index, const Keys &keys, const Keys &ques
         const std::uint64_t want = below(keys, questions[i]);
         expect(positions[i] == want, "one of many positions");
         expect(gives(kuldebiq_position(&index, questions[i]), want), "a position");
+        const auto after = std::upper_bound(keys.begin(), keys.end(), questions[i]);
+        expect(gives(kuldebiq_position_after(&index, questions[i]),
+                     std::uint64_t(after - keys.begin())),
+               "how many keys are at most a question");
     }
+    expect(std::count(positions.end() - 3, positions.end(), 7U) == 3, "what lies behind positions");
+    for (std::size_t i = 0; i < keys.size(); i++) {
+        expect(gives(kuldebiq_key_at(&index, i), keys[i]), "a key");
+    }
+    expect(is(kuldebiq_key_at(&index, keys.size()), KULDEBIQ_NO_SUCH_PLACE, keys.size()),
+           "a key past the last one");
 }
 
 // Two threads, each with a handle of its own to the same index.
@@ -117,6 +129,15 @@ void compare_lines(kuldebiq_index &index, const Keys &keys) {
             end = next.start;
         }
         expect((one.side == 0) == (i + 1 == count), "which segment has no witness");
+        // The line is that of a and b, x0 the x of a.
+        const std::uint64_t bound_at = one.a == one.b ? 0 : EPSILON;
+        expect(one.x0 == points[one.a].first &&
+                   __int128(one.y0) == __int128(points[one.a].second) - __int128(bound_at),
+               "where a line begins");
+        expect(one.a == one.b || (one.run == points[one.b].first - one.x0 &&
+                                  one.rise == points[one.b].second + 2 * bound_at -
+                                                  points[one.a].second),
+               "where a line leads");
         for (std::size_t j = one.start; j < end; j++) {
             const __int128 off = (__int128(one.y0) - __int128(points[j].second)) * one.run +
                                  (__int128(points[j].first) - __int128(one.x0)) * one.rise;
@@ -138,9 +159,21 @@ void compare_refusals(kuldebiq_index &index, const Keys &keys) {
     };
     expect(is(build(EPSILON, EPSILON_ABOVE), KULDEBIQ_UNSORTED, 3), "where keys fall");
     expect(is(build(1048577, 0), KULDEBIQ_EPSILON_TOO_GREAT, 1048577), "a great bound");
-    expect(is(build(0, 1048577), KULDEBIQ_EPSILON_TOO_GREAT, 1048577), "a great bound above");
-    expect(is(kuldebiq_positions(&index, keys.data(), 3, room, 2), KULDEBIQ_UNEQUAL_LENGTHS, 2),
+    expect(is(build(1048577, 1048578), KULDEBIQ_EPSILON_TOO_GREAT, 1048578), "the greater bound");
+    // Too many keys, of which none is read nor copied: so the system need not find them.
+    const std::size_t many = std::size_t(1) << 32;
+    void *const nowhere = mmap(nullptr, many * sizeof(std::uint64_t), PROT_READ,
+                               MAP_PRIVATE | MAP_ANONYMOUS | MAP_NORESERVE, -1, 0);
+    if (nowhere != MAP_FAILED) {
+        const auto *const zeros = static_cast<const std::uint64_t *>(nowhere);
+        expect(is(kuldebiq_index_build(&index, zeros, many, EPSILON, 0), KULDEBIQ_TOO_MANY_KEYS, many),
+               "too many keys");
+        munmap(nowhere, many * sizeof(std::uint64_t));
+    }
+    expect(is(kuldebiq_positions(&index, keys.data(), 3, room, 2), KULDEBIQ_TOO_LITTLE_ROOM, 2),
            "room for too few");
+    expect(is(kuldebiq_positions(&none, keys.data(), 3, room, 2), KULDEBIQ_NOTHING_HELD, 0),
+           "nothing to ask, before the room");
     expect(is(kuldebiq_position(&none, 5), KULDEBIQ_NOTHING_HELD, 0), "nothing held");
     expect(is(kuldebiq_index_share(&none, &index), KULDEBIQ_NOTHING_HELD, 0), "nothing to share");
     kuldebiq_index_free(&none);
@@ -162,8 +195,11 @@ void compare_index(std::mt19937_64 &random, std::size_t count) {
     compare_in_threads(index, keys, questions);
     compare_lines(index, keys);
     compare_refusals(index, keys);
-    expect(gives(kuldebiq_index_build(&index, keys.data(), 0, EPSILON, EPSILON_ABOVE), 0), "no keys");
+    expect(gives(kuldebiq_positions(&index, nullptr, 0, nullptr, 0), 0), "no questions");
+    expect(gives(kuldebiq_index_build(&index, nullptr, 0, EPSILON, EPSILON_ABOVE), 0), "no keys");
     expect(gives(kuldebiq_position(&index, 5), 0), "a position among no keys");
+    expect(gives(kuldebiq_position_after(&index, UINT64_MAX), 0), "and how many there are");
+    expect(is(kuldebiq_key_at(&index, 0), KULDEBIQ_NO_SUCH_PLACE, 0), "a key of none");
     kuldebiq_index_free(&index);
     kuldebiq_index_free(&index);
 }
@@ -180,8 +216,8 @@ std::uint64_t update(kuldebiq_map &map, Wanted &wanted, std::uint64_t number, st
         return count;
     }
     if (number % 3 == 0) {
-        wanted.erase(key);
-        expect(gives(kuldebiq_map_del(&map, key), 0), "a deletion");
+        const std::uint64_t was_there = wanted.erase(key);
+        expect(gives(kuldebiq_map_del(&map, key), was_there), "a deletion");
     } else {
         wanted[key] = number;
         expect(gives(kuldebiq_map_put(&map, key, number), 0), "a put");
@@ -229,6 +265,45 @@ void compare_map(std::mt19937_64 &random, std::size_t count) {
     kuldebiq_map_free(&map);
 }
 
+// Many updates at once, beside the same ones one by one.
+void compare_applied(std::mt19937_64 &random, std::size_t count) {
+    kuldebiq_map map = KULDEBIQ_NOTHING, other = KULDEBIQ_NOTHING;
+    expect(is(kuldebiq_map_apply(&map, nullptr, 0), KULDEBIQ_NOTHING_HELD, 0), "no map to update");
+    expect(gives(kuldebiq_map_new(&map, 16), 64 * 65536 - 1), "new");
+    expect(gives(kuldebiq_map_new(&other, 16), 64 * 65536 - 1), "new");
+    expect(gives(kuldebiq_map_apply(&map, nullptr, 0), 0), "no updates");
+    std::vector<kuldebiq_update> updates;
+    Wanted wanted;
+    const std::uint64_t top = count / 3 + 1;
+    for (std::uint64_t number = 0; number < count; number++) {
+        const std::uint64_t key = random() % top;
+        update(other, wanted, number, key);
+        if (number % 1000 == 0) {
+            updates.push_back({KULDEBIQ_SWEEP, key, key + 100});
+        } else {
+            updates.push_back({std::uint32_t(number % 3 == 0 ? KULDEBIQ_DEL : KULDEBIQ_PUT), key, number});
+        }
+    }
+    updates.push_back({3, 0, 0});
+    expect(is(kuldebiq_map_apply(&map, updates.data(), updates.size()), KULDEBIQ_NO_SUCH_KIND, count),
+           "what is no update");
+    expect(gives(kuldebiq_map_accepted(&map), 0), "that the map stands");
+    expect(gives(kuldebiq_map_apply(&map, updates.data(), count), count), "many updates");
+    std::uint64_t from = 0;
+    kuldebiq_pair pair{};
+    for (const auto &want : wanted) {
+        expect(gives(kuldebiq_map_next(&map, from, &pair), 0) && pair.key == want.first &&
+                   pair.value == want.second,
+               "a walk after many updates");
+        from = pair.key + 1;
+    }
+    expect(is(kuldebiq_map_next(&map, from, &pair), KULDEBIQ_ABSENT, 0), "its end");
+    expect(kuldebiq_map_accepted(&map).number == kuldebiq_map_accepted(&other).number,
+           "how many many updates are");
+    kuldebiq_map_free(&map);
+    kuldebiq_map_free(&other);
+}
+
 // A map of one level accepts 127 entries, and stands where it is full.
 void compare_full() {
     kuldebiq_map map = KULDEBIQ_NOTHING;
@@ -237,7 +312,10 @@ void compare_full() {
         expect(gives(kuldebiq_map_put(&map, key, key), 0), "a put in a small map");
     }
     expect(is(kuldebiq_map_sweep(&map, 3, 4), KULDEBIQ_FULL, 126), "no room for a sweep");
-    expect(gives(kuldebiq_map_del(&map, 3), 0), "the last entry");
+    const kuldebiq_update two[] = {{KULDEBIQ_DEL, 1, 0}, {KULDEBIQ_PUT, 200, 1}};
+    expect(is(kuldebiq_map_apply(&map, two, 2), KULDEBIQ_FULL, 126), "no room for two updates");
+    expect(gives(kuldebiq_map_get(&map, 1), 1), "that neither was taken");
+    expect(gives(kuldebiq_map_del(&map, 3), 1), "the last entry");
     expect(is(kuldebiq_map_put(&map, 3, 3), KULDEBIQ_FULL, 127), "no room for a put");
     expect(gives(kuldebiq_map_count(&map, 0, 200), 125), "that the map stands");
     kuldebiq_map_free(&map);
@@ -250,7 +328,9 @@ int main(int words, char **word) {
     std::mt19937_64 random(20260801);
     compare_index(random, count);
     compare_map(random, count);
+    compare_applied(random, count);
     compare_full();
+    expect(kuldebiq_version() == KULDEBIQ_VERSION, "the version");
     std::cout << "no difference\n";
     return 0;
 }

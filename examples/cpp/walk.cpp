@@ -10,8 +10,8 @@
 // The number of a call that was done. Throws at one that was refused.
 static std::uint64_t number(kuldebiq_answer answer) {
     if (answer.status != KULDEBIQ_DONE) {
-        throw std::runtime_error("status " + std::to_string(answer.status) + ", number " +
-                                 std::to_string(answer.number));
+        throw std::runtime_error(kuldebiq_status_text(answer.status) + std::string(" (") +
+                                 std::to_string(answer.number) + ')');
     }
     return answer.number;
 }
