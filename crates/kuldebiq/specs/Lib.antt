@@ -1,6 +1,5 @@
 pub mod Owned
 pub mod Answers
-pub mod Judged
 pub mod Building
 pub mod Positions
 pub mod Segments

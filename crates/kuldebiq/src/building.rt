@@ -4,10 +4,10 @@ ghost use Rattle.kuldebiq.specs.Answers.{refuses};
 ghost use Rattle.kuldebiq.specs.Building.{CanBeIndexed, IsIndexOf, IsRefusal, refused_as};
 
 use crate::answer::{Answer, EPSILON_TOO_GREAT, NO_MEMORY, TOO_MANY_KEYS, UNSORTED, refused};
-use crate::judging::judge;
 use crate::kept_index::KeptIndex;
 use budget::NoMemory;
 use exact_cross::MAX_EPSILON;
+use key_points::judge;
 use levels::{Index, Keys, KeysFault};
 use std::alloc::Global;
 

@@ -14,7 +14,6 @@ mod answer;
 mod building;
 mod index_calls;
 mod index_handle;
-mod judging;
 mod kept_index;
 mod loose;
 mod many;
