@@ -4,8 +4,10 @@
 //! FILE` each segment too, with three places that show why it ends, `query FILE SCRIPT` how many
 //! keys are below each question of the script, `relax FILE SCRIPT` both, of an index whose pieces
 //! aren't joined, `box FILE SCRIPT` the points in each box of the script, `near FILE SCRIPT` those
-//! nearest to each centre, `replay SCRIPT` what a map says after the updates of the script, `save
-//! FILE` the index as bytes, and `check FILE INDEX` whether such bytes are the index of the keys.
+//! nearest to each centre, `replay SCRIPT` what a map says beside the updates of the script and
+//! after them, `mix SCRIPT` the same where senders send the updates, `save FILE` the index as
+//! bytes, `check FILE INDEX` whether such bytes are the index of the keys, and `drill N SEED` what
+//! is counted of drawn keys, questions, points and updates.
 //! Of the keys 0, 1, 2, 10, `explain` writes with both bounds 0:
 //!
 //! ```text
