@@ -224,6 +224,28 @@ def building(runs):
                                   "Bytes of the file", "Bytes a run"], second)
 
 
+def questions(runs):
+    rows = []
+    for kind in runs.kinds():
+        keys, asked_for = runs.keys(kind), runs.questions(kind)
+        script = runs.file(f"{asked_for.stem}.finds", "finds", asked_for)
+        times, texts = {}, {}
+        sides = {"by itself": (runs.rival("questions"), (keys, script))}
+        for workers in (1, 4):
+            words = "query", keys, script, "--workers", workers
+            sides[f"query {workers}"] = runs.pgmtool, words
+        for _ in runs.rounds():
+            for side, (program, words) in sides.items():
+                path = runs.made / "answers"
+                with open(path, "wb") as file:
+                    least(times, side, runs.wall(program, *words, out=file))
+                texts[side] = hashlib.sha256(path.read_bytes()).hexdigest()
+        agree(kind, texts)
+        rows.append([kind, *(f"{times[side]:.3f}" for side in ("query 1", "query 4", "by itself"))])
+    write(runs, "a script of questions", ["seconds, with huge pages", "`query`, 1", "4",
+                                          "C++, halving, 16"], rows)
+
+
 def segmenting(runs):
     bounds, rows, by_workers = (4, 16, 64, 256), [], []
     for kind in runs.kinds():
@@ -444,8 +466,8 @@ def write(runs, name, head, rows):
 
 
 PARTS = {"lookups": lookups, "memory": memory, "building": building, "segmenting": segmenting,
-         "boxes": boxes, "nearest": nearest, "map": ordered_map, "readers": readers,
-         "senders": senders, "explain": explain}
+         "questions": questions, "boxes": boxes, "nearest": nearest, "map": ordered_map,
+         "readers": readers, "senders": senders, "explain": explain}
 
 
 def main():
