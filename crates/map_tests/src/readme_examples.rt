@@ -5,6 +5,7 @@ use crate::tombstones_rows::{del, put};
 use boxes::Boxes;
 use cut_witness::check_cover;
 use levels::{Index, Keys, OpenGate};
+use lines::{lines_of, position, upper_bound};
 use log_levels::{LogMap, Update};
 use map_level::{HashedKey, Here, Level, latest_of};
 use published::{PlainDoor, start_map};
@@ -19,6 +20,17 @@ fn levels_example(rt: HostRuntime) -> Result<(), Fail> {
     let index = Index::of(rt.alloc(), keys, 64, 4)?;
     assert_eq!(rt; index.position(9), 2);
     assert_eq!(rt; index.position(10), 4);
+    Ok(())
+}
+
+#[test]
+fn lines_example(rt: HostRuntime) -> Result<(), Fail> {
+    let list = vec![in rt.alloc(); 1, 4, 9, 9, 16]?;
+    let keys = list.as_slice();
+    let words = lines_of(rt.alloc(), keys, 1)?;
+    assert_eq!(rt; position(keys, &words, 9), 2);
+    assert_eq!(rt; upper_bound(keys, &words, 9), 4);
+    assert_eq!(rt; position(keys, &[], 9), 2);
     Ok(())
 }
 
