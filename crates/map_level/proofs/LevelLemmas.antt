@@ -1,7 +1,7 @@
 -- The keys of a level, and what it has at a key.
 use Rattle.std.proofs.Common.{◌≡◌, ℕ, ◌+◌, ◌-◌, ◌<◌, ◌≤◌, List, length, slice_index_or, Option, Some, None, refl, sym, ap, ◌∙◌, inl, inr, arith}
 use Rattle.std.proofs.lemmas.List.{length-map, get_or-map, get_or_default}
-use Rattle.std.proofs.lemmas.Bool.{cases_lt, cases_eq, cases_order}
+use Rattle.std.proofs.lemmas.Bool.{cases_lt, cases_order}
 use Rattle.std.specs.List.Sorted.{IsNonDecreasing}
 use Rattle.tombstones.specs.declared.entry.Entry.{Entry}
 use Rattle.tombstones.specs.Entries.{IsAscending, entry_at}
@@ -113,47 +113,6 @@ missing-between entries from j ascending le below = go (entry_at entries j) refl
           | inr at_least ↦ absurd (omega (arith, below (omega arith), keys-never_fall entries ascending place i 0 at_least (omega arith)))
         ]
 
--- where no key is from one bound to another, both have one place
-pub place-stays : (entries : List Entry) (from to : ℕ) → IsAscending entries → from ≤ to → ((j : ℕ) → from ≤ j → j < to → entry_at entries j ≡ None) → lb (level_keys entries) from ≡ lb (level_keys entries) to
-place-stays entries from to ascending le none =
-    let bound = IsLowerBound-lb (level_keys entries) from (keys-never_fall entries ascending) in
-    sym (lb-is (level_keys entries) to (lb (level_keys entries) from) bound.within (λ k before. omega (arith, bound.before k before))
-    (λ k past inside. above k past inside (bound.from k past inside)))
-  where
-    above : (k : ℕ) → lb (level_keys entries) from ≤ k → k < length (level_keys entries) → from ≤ slice_index_or (level_keys entries) k 0 → to ≤ slice_index_or (level_keys entries) k 0
-    above k past inside low = elim (cases_lt (slice_index_or (level_keys entries) k 0) to) [
-      | inr at_least ↦ at_least
-      | inl less ↦
-          let e = slice_index_or entries k no_entry in
-          let fits : k < length entries = omega (arith, length-level_keys entries) in
-          let key : slice_index_or (level_keys entries) k 0 ≡ e.key = key-at entries k 0 no_entry fits in
-          let has = entry_at-Contains entries e ascending (k, fits, get_or_default entries k e no_entry fits) in
-          let hasnt = none e.key (omega arith) (omega arith) in
-          let apart : Some e ≡ None = sym has ∙ hasnt in
-          cc
-    ]
-
--- past its key an entry is passed
-pub place-next : (entries : List Entry) (key : ℕ) → IsAscending entries → lb (level_keys entries) key < length entries → slice_index_or (level_keys entries) (lb (level_keys entries) key) 0 ≡ key
-    → lb (level_keys entries) (key + 1) ≡ lb (level_keys entries) key + 1
-place-next entries key ascending inside here =
-    let bound = IsLowerBound-lb (level_keys entries) key (keys-never_fall entries ascending) in
-    let place = lb (level_keys entries) key in
-    let count = length-level_keys entries in
-    lb-is (level_keys entries) (key + 1) (place + 1) (omega arith) (λ k before. elim (cases_lt k place) [
-      | inl less ↦ omega (arith, bound.before k less)
-      | inr at_least ↦ let same : place ≡ k = omega arith in omega (arith, ap (λ i. slice_index_or (level_keys entries) i 0) same)
-    ]) (λ k past inside'. omega (arith, keys-rise entries ascending place k 0 (omega arith) inside'))
-
--- the key at a bound's place isn't below the bound
-pub key-above : (list entries : List Entry) (from place : ℕ) → list ≡ entries → IsAscending entries → place ≡ lb (level_keys entries) from → place < length list
-    → from ≤ (slice_index_or list place no_entry).key
-key-above list entries from place same ascending at inside =
-    let bound = IsLowerBound-lb (level_keys entries) from (keys-never_fall entries ascending) in
-    let size = ap (λ (l : List Entry). length l) same in
-    let fits : place < length entries = omega (arith, inside, size) in
-    omega (arith, bound.from place (omega (arith, at)) (omega (arith, fits, length-level_keys entries)), key-at entries place 0 no_entry fits, ap (λ (l : List Entry). (slice_index_or l place no_entry).key) same)
-
 -- no key is between the bound and that key
 pub key-between : (list entries : List Entry) (from place j : ℕ) → list ≡ entries → IsAscending entries → place ≡ lb (level_keys entries) from → from ≤ j
     → (place < length list → j < (slice_index_or list place no_entry).key) → entry_at entries j ≡ None
@@ -227,16 +186,3 @@ key-behind list entries bound place j same ascending at missing le above = go (e
               let equal : j ≡ bound = omega (arith, lower.from i (omega arith) (omega arith)) in
               ap (entry_at entries) equal ∙ missing
         ]
-
--- the place of the next key, by whether there is an entry with the key
-pub next-some : (entries : List Entry) (key : ℕ) (e : Entry) → IsAscending entries → entry_at entries key ≡ Some e → (lb (level_keys entries) key < length entries) × (lb (level_keys entries) (key + 1) ≡ lb (level_keys entries) key + 1)
-next-some entries key e ascending found = elim (cases_lt (lb (level_keys entries) key) (length entries)) [
-  | inr past ↦ let apart : Some e ≡ None = sym found ∙ missing-past entries key ascending past in cc
-  | inl inside ↦ elim (cases_eq (slice_index_or (level_keys entries) (lb (level_keys entries) key) 0) key) [
-    | inl here ↦ (inside, place-next entries key ascending inside here)
-    | inr other ↦ let apart : Some e ≡ None = sym found ∙ missing-at entries key ascending (λ inside here. other here) in cc
-  ]
-]
-
-pub next-none : (entries : List Entry) (key : ℕ) → IsAscending entries → entry_at entries key ≡ None → lb (level_keys entries) (key + 1) ≡ lb (level_keys entries) key
-next-none entries key ascending absent = sym (place-stays entries key (key + 1) ascending (omega arith) (λ j from to. let same : key ≡ j = omega arith in ap (entry_at entries) (sym same) ∙ absent))

@@ -155,21 +155,6 @@ impl Level {
         Some(&entries[place])
     }
 
-    /// The least key from `from` on, which is at this place, if there is one.
-    #[inline]
-    pub fn key_from(&self, place: usize, from: u128) -> Option<u64>
-        requires { place ≡ lb (level_keys self.now) from }
-        ensures from { IfSome result (λ key. from ≤ key) }
-        ensures least { (key : ℕ) → from ≤ key → IsBelow key result →
-            entry_at self.now key ≡ None }
-    {
-        let entries = self.entries();
-        if place >= entries.len() {
-            return None;
-        }
-        Some(entries[place].key)
-    }
-
     /// The key at a place, if there is one: at the place of a bound the least key from the bound on.
     #[inline]
     pub fn key_at(&self, place: usize) -> Option<u64>
@@ -201,19 +186,6 @@ impl Level {
             return None;
         }
         Some(entries[place - 1].key)
-    }
-
-    /// The place of `key + 1`, by that of `key`.
-    #[inline]
-    pub fn place_past(&self, place: usize, key: u64) -> usize
-        requires { place ≡ lb (level_keys self.now) key }
-        ensures { result ≡ lb (level_keys self.now) (key + 1) }
-    {
-        let _ = self.entries();
-        match self.entry_from(place, key) {
-            Some(_) => place + 1,
-            None => place,
-        }
     }
 
     /// The one index of the keys, with the error bounds [`EPS`] and [`EPS_REC`].

@@ -1,5 +1,4 @@
-use Rattle.std.proofs.Common.{ap, ◌∙◌, arith}
-use Rattle.tombstones.specs.declared.entry.Entry.{Entry}
+use Rattle.std.proofs.Common.{arith}
 use Rattle.map_level.proofs.LevelLemmas.{key-between, key-read}
 use Rattle.map_level.proofs.level.Level.key_at.Goals as goal
 
