@@ -233,8 +233,8 @@ previous-is low (pair ∷ pairs) q key value (from, rest) le is none = elim (cas
   | inr (inr greater) ↦
       previous-cons pair pairs q
       ∙ ap (λ found. option_or found (if leb pair.0 q then Some pair else None))
-        (previous-is (pair.0 + 1) pairs q key value rest le (sym (value-later pair pairs key (λ same. absurd (omega arith))) ∙ is)
-        (λ other above at_most. sym (value-later pair pairs other (λ same. absurd (omega arith))) ∙ none other above at_most))
+      (previous-is (pair.0 + 1) pairs q key value rest le (sym (value-later pair pairs key (λ same. absurd (omega arith))) ∙ is)
+      (λ other above at_most. sym (value-later pair pairs other (λ same. absurd (omega arith))) ∙ none other above at_most))
 ]
   where
     pair-is : (pair : ℕ × ℕ) (key value : ℕ) → pair.0 ≡ key → Some pair.1 ≡ Some value → Some pair ≡ Some (key, value)

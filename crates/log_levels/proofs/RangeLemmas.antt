@@ -17,7 +17,7 @@ drop-one pairs n pair left inside is =
     (ap (λ (l : List (ℕ × ℕ)). get_or l 0 pair) both, ap (λ (l : List (ℕ × ℕ)). drop 1 l) both)
 
 pub written-none : (pairs left old : List (ℕ × ℕ)) → pairs ≡ left → IsWritten pairs left old old 0
-written-none pairs left old is = record { same_room = refl; counted = omega arith; fits = omega arith; written = refl; behind = refl; left_is = is; }
+written-none pairs left old is = record { same_room = refl; counted = omega arith; fits = omega arith; written = refl; behind = refl; left_is = is }
 
 pub written-more : (pairs left later now old : List (ℕ × ℕ)) (count : ℕ) (pair : ℕ × ℕ) → IsWritten pairs left now old count → count < length now → left ≡ pair ∷ later
     → IsWritten pairs later (slice_set now count pair) old (count + 1)

@@ -130,9 +130,14 @@ behind-passed held places low key i ascends fits behind at = record {
         let (from, (within, place)) = behind.each j level inside is in
         let (some, has) = at.stands level (ap (level_of held) here ∙ is) in
         let there : slice_index places i ≡ slice_index places j = ap (slice_index places) here in
-        let (above, past) = place-passed level from (slice_index places i) key (ascends level (ap (level_of held) here ∙ is)) (there ∙ place) some has in
-        (key + 1, (omega arith, ap (λ k. slice_index (slice_set places i (slice_index places i + 1)) k) (sym here)
-        ∙ get_or-set_same places i (slice_index places i + 1) 0 (omega (arith, fits, behind.count)) ∙ past))
+        let (above, past) = place-passed level from (slice_index places i) key (ascends level (ap (level_of held) here ∙ is)) (there ∙ place) some has in (
+          key + 1,
+          (
+            omega arith,
+            ap (λ k. slice_index (slice_set places i (slice_index places i + 1)) k) (sym here)
+                ∙ get_or-set_same places i (slice_index places i + 1) 0 (omega (arith, fits, behind.count)) ∙ past,
+          ),
+        )
     | inr other ↦
         let (from, (within, place)) = behind.each j level inside is in
         (from, (omega arith, get_or-set_other places i j (slice_index places i + 1) 0 (λ same. other (sym same)) ∙ place))

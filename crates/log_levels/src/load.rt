@@ -29,11 +29,7 @@ impl LogMap {
     ///   first.
     /// - `Full` where the pairs are more than `64 * 2^levels - 1`. It is judged next.
     /// - `NoMemory` where memory wasn't found.
-    pub fn of_sorted(
-        alloc: Global,
-        levels: u32,
-        pairs: &[(u64, u64)],
-    ) -> Result<LogMap, LoadFault>
+    pub fn of_sorted(alloc: Global, levels: u32, pairs: &[(u64, u64)]) -> Result<LogMap, LoadFault>
         requires some { 1 ≤ levels }
         requires few { levels ≤ 26 }
         ensures puts { IfOk result (λ map. StandsFor map (puts_of pairs.now)) }

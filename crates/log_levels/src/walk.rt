@@ -223,13 +223,7 @@ fn next_of(buffered: Option<Entry>, found: Option<(u64, usize)>) -> Option<Entry
 {
     let entry = buffered?;
     match found {
-        Some((least, _)) => {
-            if least < entry.key {
-                None
-            } else {
-                Some(entry)
-            }
-        }
+        Some((least, _)) => { if least < entry.key { None } else { Some(entry) } }
         None => Some(entry),
     }
 }

@@ -139,27 +139,28 @@ pub place-passed : (entries : List Entry) (from place key : ℕ) → IsAscending
 place-passed entries from place key ascending at inside is =
     let bound = IsLowerBound-lb (level_keys entries) from (keys-never_fall entries ascending) in
     let count = length-level_keys entries in
-    let above : from ≤ key = omega (arith, is, bound.from place (omega arith) (omega arith)) in
-    (above, sym (lb-is (level_keys entries) (key + 1) (place + 1) (omega arith) (λ k before. elim (cases_lt k place) [
-      | inl less ↦ omega (arith, bound.before k (omega arith))
-      | inr at_least ↦ let same : place ≡ k = omega arith in omega (arith, is, ap (λ i. slice_index_or (level_keys entries) i 0) same)
-    ]) (λ k past inside'. omega (arith, is, keys-rise entries ascending place k 0 (omega arith) inside'))))
+    let above : from ≤ key = omega (arith, is, bound.from place (omega arith) (omega arith)) in (
+      above,
+      sym (lb-is (level_keys entries) (key + 1) (place + 1) (omega arith) (λ k before. elim (cases_lt k place) [
+        | inl less ↦ omega (arith, bound.before k (omega arith))
+        | inr at_least ↦ let same : place ≡ k = omega arith in omega (arith, is, ap (λ i. slice_index_or (level_keys entries) i 0) same)
+      ]) (λ k past inside'. omega (arith, is, keys-rise entries ascending place k 0 (omega arith) inside'))),
+    )
 
 -- before a bound's place keys are below the bound
 pub key-before : (list entries : List Entry) (bound place : ℕ) → list ≡ entries → IsAscending entries → place ≡ lb (level_keys entries) bound → (place ≤ length list) × (0 < place → (slice_index_or list (place - 1) no_entry).key < bound)
 key-before list entries bound place same ascending at =
     let lower = IsLowerBound-lb (level_keys entries) bound (keys-never_fall entries ascending) in
     let size = ap (λ (l : List Entry). length l) same in
-    let count = length-level_keys entries in
-    (
+    let count = length-level_keys entries in (
       omega (arith, lower.within),
       λ some.
-      omega (
-        arith,
-        lower.before (place - 1) (omega arith),
-        key-at entries (place - 1) 0 no_entry (omega (arith, lower.within)),
-        ap (λ (l : List Entry). (slice_index_or l (place - 1) no_entry).key) same,
-      ),
+          omega (
+            arith,
+            lower.before (place - 1) (omega arith),
+            key-at entries (place - 1) 0 no_entry (omega (arith, lower.within)),
+            ap (λ (l : List Entry). (slice_index_or l (place - 1) no_entry).key) same,
+          ),
     )
 
 -- from the key before a bound's place up to the bound no key has an entry, if the bound has none
