@@ -17,6 +17,8 @@
 mod line_list;
 mod lookup;
 mod made;
+#[cfg(test)]
+mod made_rows;
 mod many;
 mod table;
 mod words;

@@ -14,6 +14,8 @@ mod log_levels_draws;
 #[cfg(test)]
 mod log_levels_rows;
 #[cfg(test)]
+mod map_replay_rows;
+#[cfg(test)]
 mod published_rows;
 #[cfg(test)]
 mod readme_examples;
