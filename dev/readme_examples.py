@@ -2,9 +2,9 @@
 """Compares the examples of the READMEs with the tests that they quote: readme_examples.py [--list]
 
 The test `NAME_example` in `readme_examples.rt` of a crate of tests is the example of the crate
-NAME: the first block of Rust of its README is the test's body, word for word, and that of the
-README at the top is the body of `levels_example`. Prints a line for each that isn't, and ends
-with 1 then. With --list it prints the READMEs whose example is in no test, too.
+NAME: the first block of Rust of its README is the test's body, word for word, and each block of the
+README at the top is the body of some such test. Prints a line for each that isn't, and ends with 1
+then. With --list it prints the READMEs whose example is in no test, too.
 """
 import pathlib
 import re
@@ -20,9 +20,11 @@ def main():
     tests = sorted(TOP.glob("crates/*_tests/src/readme_examples.rt"))
     bodies = dict(found for test in tests for found in TEST.findall(test.read_text()))
     quoted = {TOP / "crates" / crate / "README.md": crate for crate in bodies}
-    if "levels" in bodies:
-        quoted[TOP / "README.md"] = "levels"
     drifted = []
+    whole = [textwrap.dedent(body) for body in bodies.values()]
+    for block in BLOCK.findall((TOP / "README.md").read_text()):
+        if block not in whole:
+            drifted.append(f"README.md: an example is in no test: {block.splitlines()[0]}")
     for readme, crate in quoted.items():
         block = BLOCK.search(readme.read_text())
         if block is None or block.group(1) != textwrap.dedent(bodies[crate]):
