@@ -7,7 +7,7 @@ use Rattle.std.proofs.lemmas.List.Sums.{sum_by-cons}
 use Rattle.std.proofs.lemmas.Bool.{cases_lt, cases_eq, cases_order, eq-eqb, ne_eqb, lt-ltb, le-ltb, le-leb, lt-leb, leb-true, and_from, and_left, and_right, and_parts, cases_Bool, both_ways, cond-true, cond-false}
 use Rattle.std.specs.List.{fold}
 use Rattle.std.specs.Ordering.{is_eq, match_ordering}
-use Rattle.std.specs.Map.{remove_entry}
+use Rattle.std.specs.Map.{remove_entry, keys_of}
 use Rattle.std.specs.BTreeMap.{insert_entry, is_at}
 use Rattle.log_levels.specs.declared.update.Update.{Update}
 use Rattle.log_levels.specs.declared.update.Update.TheVariants.{Put, Del, Sweep}
@@ -313,8 +313,19 @@ count-pairs (pair ∷ pairs) low high = elim (cases_Bool (is_between low high pa
       ∙ omega (arith, count-pairs pairs low high, ap (λ (l : List (ℕ × ℕ)). length l) (pairs-dropped pair pairs low high outside))
 ]
 
-pub count-keys : (pairs : List (ℕ × ℕ)) (low high : ℕ) → count_between pairs low high ≡ length (keys_between pairs low high)
-count-keys pairs low high = count-pairs pairs low high ∙ sym (length-map (pairs_between pairs low high) (λ (pair : ℕ × ℕ). pair.0))
+pub count-between : (pairs : List (ℕ × ℕ)) (low high : ℕ) → count_between pairs low high ≡ length (keys_between pairs low high)
+count-between pairs low high = count-pairs pairs low high ∙ sym (length-map (pairs_between pairs low high) (λ (pair : ℕ × ℕ). pair.0))
+
+-- the keys of these pairs are those of all in the range
+keys-filter : (pairs : List (ℕ × ℕ)) (low high : ℕ) → keys_between pairs low high ≡ filter (is_between low high) (keys_of pairs)
+keys-filter [] low high = refl
+keys-filter (pair ∷ pairs) low high = elim (cases_Bool (is_between low high pair.0)) [
+  | inl inside ↦ ap keys_of (pairs-kept pair pairs low high inside) ∙ ap (λ keys. pair.0 ∷ keys) (keys-filter pairs low high) ∙ sym (cond-true (is_between low high pair.0) _ _ inside)
+  | inr outside ↦ ap keys_of (pairs-dropped pair pairs low high outside) ∙ keys-filter pairs low high ∙ sym (cond-false (is_between low high pair.0) _ _ outside)
+]
+
+pub count-keys : (pairs : List (ℕ × ℕ)) (low high : ℕ) → count_between pairs low high ≡ length (filter (is_between low high) (keys_of pairs))
+count-keys pairs low high = count-between pairs low high ∙ ap (λ (keys : List ℕ). length keys) (keys-filter pairs low high)
 
 -- a map has no more pairs than entries were accepted
 length-insert : (pairs : List (ℕ × ℕ)) (key value : ℕ) → length (insert_entry nat_cmp pairs key value) ≤ length pairs + 1

@@ -19,7 +19,7 @@ use Rattle.map_level.proofs.LevelLemmas.{place-passed}
 use Rattle.map_level.proofs.LastLemmas.{last_at-append}
 use Rattle.log_levels.proofs.SearchLemmas.{absent-value, search-buffer, found-level}
 use Rattle.log_levels.proofs.ValueLemmas.{value-after}
-use Rattle.log_levels.proofs.MapLemmas.{rises-after, next-is, next-none, pairs-step, pairs-end, count-pairs, count-keys}
+use Rattle.log_levels.proofs.MapLemmas.{rises-after, next-is, next-none, pairs-step, pairs-end, count-pairs, count-between}
 
 pub level-ascends : (held : Held) (entries : List Entry) (i : ℕ) (level : List Entry) → IsCutOf held entries → i < length held.levels → level_of held i ≡ Some level → IsAscending level
 level-ascends held entries i level cut inside is = (subst (IsLevelFor entries (length entries / 64) i) is (cut.levels i inside)).1.ascending
@@ -99,7 +99,7 @@ count-none updates from high none = omega (arith, count-pairs (map_after updates
 pub length-sweep : (updates : List Update) (low high : ℕ) → length (entries_of (updates ++ Sweep low high ∷ [])) ≡ length (entries_of updates) + count_between (map_after updates) low high
 length-sweep updates low high =
     ap (λ (l : List Entry). length l) (entries_of-sweep updates low high) ∙ length-append (entries_of updates) (entries_for (map_after updates) (Sweep low high))
-    ∙ omega (arith, length-map (keys_between (map_after updates) low high) del_entry, count-keys (map_after updates) low high)
+    ∙ omega (arith, length-map (keys_between (map_after updates) low high) del_entry, count-between (map_after updates) low high)
 
 -- above the greatest key up to a bound the map has none, if it has none above the bound
 pub none-above : (held : Held) (updates : List Update) (bound q greatest : ℕ) → IsCutOf held (entries_of updates) → ((key : ℕ) → bound < key → key ≤ q → value_at (map_after updates) key ≡ None)
