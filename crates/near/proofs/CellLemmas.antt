@@ -1,8 +1,8 @@
 -- The codes between two of a cell are of the cell, and so is each of their coordinates.
 use Rattle.std.proofs.Common.{◌≡◌, ℕ, ◌+◌, ◌-◌, ◌*◌, ◌/◌, ◌^◌, ◌<◌, ◌≤◌, sym, ap, ◌∙◌, subst, arith, w64}
 use Rattle.std.specs.Prelude.{bit_xor}
-use Rattle.std.specs.Int.{bit_at, leading_zeros}
-use Rattle.std.proofs.lemmas.Nat.{leading_length, xor_lt}
+use Rattle.std.specs.Int.{abs_diff, bit_at, leading_zeros}
+use Rattle.std.proofs.lemmas.Nat.{leading_length, pow_pos, xor_lt}
 use Rattle.std.proofs.lemmas.Nat.Bits.{bit_at-lt, bit_at_above, bit_at_xor, same_from_bits}
 use Rattle.std.proofs.Math.Pow.{shr_mono}
 use Rattle.zorder.specs.Codes.{coordinate}
@@ -32,14 +32,6 @@ coordinates_alike d c a z n free some a_fits z_fits same enough =
     same_bit i high =
         let place : n + (i - n) ≡ i = omega arith in
         ap (bit_at z) (sym place) ∙ sym (bit_at-shr z n (i - n)) ∙ ap (λ m. bit_at m (i - n)) same ∙ bit_at-shr a n (i - n) ∙ ap (bit_at a) place
-
--- a number that begins like another lies in the interval of those that do
-pub interval_apart : (value other free from : ℕ) → other / 2 ^ free ≡ value / 2 ^ free
-    → (value / 2 ^ free * 2 ^ free - from ≤ abs_diff other from) × (from - (value / 2 ^ free * 2 ^ free + (2 ^ free - 1)) ≤ abs_diff other from)
-interval_apart value other free from same =
-    let low = ap (λ (n : ℕ). n * 2 ^ free) same in
-    let some = pow_pos free in
-    (omega arith, omega arith)
 
 -- two numbers of 64 bits differ in no higher bit than their exclusive or has
 pub differing_bits : (a b : ℕ) → a < 2 ^ 64 → b < 2 ^ 64 → bit_xor a b < 2 ^ (64 - leading_zeros w64 (bit_xor a b))

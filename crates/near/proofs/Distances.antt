@@ -117,7 +117,3 @@ pub range_fits : (d : ℕ) → IsDimension d → 2 ^ coordinate_bits d ≤ 2 ^ 3
 range_fits d is =
     let few : coordinate_bits d ≤ 32 = div-le_of_le-mul d (omega (arith, is.0)) in
     pow_mono few
-
-pub distance_fits : (d : ℕ) (centre : List ℕ) (z : ℕ) → IsDimension d → IsInRange d centre → IsCode d z → distance d centre z ≤ 2 ^ 32 - 1
-distance_fits d centre z is range code = distance_from_apart d centre z (2 ^ 32 - 1) (λ c within.
-    omega (arith, range_fits d is, range c within, coordinate_below d z is code c))
