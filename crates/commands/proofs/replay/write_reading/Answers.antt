@@ -11,7 +11,7 @@ use Rattle.commands.proofs.WritingLemmas.{on_err}
 use Rattle.commands.proofs.replay.write_reading.Goals as goal
 
 abbrev no_sighting : Sighting
-no_sighting = record { length = 0; answer = Value None }
+no_sighting = record { known = 0; length = 0; answer = Value None }
 
 pub loop-i-init : goal.loop-i-init
 loop-i-init g c = written_none g.S.Sink c.args.out.now (reader_lines c.args.updates.now c.args.reader c.args.questions.now c.args.sightings.now)
