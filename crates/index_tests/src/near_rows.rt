@@ -288,3 +288,74 @@ fn corners_of_the_range(rt: HostRuntime) -> Result<(), NoMemory> {
     }
     Ok(())
 }
+
+/// A step of a linear congruential generator (Knuth, The Art of Computer Programming 2, 3.3.4).
+fn step(state: u64) -> u64 {
+    state
+        .wrapping_mul(6_364_136_223_846_793_005)
+        .wrapping_add(1_442_695_040_888_963_407)
+}
+
+/// So many coordinates, each below a power of two.
+fn scattered(alloc: Global, many: usize, mask: u32) -> Result<Vec<u32>, NoMemory> {
+    let mut coords = Vec::new(alloc);
+    let mut state = 7;
+    for _ in 0..many {
+        state = step(state);
+        coords.push((state >> 33) as u32 & mask)?;
+    }
+    Ok(coords)
+}
+
+/// How many points each centre asks for in turn.
+const ASKED: [u32; 5] = [1, 2, 17, 150, 900];
+
+/// A number that the answers of a centre make, each place by its own factor.
+fn mixed(alloc: Global, boxes: &Boxes, centre: &[u32; 4], sum: u64) -> Result<u64, NoMemory>
+    requires { IsInRange boxes.now.dims centre.now }
+{
+    let mut sum = sum;
+    for k in ASKED {
+        let near = nearest(alloc, boxes, centre, k)?;
+        sum = sum.wrapping_mul(31).wrapping_add(u64::from(near.boxes()));
+        for point in near.points() {
+            sum = sum.wrapping_mul(31).wrapping_add(u64::from(point.0));
+            sum = sum.wrapping_mul(31).wrapping_add(point.1);
+        }
+    }
+    Ok(sum)
+}
+
+/// What the answers of 24 centres make, over 800 points of few places: many of them are equal, or
+/// equally far. Half of the centres are outside.
+fn mixed_of_centres<R: Abort + Threads + AllocGlobal + Sync>(
+    rt: &R,
+    d: u32,
+) -> Result<u64, NoMemory> {
+    let points = scattered(rt.alloc(), 800 * d as usize, 15)?;
+    let boxes = boxes_of(rt, d, &points)?;
+    let places = scattered(rt.alloc(), 96, 31)?;
+    assert!(rt; places.len() == 96, "{d} coordinates");
+    let mut sum = 0;
+    for i in 0..24 {
+        let centre = [places[i], places[i + 24], places[i + 48], places[i + 72]];
+        is_corner(rt, boxes.dims(), centre);
+        sum = mixed(rt.alloc(), &boxes, &centre, sum)?;
+    }
+    Ok(sum)
+}
+
+/// Of each number of coordinates that number, by a search of all points.
+static MIXED: [(u32, u64); 3] = [
+    (2, 2_125_564_465_248_504_462),
+    (3, 5_659_887_328_993_394_468),
+    (4, 4_037_189_551_693_716_840),
+];
+
+#[test]
+fn scattered_points(rt: HostRuntime) -> Result<(), NoMemory> {
+    for (d, sum) in &MIXED {
+        assert!(rt; mixed_of_centres(&rt, *d)? == *sum, "{d} coordinates");
+    }
+    Ok(())
+}
