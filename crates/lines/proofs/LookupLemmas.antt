@@ -62,6 +62,9 @@ pub same_on : (begun room told found : List ℕ) (first end : ℕ) → first ≤
 same_on begun room told found first end order same tells finds k (inl none) = absurd (omega arith)
 same_on begun room told found first end order same tells finds k (inr past) = finds k (inr past) ∙ tells k (inr past) ∙ same k (inr (omega arith))
 
+pub same_twice : (begun told nearer : List ℕ) (first end : ℕ) → IsSameOutside first end begun told → IsSameOutside first end told nearer → IsSameOutside first end begun nearer
+same_twice begun told nearer first end one other k outside = other k outside ∙ one k outside
+
 pub same_past : (begun room : List ℕ) (first end : ℕ) → first ≤ end → IsSameOutside 0 first begun room → IsSameOutside 0 end begun room
 same_past begun room first end order same k (inl none) = absurd (omega arith)
 same_past begun room first end order same k (inr past) = same k (inr (omega arith))

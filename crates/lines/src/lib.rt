@@ -20,6 +20,7 @@ mod made;
 #[cfg(test)]
 mod made_rows;
 mod many;
+mod near;
 mod table;
 mod words;
 

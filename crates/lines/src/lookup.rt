@@ -5,6 +5,7 @@ ghost use Rattle.window_search.specs.Brackets.{IsBracket};
 ghost use Rattle.window_search.specs.Searches.{lb};
 ghost use Rattle.lines.specs.Lookups.{IsPosition, LeadsWithin, ReadsWithin};
 
+use crate::near::near_told;
 use crate::words::told;
 use budget::Steps;
 use std::marker::Brand;
@@ -36,12 +37,16 @@ pub fn lower_bound<K: KeyList, L: Ledger>(
     bracket_from(keys, hint, q, steps)
 }
 
-/// The same without counted steps.
+/// The place of `q`, as by [`lower_bound`], without counted steps.
+///
+/// Keys near where the words tell are looked at in groups first, with no branch on an answer, and
+/// it is searched from what they say away.
 #[inline]
 pub fn position<K: KeyList>(keys: K, words: &[u64], q: u64) -> usize
     ensures { IsPosition (K.listed keys) q result }
 {
-    position_from::<K, Brand>(keys, told(words, keys.len(), q), q, Blank::new(1))
+    let hint = near_told(keys, words, told(words, keys.len(), q), q);
+    position_from::<K, Brand>(keys, hint, q, Blank::new(1))
 }
 
 /// How many keys are at most `q`, where they never fall: the place of `q + 1`, or after the

@@ -3,6 +3,7 @@ ghost use Rattle.std.specs.Prelude.{◌≤◌, ◌<◌, ℕ, length, min, slice_
 ghost use Rattle.lines.specs.Lookups.{ArePositions, IsPosition, IsSameOutside};
 
 use crate::lookup::position_from;
+use crate::near::near_told;
 use crate::words::told;
 use std::marker::Brand;
 use std::sync::ledger::Blank;
@@ -14,8 +15,8 @@ const LANES: usize = 16;
 /// The places of many questions, each as by [`position`](crate::position), written into the
 /// caller's room: as many as there are questions and room. Room beyond that stays as it is.
 ///
-/// Sixteen are told where to look first, and then searched, since reads of memory for one don't
-/// wait for those of another. Cannot fail and takes no memory.
+/// Sixteen are told where to look first, then brought nearer, and then searched, since reads of
+/// memory for one don't wait for those of another. Cannot fail and takes no memory.
 pub fn positions<K: KeyList>(keys: K, words: &[u64], questions: &[u64], places: &mut [usize])
     ensures places { ArePositions (K.listed keys) questions.now places.new
         (min (length questions.now) (length places.old)) }
@@ -26,6 +27,7 @@ pub fn positions<K: KeyList>(keys: K, words: &[u64], questions: &[u64], places: 
     while first < count {
         let end = first + LANES.min(count - first);
         tell(words, keys.len(), questions, places, first, end);
+        approach(keys, words, questions, places, first, end);
         search(keys, questions, places, first, end);
         first = end;
     }
@@ -41,6 +43,26 @@ fn tell(words: &[u64], n: usize, questions: &[u64], places: &mut [usize], first:
 {
     for lane in first..end {
         places[lane] = told(words, n, questions[lane]);
+    }
+}
+
+/// Goes nearer to the places of the questions `first..end`, each from where its room says.
+#[inline(always)]
+fn approach<K: KeyList>(
+    keys: K,
+    words: &[u64],
+    questions: &[u64],
+    places: &mut [usize],
+    first: usize,
+    end: usize,
+)
+    requires order { first ≤ end }
+    requires asked { end ≤ length questions.now }
+    requires room { end ≤ length places.old }
+    ensures { IsSameOutside first end places.old places.new }
+{
+    for lane in first..end {
+        places[lane] = near_told(keys, words, places[lane], questions[lane]);
     }
 }
 
