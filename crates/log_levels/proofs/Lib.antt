@@ -9,6 +9,7 @@ pub mod MapLemmas
 pub mod ValueLemmas
 pub mod OccupiedLemmas
 pub mod SearchLemmas
+pub mod HeadLemmas
 pub mod WalkLemmas
 pub mod RangeLemmas
 pub mod LoadLemmas

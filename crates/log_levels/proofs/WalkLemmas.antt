@@ -21,9 +21,6 @@ use Rattle.log_levels.proofs.SearchLemmas.{absent-value, search-buffer, found-le
 use Rattle.log_levels.proofs.ValueLemmas.{value-after}
 use Rattle.log_levels.proofs.MapLemmas.{rises-after, next-is, next-none, pairs-step, pairs-end, count-pairs, count-between}
 
-pub level-ascends : (held : Held) (entries : List Entry) (i : ℕ) (level : List Entry) → IsCutOf held entries → i < length held.levels → level_of held i ≡ Some level → IsAscending level
-level-ascends held entries i level cut inside is = (subst (IsLevelFor entries (length entries / 64) i) is (cut.levels i inside)).1.ascending
-
 -- the walk goes on past a key without a value
 pub next-live : (held : Held) (entries : List Entry) (from low key value : ℕ) → IsCutOf held entries → from ≤ low → low ≤ key
     → ((other : ℕ) → from ≤ other → other < low → value_of (last_at entries other) ≡ None) → ((other : ℕ) → low ≤ other → other < key → IsAbsent held other)
@@ -114,12 +111,6 @@ pub first-later : (buffer : List Entry) (low next : ℕ) (found : Option Entry) 
 first-later buffer low next None none le later = λ key above. none key (omega arith)
 first-later buffer low next (Some entry) (from, is, before) le later = (later, is, λ key above less. before key (omega arith) less)
 
-pub behind-later : (held : Held) (places : List ℕ) (low next : ℕ) → AreBehind held places low → low ≤ next → AreBehind held places next
-behind-later held places low next behind le = record {
-  count = behind.count;
-  each = λ i level inside is. let (from, (within, at)) = behind.each i level inside is in (from, (omega arith, at));
-}
-
 -- a level's entry at its place is passed
 pub behind-passed : (held : Held) (places : List ℕ) (low key i : ℕ) → ((level : List Entry) → level_of held i ≡ Some level → IsAscending level) → i < 26 → AreBehind held places low → StandsAt held places key i
     → AreBehind held (slice_set places i (slice_index places i + 1)) (max low (key + 1))
@@ -149,13 +140,6 @@ pub left-passed : (held : Held) (places : List ℕ) (low key i : ℕ) → length
     → left_of (slice_set places i (slice_index places i + 1)) (max low (key + 1)) < left_of places low
 left-passed held places low key i count inside small few =
     omega (arith, sum_by-set (λ place. 2 ^ 32 - place) places i (slice_index places i + 1) 0 (omega arith))
-
--- of what was found so far and one more key either stands
-pub pick : (P : ℕ × ℕ → Type 0) (key : Option ℕ) (i : ℕ) (least found : Option (ℕ × ℕ)) → (found ≡ least) ⊎ MatchOption key ⊥ (λ k. (found ≡ Some (k, i)) × IsBelow k (first_key least))
-    → IfSome least P → ((k : ℕ) → key ≡ Some k → IsBelow k (first_key least) → P (k, i)) → IfSome found P
-pick P key i least found (inl is) old new = subst (λ r. IfSome r P) (sym is) old
-pick P None i least found (inr never) old new = absurd never
-pick P (Some k) i least found (inr (is, below)) old new = subst (λ r. IfSome r P) (sym is) (new k refl below)
 
 -- the last one with a key behind one entry more
 last-one : (entries : List Entry) (entry : Entry) (key : ℕ) → entry.key ≡ key → last_at (entries ++ entry ∷ []) key ≡ Some entry
@@ -201,11 +185,6 @@ absent-before held buffered places low key found first least from before below =
     unmet : (buffered : Option Entry) → IsFirstFrom held.buffer low buffered → IfSome buffered (λ entry. key < entry.key) → last_at held.buffer key ≡ None
     unmet None was before = was key from
     unmet (Some entry) (above, is, was) before = was key from before
-
--- a key below what was found so far is below one that isn't
-pub below-other : (other key : ℕ) (least : Option (ℕ × ℕ)) → MatchOption least ⊥ (λ pair. pair.0 ≤ key) → IsBelow other (first_key least) → other < key
-below-other other key None never below = absurd never
-below-other other key (Some pair) le below = omega arith
 
 -- the buffer's entry comes first
 pub taken-first : (held : Held) (entries : List Entry) (low : ℕ) (entry : Entry) → IsCutOf held entries → IsFirstFrom held.buffer low (Some entry) → value_of (last_at entries entry.key) ≡ entry.value

@@ -1,5 +1,5 @@
 -- How maps are kept. No public clause cites it.
-use Rattle.std.specs.Prelude.{◌≡◌, ℕ, ◌+◌, ◌-◌, ◌*◌, ◌/◌, ◌≤◌, ◌<◌, ◌^◌, ◌==◌, List, ◌++◌, length, map, drop, Option, Some, None, IsSome, IfSome, slice_index, ⊤}
+use Rattle.std.specs.Prelude.{◌≡◌, ℕ, ◌+◌, ◌-◌, ◌*◌, ◌/◌, ◌≤◌, ◌<◌, ◌^◌, ◌==◌, List, ◌++◌, length, map, drop, Option, Some, None, IsSome, IfSome, slice_index, slice_index_or, ⊤}
 use Rattle.window_search.specs.Searches.{lb}
 use Rattle.std.specs.List.{sum_by}
 use Rattle.std.specs.Int.{bit_at}
@@ -102,20 +102,43 @@ pub record AreBehind (held : Held) (places : List ℕ) (low : ℕ) : Type 0 wher
   pub count : length places ≡ 26
   pub each : (i : ℕ) (level : List Entry) → i < length held.levels → level_of held i ≡ Some level → (from : ℕ) × ((from ≤ low) × (slice_index places i ≡ lb (level_keys level) from))
 
--- what is left of a map from a bound on
-pub record IsLeft (held : Held) (buffered : Option Entry) (places : List ℕ) (low : ℕ) : Type 0 where
-  pub buffer : IsFirstFrom held.buffer low buffered
-  pub levels : AreBehind held places low
-
--- the key of what was found, if there is one
-abbrev pub first_key : Option (ℕ × ℕ) → Option ℕ
-first_key found = option_map (λ pair. pair.0) found
-
 -- a level has this key at its place
 pub record StandsAt (held : Held) (places : List ℕ) (key i : ℕ) : Type 0 where
   pub inside : i < length held.levels
   pub taken : IsSome (level_of held i)
   pub stands : (level : List Entry) → level_of held i ≡ Some level → (slice_index places i < length level) × (slice_index (level_keys level) (slice_index places i) ≡ key)
+
+-- how far off a head is, which has a key and a level: by the key, and of one key by the level
+abbrev pub distance_of : ℕ × ℕ → ℕ
+distance_of head = head.0 * 32 + head.1
+
+-- heads by falling distance: the last one comes first
+abbrev pub AreInTurn : List (ℕ × ℕ) → Type 0
+AreInTurn heads = (j k : ℕ) (d : ℕ × ℕ) → j < k → k < length heads → distance_of (slice_index_or heads k d) < distance_of (slice_index_or heads j d)
+
+-- no head is of the level, and each is of one below 26
+abbrev pub AreApart : List (ℕ × ℕ) → ℕ → Type 0
+AreApart heads level = (k : ℕ) (d : ℕ × ℕ) → k < length heads → ((slice_index_or heads k d).1 < 26) × ((slice_index_or heads k d).1 ≡ level → ⊥)
+
+-- the heads of the first n levels, but for one: the keys at their places. Up to the heads of a level it has no key behind the place
+pub record AreHeads (held : Held) (places : List ℕ) (n but : ℕ) (heads : List (ℕ × ℕ)) : Type 0 where
+  pub low : n ≤ 26
+  pub few : length heads ≤ n
+  pub room : but < n → length heads < n
+  pub turn : AreInTurn heads
+  pub stand : (k : ℕ) (d : ℕ × ℕ) → k < length heads → ((slice_index_or heads k d).1 < n) × (((slice_index_or heads k d).1 ≡ but → ⊥) × StandsAt held places (slice_index_or heads k d).0 (slice_index_or heads k d).1)
+  pub each : (j from key : ℕ) (level : List Entry) → j < n → (j ≡ but → ⊥) → level_of held j ≡ Some level → slice_index places j ≡ lb (level_keys level) from → from ≤ key
+      → ((k : ℕ) (d : ℕ × ℕ) → k < length heads → (slice_index_or heads k d).1 ≡ j → key < (slice_index_or heads k d).0) → entry_at level key ≡ None
+
+-- what is left of a map from a bound on
+pub record IsLeft (held : Held) (buffered : Option Entry) (places : List ℕ) (heads : List (ℕ × ℕ)) (low : ℕ) : Type 0 where
+  pub buffer : IsFirstFrom held.buffer low buffered
+  pub levels : AreBehind held places low
+  pub next : AreHeads held places (length held.levels) (length held.levels) heads
+
+-- the key of what was found, if there is one
+abbrev pub first_key : Option (ℕ × ℕ) → Option ℕ
+first_key found = option_map (λ pair. pair.0) found
 
 -- no level before this one has the key, unless it was passed
 abbrev pub AreNewer : Held → ℕ → ℕ → ℕ → Type 0

@@ -16,6 +16,7 @@
 mod apply;
 mod fault;
 mod growth;
+mod heads;
 mod load;
 mod log_map;
 mod questions;

@@ -9,11 +9,13 @@ ghost use Rattle.map_level.specs.Levels.{last_at, level_keys, IsBelow, IsAbove};
 ghost use Rattle.log_levels.specs.Shapes.{IsCutOf, level_of};
 ghost use Rattle.window_search.specs.Searches.{lb};
 ghost use Rattle.tombstones.specs.Entries.{entry_at};
-ghost use Rattle.log_levels.specs.Kept.{ArePlaces, AreBehind, IsLeft, IsLeastLeft, StandsAt};
+ghost use Rattle.log_levels.specs.Kept.{ArePlaces, AreBehind, AreHeads, IsLeft, StandsAt};
 ghost use Rattle.log_levels.specs.Kept.{IsAbsent, IsFirstFrom, IsNextLive, first_key};
 ghost use Rattle.log_levels.specs.Kept.{left_of, value_of};
 
+use crate::heads::{Heads, first_head, put_in_turn};
 use crate::log_map::{LogMap, lowest_and_rest};
+use arrayvec::ArrayVec;
 use tombstones::Entry;
 
 /// A place in each level, 26 at most.
@@ -22,34 +24,68 @@ pub type Places = [usize; 26];
 /// What a walk has not passed: the next entry of the buffer, if there is one, and what lies behind
 /// a place in each level.
 ///
-/// Where several levels have a key, only the newest moves on with it. In the others the entry of a
-/// key that was passed is met later, and left out.
-#[derive(Clone, Copy)]
+/// The keys at these places are kept in order, so that a step costs a few comparisons and not one a
+/// level. Where several levels have a key, only the newest moves on with it. In the others the
+/// entry of a key that was passed is met later, and left out.
+#[derive(Drop)]
 pub struct Walk {
     buffered: Option<Entry>,
     places: Places,
+    heads: Heads,
 }
 
 impl LogMap {
     /// A walk from a key on.
     pub(crate) fn walk(&self, from: u64) -> Walk
-        ensures { IsLeft self.now result.buffered result.places from }
+        ensures { IsLeft self.now result.buffered result.places result.heads.items from }
     {
         let places = self.places(from);
         let buffered = first_from(&self.buffer, u128::from(from));
-        Walk { buffered, places }
+        let heads = self.heads(&places);
+        Walk {
+            buffered,
+            places,
+            heads,
+        }
+    }
+
+    /// The keys at the places of the levels.
+    fn heads(&self, places: &Places) -> Heads
+        ensures { AreHeads self.now places.now (length self.now.levels)
+            (length self.now.levels) result.items }
+    {
+        let _ = self.occupied();
+        let mut heads = ArrayVec::new();
+        for i in 0..self.stored.len() {
+            self.put_head(&mut heads, places, i);
+        }
+        heads
+    }
+
+    /// Puts the key at the place of level `i` among those of others, if there is one.
+    #[inline(always)]
+    fn put_head(&self, heads: &mut Heads, places: &Places, i: usize)
+        requires { (n : ℕ) × (i < n) × AreHeads self.now places.now n i heads.old.items }
+        ensures { (n : ℕ) → i < n → AreHeads self.now places.now n i heads.old.items →
+            AreHeads self.now places.now n n heads.new.items }
+    {
+        if let Some(level) = self.level(i) {
+            if let Some(key) = level.key_at(places[i]) {
+                put_in_turn(heads, (key, i));
+            }
+        }
     }
 
     /// The least key from `from` on that the map has, with its value, if there is one. The walk
     /// passes it.
     pub(crate) fn next_pair(&self, walk: &mut Walk, from: u128) -> Option<(u64, u64)>
-        requires left { IsLeft self.now walk.old.buffered walk.old.places from }
+        requires left { IsLeft self.now walk.old.buffered walk.old.places walk.old.heads.items from }
         requires few { from ≤ 2 ^ 64 }
         ensures live { (entries : List Entry) → IsCutOf self.now entries →
             IsNextLive entries from result }
         ensures from { IfSome result (λ pair. from ≤ pair.0) }
         ensures left { IfSome result (λ pair.
-            IsLeft self.now walk.new.buffered walk.new.places (pair.0 + 1)) }
+            IsLeft self.now walk.new.buffered walk.new.places walk.new.heads.items (pair.0 + 1)) }
     {
         let mut low = from;
         while let Some(entry) = self.take_least(walk, low) {
@@ -67,7 +103,7 @@ impl LogMap {
     /// Takes an entry with the least key that is left, of the buffer or else of the newest level
     /// that has it. Below `low` it is one that was left out, and else the last one of its key.
     fn take_least(&self, walk: &mut Walk, low: u128) -> Option<Entry>
-        requires left { IsLeft self.now walk.old.buffered walk.old.places low }
+        requires left { IsLeft self.now walk.old.buffered walk.old.places walk.old.heads.items low }
         requires few { low ≤ 2 ^ 64 }
         ensures none { IsNone result → (key : ℕ) → low ≤ key → IsAbsent self.now key }
         ensures least { IfSome result (λ entry. (key : ℕ) → low ≤ key → key < entry.key →
@@ -75,23 +111,29 @@ impl LogMap {
         ensures last { IfSome result (λ entry. (entries : List Entry) → low ≤ entry.key →
             IsCutOf self.now entries → value_of (last_at entries entry.key) ≡ entry.value) }
         ensures left { IfSome result (λ entry.
-            IsLeft self.now walk.new.buffered walk.new.places (max low (entry.key + 1))) }
+            IsLeft self.now walk.new.buffered walk.new.places walk.new.heads.items
+            (max low (entry.key + 1))) }
         ensures fewer { IfSome result (λ entry.
             left_of walk.new.places (max low (entry.key + 1)) < left_of walk.old.places low) }
     {
-        let found = self.least_left(&walk.places);
+        let found = first_head(&walk.heads);
         if let Some(entry) = next_of(walk.buffered, found) {
             walk.buffered = first_from(&self.buffer, u128::from(entry.key) + 1);
             return Some(entry);
         }
         let (key, i) = found?;
+        let _ = walk.heads.pop();
         Some(self.take_from_level(walk, key, i))
     }
 
-    /// Takes the entry at the place of a level, which has this key there.
+    /// Takes the entry at the place of a level, which has this key there, and puts the next one of
+    /// the level among those of the others.
+    #[inline(always)]
     fn take_from_level(&self, walk: &mut Walk, key: u64, i: usize) -> Entry
         requires at { StandsAt self.now walk.old.places key i }
         requires inside { i < 26 }
+        requires heads { AreHeads self.now walk.old.places (length self.now.levels) i
+            walk.old.heads.items }
         requires count { length walk.old.places ≡ 26 }
         ensures key { result.key ≡ key }
         ensures entry { (level : List Entry) → level_of self.now i ≡ Some level →
@@ -99,30 +141,16 @@ impl LogMap {
         ensures buffered { walk.new.buffered ≡ walk.old.buffered }
         ensures behind { (low : ℕ) → AreBehind self.now walk.old.places low →
             AreBehind self.now walk.new.places (max low (key + 1)) }
+        ensures heads { AreHeads self.now walk.new.places (length self.now.levels)
+            (length self.now.levels) walk.new.heads.items }
         ensures fewer { (low : ℕ) → low ≤ 2 ^ 64 →
             left_of walk.new.places (max low (key + 1)) < left_of walk.old.places low }
     {
         let entries = self.occupied_level(i).entries();
         let place = walk.places[i];
         walk.places[i] = place + 1;
+        self.put_head(&mut walk.heads, &walk.places, i);
         entries[place]
-    }
-
-    /// The least key that a level has behind its place, with the newest level that has it there.
-    #[inline(always)]
-    fn least_left(&self, places: &Places) -> Option<(u64, usize)>
-        ensures least { (low : ℕ) → AreBehind self.now places.now low →
-            IsLeastLeft self.now places.now low result }
-        ensures inside { IfSome result (λ least. least.1 < 26) }
-    {
-        let mut least = None;
-        let mut rest = self.occupied();
-        while rest != 0 {
-            let (i, behind) = lowest_and_rest(rest);
-            least = lesser(least, self.occupied_level(i).key_at(places[i]), i);
-            rest = behind;
-        }
-        least
     }
 
     /// The places of a key.
@@ -225,40 +253,6 @@ fn next_of(buffered: Option<Entry>, found: Option<(u64, usize)>) -> Option<Entry
     match found {
         Some((least, _)) => { if least < entry.key { None } else { Some(entry) } }
         None => Some(entry),
-    }
-}
-
-/// Whether a key is below that of a level, if there is one.
-#[inline(always)]
-fn is_below(key: u64, found: Option<(u64, usize)>) -> bool
-    ensures below { IsTrue result → IsBelow key (first_key found) }
-    ensures from { OnFalse result (MatchOption found ⊥ (λ least. least.0 ≤ key)) }
-{
-    match found {
-        Some((least, _)) => key < least,
-        None => true,
-    }
-}
-
-/// The lesser of two keys, the first with its level, where there are two, and the first of equal
-/// ones.
-#[inline(always)]
-fn lesser(least: Option<(u64, usize)>, key: Option<u64>, i: usize) -> Option<(u64, usize)>
-    ensures one { (other : ℕ) → IsBelow other (first_key result) →
-        IsBelow other (first_key least) }
-    ensures other { (other : ℕ) → IsBelow other (first_key result) → IsBelow other key }
-    ensures either { (result ≡ least) ⊎ MatchOption key ⊥ (λ k.
-        (result ≡ Some (k, i)) × IsBelow k (first_key least)) }
-{
-    match key {
-        Some(key) => {
-            if is_below(key, least) {
-                Some((key, i))
-            } else {
-                least
-            }
-        }
-        None => least,
     }
 }
 

@@ -1,8 +1,9 @@
-use Rattle.std.proofs.Common.{◌≡◌, ◌<◌, List, length, Some, subst, sym, ap, ◌∙◌, arith}
+use Rattle.std.proofs.Common.{◌≡◌, ◌+◌, ◌<◌, List, length, Some, subst, sym, ap, ◌∙◌, arith}
 use Rattle.tombstones.specs.declared.entry.Entry.{Entry}
 use Rattle.tombstones.specs.Entries.{IsAscending}
 use Rattle.map_level.proofs.LevelLemmas.{entry-found, key-read}
 use Rattle.std.specs.Prelude.{slice_index}
+use Rattle.log_levels.proofs.HeadLemmas.{heads-moved}
 use Rattle.log_levels.proofs.WalkLemmas.{behind-passed, left-passed}
 use Rattle.log_levels.proofs.log_map.LogMap.take_from_level.Goals as goal
 
@@ -28,3 +29,15 @@ pub returns-clause-fewer : goal.returns-clause-fewer
 returns-clause-fewer c = λ low few.
     let (fits, has) = c.requires.at.stands c.occupied_level.result.now c.occupied_level.ensures in
     left-passed c.args.self.now c.args.walk.now.places low c.args.key c.args.i c.requires.count c.requires.inside (omega (arith, fits, c.entries-entries.ensures.few)) few
+
+pub put_head-requires : goal.put_head-requires
+put_head-requires c = (
+  length c.args.self.now.levels,
+  c.requires.at.inside,
+  heads-moved c.args.self.now c.args.walk.now.places (length c.args.self.now.levels) c.args.i (slice_index c.args.walk.now.places c.args.i + 1) c.args.walk.now.heads.items c.requires.heads,
+)
+
+pub returns-clause-heads : goal.returns-clause-heads
+returns-clause-heads c =
+    c.put_head.ensures (length c.args.self.now.levels) c.requires.at.inside
+    (heads-moved c.args.self.now c.args.walk.now.places (length c.args.self.now.levels) c.args.i (slice_index c.args.walk.now.places c.args.i + 1) c.args.walk.now.heads.items c.requires.heads)
