@@ -25,11 +25,11 @@ use Rattle.clap.specs.declared.parser.matches.ArgMatches.{ArgMatches}
 use Rattle.clap.specs.declared.parser.matches.ArgMatches.TheViews.{out-ArgMatches, out-SubCommand}
 use Rattle.clap.specs.declared.parser.matches.SubCommand.{SubCommand}
 use Rattle.exact_cross.specs.declared.TheConstants.{MAX_EPSILON}
-use Rattle.command_line.specs.Application.{application, build_rules, check_rules, drill_rules, points_rules, query_rules, relax_rules, replay_rules, mix_rules}
+use Rattle.command_line.specs.Application.{application, build_rules, check_rules, drill_rules, find_rules, lines_rules, points_rules, query_rules, relax_rules, replay_rules, mix_rules}
 use Rattle.command_line.specs.declared.request.Request as declared
 use Rattle.command_line.specs.Requests.{Request, asked_of, request_for}
 use Rattle.command_line.specs.Words.{AreTaken, AskFor, request_of}
-use Rattle.command_line.specs.Passed.{ArePassed, AreDrillOptions, AreIndexOptions, AreQueryOptions, AreReplayOptions, IsDimensionOption, IsNarrowOption, IsPiecesOption, IsSendersOption}
+use Rattle.command_line.specs.Passed.{ArePassed, AreDrillOptions, AreIndexOptions, AreLineOptions, AreQueryOptions, AreReplayOptions, IsDimensionOption, IsNarrowOption, IsPiecesOption, IsSendersOption}
 use Rattle.command_line.proofs.PassedRows.{all_set, level_good, quiet}
 use Rattle.command_line.proofs.OptionReads.{number_reads, flag_reads, takes_numbers, takes_flag}
 
@@ -125,6 +125,8 @@ IsCommand p = ((p.0 ≡ codes "build") × AreIndexOptions p.1)
     ⊎ ((p.0 ≡ codes "near") × IsDimensionOption p.1)
     ⊎ ((p.0 ≡ codes "replay") × AreReplayOptions p.1)
     ⊎ ((p.0 ≡ codes "mix") × AreReplayOptions p.1 × IsSendersOption p.1)
+    ⊎ ((p.0 ≡ codes "lines") × AreLineOptions p.1)
+    ⊎ ((p.0 ≡ codes "find") × IsNarrowOption p.1)
     ⊎ ((p.0 ≡ codes "drill") × AreDrillOptions p.1)
     ⊎ ((p.0 ≡ codes "save") × AreIndexOptions p.1)
     ⊎ ((p.0 ≡ codes "check") × IsNarrowOption p.1)
@@ -176,6 +178,19 @@ replay_options rules rows levels batch readers workers passed = record {
   workers = number_reads rules 1 64 (codes "workers") rows workers passed;
 }
 
+abbrev lines_filled : List Rule
+lines_filled = filled_from 1 lines_rules
+
+line_options : (rows : List Row) → ArePassed lines_filled rows → AreLineOptions rows
+unfolding clap_on_literals
+line_options rows passed = record {
+  eps = number_reads lines_filled 0 MAX_EPSILON (codes "eps") rows refl passed;
+  narrow = flag_reads lines_filled (codes "narrow") rows refl passed;
+}
+
+abbrev find_filled : List Rule
+find_filled = filled_from 1 find_rules
+
 abbrev drill_filled : List Rule
 drill_filled = filled_from 1 drill_rules
 
@@ -202,10 +217,12 @@ is_command p (inr (inr (inr (inr (inl s))))) = inr (inr (inr (inr (inl (s.name, 
 is_command p (inr (inr (inr (inr (inr (inl s)))))) = inr (inr (inr (inr (inr (inl (s.name, number_reads points_filled 2 4 (codes "dims") p.1 refl s.passed))))))
 is_command p (inr (inr (inr (inr (inr (inr (inl s))))))) = inr (inr (inr (inr (inr (inr (inl (s.name, replay_options replay_filled p.1 refl refl refl refl s.passed)))))))
 is_command p (inr (inr (inr (inr (inr (inr (inr (inl s)))))))) = inr (inr (inr (inr (inr (inr (inr (inl (s.name, replay_options mix_filled p.1 refl refl refl refl s.passed, number_reads mix_filled 1 16 (codes "senders") p.1 refl s.passed))))))))
-is_command p (inr (inr (inr (inr (inr (inr (inr (inr (inl s))))))))) = inr (inr (inr (inr (inr (inr (inr (inr (inl (s.name, drill_options p.1 s.passed)))))))))
-is_command p (inr (inr (inr (inr (inr (inr (inr (inr (inr (inl s)))))))))) = inr (inr (inr (inr (inr (inr (inr (inr (inr (inl (s.name, index_options build_filled p.1 refl refl refl refl s.passed))))))))))
-is_command p (inr (inr (inr (inr (inr (inr (inr (inr (inr (inr (inl s))))))))))) = inr (inr (inr (inr (inr (inr (inr (inr (inr (inr (s.name, flag_reads check_filled (codes "narrow") p.1 refl s.passed))))))))))
-is_command p (inr (inr (inr (inr (inr (inr (inr (inr (inr (inr (inr none))))))))))) = absurd none
+is_command p (inr (inr (inr (inr (inr (inr (inr (inr (inl s))))))))) = inr (inr (inr (inr (inr (inr (inr (inr (inl (s.name, line_options p.1 s.passed)))))))))
+is_command p (inr (inr (inr (inr (inr (inr (inr (inr (inr (inl s)))))))))) = inr (inr (inr (inr (inr (inr (inr (inr (inr (inl (s.name, flag_reads find_filled (codes "narrow") p.1 refl s.passed))))))))))
+is_command p (inr (inr (inr (inr (inr (inr (inr (inr (inr (inr (inl s))))))))))) = inr (inr (inr (inr (inr (inr (inr (inr (inr (inr (inl (s.name, drill_options p.1 s.passed)))))))))))
+is_command p (inr (inr (inr (inr (inr (inr (inr (inr (inr (inr (inr (inl s)))))))))))) = inr (inr (inr (inr (inr (inr (inr (inr (inr (inr (inr (inl (s.name, index_options build_filled p.1 refl refl refl refl s.passed))))))))))))
+is_command p (inr (inr (inr (inr (inr (inr (inr (inr (inr (inr (inr (inr (inl s))))))))))))) = inr (inr (inr (inr (inr (inr (inr (inr (inr (inr (inr (inr (s.name, flag_reads check_filled (codes "narrow") p.1 refl s.passed))))))))))))
+is_command p (inr (inr (inr (inr (inr (inr (inr (inr (inr (inr (inr (inr (inr none))))))))))))) = absurd none
 
 once_all : list_all sets_once (built application).subs ≡ true
 unfolding clap_on_literals
@@ -227,7 +244,9 @@ asks p (inr (inr (inr (inr (inr (inr (inl c))))))) = (_, ap (λ (name : Text). r
 asks p (inr (inr (inr (inr (inr (inr (inr (inl c)))))))) = (_, ap (λ (name : Text). request_for name p.1) c.0)
 asks p (inr (inr (inr (inr (inr (inr (inr (inr (inl c))))))))) = (_, ap (λ (name : Text). request_for name p.1) c.0)
 asks p (inr (inr (inr (inr (inr (inr (inr (inr (inr (inl c)))))))))) = (_, ap (λ (name : Text). request_for name p.1) c.0)
-asks p (inr (inr (inr (inr (inr (inr (inr (inr (inr (inr c)))))))))) = (_, ap (λ (name : Text). request_for name p.1) c.0)
+asks p (inr (inr (inr (inr (inr (inr (inr (inr (inr (inr (inl c))))))))))) = (_, ap (λ (name : Text). request_for name p.1) c.0)
+asks p (inr (inr (inr (inr (inr (inr (inr (inr (inr (inr (inr (inl c)))))))))))) = (_, ap (λ (name : Text). request_for name p.1) c.0)
+asks p (inr (inr (inr (inr (inr (inr (inr (inr (inr (inr (inr (inr c)))))))))))) = (_, ap (λ (name : Text). request_for name p.1) c.0)
 
 pub words_ask : (words : List Text) → AreTaken words → (request : Request) × AskFor words request
 words_ask words taken = go (subcommand_of application words) refl
@@ -274,9 +293,11 @@ OptionsOf name rows =
     (cond (bytes_eq name (codes "near")) (IsDimensionOption rows)
     (cond (bytes_eq name (codes "replay")) (AreReplayOptions rows)
     (cond (bytes_eq name (codes "mix")) (AreReplayOptions rows × IsSendersOption rows)
+    (cond (bytes_eq name (codes "lines")) (AreLineOptions rows)
+    (cond (bytes_eq name (codes "find")) (IsNarrowOption rows)
     (cond (bytes_eq name (codes "drill")) (AreDrillOptions rows)
     (cond (bytes_eq name (codes "save")) (AreIndexOptions rows)
-    (cond (bytes_eq name (codes "check")) (IsNarrowOption rows) ⊤))))))))))
+    (cond (bytes_eq name (codes "check")) (IsNarrowOption rows) ⊤))))))))))))
 
 named : (p : Text × List Row) (name : Text) → p.0 ≡ name → OptionsOf name p.1 → OptionsOf p.0 p.1
 named p name is holds = subst (λ (n : Text). OptionsOf n p.1) (sym is) holds
@@ -290,9 +311,11 @@ has_options p (inr (inr (inr (inr (inl c))))) = named p (codes "box") c.0 c.1
 has_options p (inr (inr (inr (inr (inr (inl c)))))) = named p (codes "near") c.0 c.1
 has_options p (inr (inr (inr (inr (inr (inr (inl c))))))) = named p (codes "replay") c.0 c.1
 has_options p (inr (inr (inr (inr (inr (inr (inr (inl c)))))))) = named p (codes "mix") c.0 (c.1, c.2)
-has_options p (inr (inr (inr (inr (inr (inr (inr (inr (inl c))))))))) = named p (codes "drill") c.0 c.1
-has_options p (inr (inr (inr (inr (inr (inr (inr (inr (inr (inl c)))))))))) = named p (codes "save") c.0 c.1
-has_options p (inr (inr (inr (inr (inr (inr (inr (inr (inr (inr c)))))))))) = named p (codes "check") c.0 c.1
+has_options p (inr (inr (inr (inr (inr (inr (inr (inr (inl c))))))))) = named p (codes "lines") c.0 c.1
+has_options p (inr (inr (inr (inr (inr (inr (inr (inr (inr (inl c)))))))))) = named p (codes "find") c.0 c.1
+has_options p (inr (inr (inr (inr (inr (inr (inr (inr (inr (inr (inl c))))))))))) = named p (codes "drill") c.0 c.1
+has_options p (inr (inr (inr (inr (inr (inr (inr (inr (inr (inr (inr (inl c)))))))))))) = named p (codes "save") c.0 c.1
+has_options p (inr (inr (inr (inr (inr (inr (inr (inr (inr (inr (inr (inr c)))))))))))) = named p (codes "check") c.0 c.1
 
 -- by the name that was asked for
 pub options_of : (p : Text × List Row) (asked : Text) → IsCommand p → bytes_eq p.0 asked ≡ true → OptionsOf asked p.1

@@ -80,6 +80,14 @@ drill_rules = drawn_rules ++ bounds_rules
 abbrev pub check_rules : List Rule
 check_rules = positional (codes "FILE") ∷ positional (codes "INDEX") ∷ flag (codes "narrow") ∷ []
 
+-- a key file, the error bound of its lines, and how wide the keys are
+abbrev pub lines_rules : List Rule
+lines_rules = positional (codes "FILE") ∷ number (codes "eps") 0 MAX_EPSILON (codes "32") ∷ flag (codes "narrow") ∷ []
+
+-- a key file, a file of lines, a script of questions, and how wide the keys are
+abbrev pub find_rules : List Rule
+find_rules = positional (codes "FILE") ∷ positional (codes "LINES") ∷ positional (codes "SCRIPT") ∷ flag (codes "narrow") ∷ []
+
 -- the commands over the index of a key file
 abbrev pub index_commands : List Shape
 index_commands = command (codes "build") build_rules ∷ command (codes "explain") build_rules
@@ -90,9 +98,13 @@ abbrev pub script_commands : List Shape
 script_commands = command (codes "box") points_rules ∷ command (codes "near") points_rules
     ∷ command (codes "replay") replay_rules ∷ command (codes "mix") mix_rules ∷ []
 
+-- over lines of a key file
+abbrev pub line_commands : List Shape
+line_commands = command (codes "lines") lines_rules ∷ command (codes "find") find_rules ∷ []
+
 -- and the others
 abbrev pub commands : List Shape
-commands = index_commands ++ script_commands ++ command (codes "drill") drill_rules
+commands = index_commands ++ script_commands ++ line_commands ++ command (codes "drill") drill_rules
     ∷ command (codes "save") build_rules ∷ command (codes "check") check_rules ∷ []
 
 -- the program before its commands. No public clause cites it

@@ -43,9 +43,14 @@ IsDimensionOption rows = IsNumberIn 2 4 (codes "dims") rows
 abbrev pub IsPiecesOption : List Row → Type 0
 IsPiecesOption rows = IsNumberIn 1 65536 (codes "pieces") rows
 
--- what the option of a check holds
+-- what the option of a check or a find holds
 abbrev pub IsNarrowOption : List Row → Type 0
 IsNarrowOption rows = IsFlag (codes "narrow") rows
+
+-- what the options of lines hold
+pub record AreLineOptions (rows : List Row) : Type 0 where
+  pub eps : IsNumberIn 0 MAX_EPSILON (codes "eps") rows
+  pub narrow : IsFlag (codes "narrow") rows
 
 -- what the options of a replay hold
 pub record AreReplayOptions (rows : List Row) : Type 0 where

@@ -8,6 +8,8 @@ use Rattle.command_line.specs.declared.request.Searching as declared_searching
 use Rattle.command_line.specs.declared.request.Replaying as declared_replaying
 use Rattle.command_line.specs.declared.request.Drilling as declared_drilling
 use Rattle.command_line.specs.declared.request.Checking as declared_checking
+use Rattle.command_line.specs.declared.request.Lining as declared_lining
+use Rattle.command_line.specs.declared.request.Finding as declared_finding
 use Rattle.command_line.specs.declared.request.Request as declared
 use Rattle.command_line.specs.declared.request.Request.TheVariants as variant
 
@@ -44,6 +46,19 @@ pub record Checking : Type 0 where
   pub index : Text
   pub narrow : Bool
 
+-- a key file, and the error bound of the lines that are made of its keys
+pub record Lining : Type 0 where
+  pub file : Text
+  pub narrow : Bool
+  pub eps : ℕ
+
+-- a key file, a file of lines, and a script of questions
+pub record Finding : Type 0 where
+  pub file : Text
+  pub lines : Text
+  pub script : Text
+  pub narrow : Bool
+
 -- each command, with the names of its files and its options; the table of a query isn't told, since no answer depends on it
 pub data Request : Type 0 where
   build : (building : Building) → Request
@@ -54,6 +69,8 @@ pub data Request : Type 0 where
   near : (searching : Searching) → Request
   replay : (replaying : Replaying) → Request
   mix : (replaying : Replaying) (senders : ℕ) → Request
+  lines : (lining : Lining) → Request
+  find : (finding : Finding) → Request
   drill : (drilling : Drilling) → Request
   save : (building : Building) → Request
   check : (checking : Checking) → Request
@@ -100,6 +117,21 @@ replaying_of rows = record {
 abbrev pub mix_of : List Row → Request
 mix_of rows = mix (replaying_of rows) (number_in (codes "senders") 2 rows)
 
+abbrev pub lining_of : List Row → Lining
+lining_of rows = record {
+  file = name_in (codes "FILE") rows;
+  narrow = is_given (codes "narrow") rows;
+  eps = number_in (codes "eps") 32 rows;
+}
+
+abbrev pub finding_of : List Row → Finding
+finding_of rows = record {
+  file = name_in (codes "FILE") rows;
+  lines = name_in (codes "LINES") rows;
+  script = name_in (codes "SCRIPT") rows;
+  narrow = is_given (codes "narrow") rows;
+}
+
 abbrev pub drilling_of : List Row → Drilling
 drilling_of rows = record {
   number = number_in (codes "N") 1 rows;
@@ -126,9 +158,11 @@ request_for name rows =
     else (if bytes_eq name (codes "near") then Some (near (searching_of rows))
     else (if bytes_eq name (codes "replay") then Some (replay (replaying_of rows))
     else (if bytes_eq name (codes "mix") then Some (mix_of rows)
+    else (if bytes_eq name (codes "lines") then Some (lines (lining_of rows))
+    else (if bytes_eq name (codes "find") then Some (find (finding_of rows))
     else (if bytes_eq name (codes "drill") then Some (drill (drilling_of rows))
     else (if bytes_eq name (codes "save") then Some (save (building_of rows))
-    else (if bytes_eq name (codes "check") then Some (check (checking_of rows)) else None))))))))))
+    else (if bytes_eq name (codes "check") then Some (check (checking_of rows)) else None))))))))))))
 
 -- the request that the program's own type stands for
 abbrev pub built_of : declared_building.Building → Building
@@ -139,6 +173,12 @@ searched_of s = record { file = s.file.now; script = s.script.now; dims = s.dims
 
 abbrev pub replayed_of : declared_replaying.Replaying → Replaying
 replayed_of r = record { script = r.script.now; levels = r.plan.levels; batch = r.plan.batch; readers = r.plan.readers }
+
+abbrev pub lined_of : declared_lining.Lining → Lining
+lined_of l = record { file = l.file.now; narrow = l.narrow; eps = l.eps }
+
+abbrev pub found_by : declared_finding.Finding → Finding
+found_by f = record { file = f.file.now; lines = f.lines.now; script = f.script.now; narrow = f.narrow }
 
 abbrev pub drilled_of : declared_drilling.Drilling → Drilling
 drilled_of d = record { number = d.drill.number; seed = d.drill.seed; eps = d.bounds.eps; eps_rec = d.bounds.eps_rec }
@@ -155,6 +195,8 @@ asked_of (variant.Box searching) = box (searched_of searching)
 asked_of (variant.Near searching) = near (searched_of searching)
 asked_of (variant.Replay replaying) = replay (replayed_of replaying)
 asked_of (variant.Mix replaying senders) = mix (replayed_of replaying) senders.count
+asked_of (variant.Lines lining) = lines (lined_of lining)
+asked_of (variant.Find finding) = find (found_by finding)
 asked_of (variant.Drill drilling) = drill (drilled_of drilling)
 asked_of (variant.Save building) = save (built_of building)
 asked_of (variant.Check checking) = check (checked_of checking)
@@ -169,6 +211,8 @@ first_file (box searching) = Some searching.file
 first_file (near searching) = Some searching.file
 first_file (replay replaying) = Some replaying.script
 first_file (mix replaying senders) = Some replaying.script
+first_file (lines lining) = Some lining.file
+first_file (find finding) = Some finding.file
 first_file (drill drilling) = None
 first_file (save building) = Some building.file
 first_file (check checking) = Some checking.file

@@ -11,6 +11,7 @@ ghost use Rattle.command_line.specs.Application.{bare_program, batch_rules};
 ghost use Rattle.command_line.specs.Application.{drawn_rules, drill_rules};
 ghost use Rattle.command_line.specs.Application.{positional_number, ranged};
 ghost use Rattle.command_line.specs.Application.{check_rules};
+ghost use Rattle.command_line.specs.Application.{find_rules, line_commands, lines_rules};
 ghost use Rattle.exact_cross.specs.declared.TheConstants.{MAX_EPSILON};
 
 use clap::{Arg, ArgAction, Command, value_parser};
@@ -42,9 +43,18 @@ const GREATEST_SEED: u32 = 0x7fff_ffff;
 pub fn application<'a>(alloc: Global) -> Result<Command<'a>, AllocError>
     ensures { IfOk result (λ program. app_of program ≡ application) }
 {
-    let program = added(with_script_commands(alloc)?, drill_command(alloc))?;
+    let program = added(with_line_commands(alloc)?, drill_command(alloc))?;
     let program = added(program, index_command(alloc, "save"))?;
     added(program, check_command(alloc))
+}
+
+// The program with its commands over an index, over points, over a map and over lines.
+fn with_line_commands<'a>(alloc: Global) -> Result<Command<'a>, AllocError>
+    ensures { IfOk result (λ program. app_of program
+        ≡ program_with (index_commands ++ script_commands ++ line_commands)) }
+{
+    let program = added(with_script_commands(alloc)?, lines_command(alloc))?;
+    added(program, find_command(alloc))
 }
 
 // The program with its commands over an index, over points and over a map.
@@ -210,6 +220,31 @@ fn check_command<'a>(alloc: Global) -> Result<Command<'a>, AllocError>
     Command::new(alloc, "check")
         .arg(positional(alloc, "FILE"))?
         .arg(positional(alloc, "INDEX"))?
+        .arg(flag(alloc, "narrow"))
+}
+
+// A command that makes lines of a key file.
+fn lines_command<'a>(alloc: Global) -> Result<Command<'a>, AllocError>
+    ensures shape { IfOk result
+        (λ made. app_of made ≡ record { top = command (codes "lines") lines_rules; subs = [] }) }
+    ensures local { IfOk result (λ made. (out-Command made).has_globals ≡ false) }
+{
+    Command::new(alloc, "lines")
+        .arg(positional(alloc, "FILE"))?
+        .arg(number(alloc, "eps", 0, MAX_EPSILON, "32"))?
+        .arg(flag(alloc, "narrow"))
+}
+
+// A command over a key file, a file of lines and a script of questions.
+fn find_command<'a>(alloc: Global) -> Result<Command<'a>, AllocError>
+    ensures shape { IfOk result
+        (λ made. app_of made ≡ record { top = command (codes "find") find_rules; subs = [] }) }
+    ensures local { IfOk result (λ made. (out-Command made).has_globals ≡ false) }
+{
+    Command::new(alloc, "find")
+        .arg(positional(alloc, "FILE"))?
+        .arg(positional(alloc, "LINES"))?
+        .arg(positional(alloc, "SCRIPT"))?
         .arg(flag(alloc, "narrow"))
 }
 

@@ -1,5 +1,6 @@
 // What the words ask for.
 ghost use Rattle.std.specs.Prelude.{◌≤◌};
+ghost use Rattle.exact_cross.specs.declared.TheConstants.{MAX_EPSILON};
 
 use options::{Bounds, Drill, Pieces, Plan, Senders, Table, Workers};
 
@@ -35,6 +36,31 @@ pub struct Replaying<'a> {
     /// A batch has at most 65,536 updates.
     pub plan: Plan,
     pub ghost few_updates: { plan.batch ≤ 65536 },
+}
+
+/// A key file, and the error bound of the lines that are made of its keys.
+#[derive(Clone, Copy, Debug)]
+pub struct Lining<'a> {
+    /// The name of the key file.
+    pub file: &'a str,
+    /// Keys are 32 bits wide, and not 64.
+    pub narrow: bool,
+    /// The error bound ε, in places.
+    pub eps: u32,
+    pub ghost bounded: { eps ≤ MAX_EPSILON },
+}
+
+/// A key file, a file of lines of keys, and a script of questions.
+#[derive(Clone, Copy, Debug)]
+pub struct Finding<'a> {
+    /// The name of the key file.
+    pub file: &'a str,
+    /// The name of the file of lines.
+    pub lines: &'a str,
+    /// The name of the script.
+    pub script: &'a str,
+    /// Keys are 32 bits wide, and not 64.
+    pub narrow: bool,
 }
 
 /// How many inputs of each kind are drawn, and how an index of the keys is built.
@@ -103,6 +129,15 @@ pub enum Request<'a> {
     Mix {
         replaying: Replaying<'a>,
         senders: Senders,
+    },
+    /// Write lines of the keys as words, of which a lookup is told where to look first.
+    Lines {
+        lining: Lining<'a>,
+    },
+    /// Write the position of each question's key in the file, by lookups over the keys and lines,
+    /// whatever the lines are.
+    Find {
+        finding: Finding<'a>,
     },
     /// Write what is counted of inputs of every kind that are drawn.
     Drill {

@@ -16,10 +16,13 @@ ghost use Rattle.command_line.specs.Passed.{IsPiecesOption, IsSendersOption};
 ghost use Rattle.command_line.specs.Passed.{AreDrillOptions};
 ghost use Rattle.command_line.specs.Requests.{drilled_of, drilling_of};
 ghost use Rattle.command_line.specs.Requests.{checked_of, checking_of};
-ghost use Rattle.command_line.specs.Passed.{IsNarrowOption};
+ghost use Rattle.command_line.specs.Passed.{AreLineOptions, IsNarrowOption};
+ghost use Rattle.command_line.specs.Requests.{finding_of, found_by, lined_of, lining_of};
 
 use crate::definition::application;
-use crate::request::{Building, Checking, Drilling, Replaying, Request, Searching};
+use crate::request::{
+    Building, Checking, Drilling, Finding, Lining, Replaying, Request, Searching,
+};
 use clap::ArgMatches;
 use clap::error::ErrorKind;
 use options::{Bounds, Drill, Pieces, Plan, Senders, Table, Workers};
@@ -94,6 +97,12 @@ fn request_in<'a>(matches: &ArgMatches<'a>) -> Option<Request<'a>>
         Some(Request::Replay { replaying })
     } else if name == "mix" {
         Some(mix_in(found))
+    } else if name == "lines" {
+        let lining = lining_in(found);
+        Some(Request::Lines { lining })
+    } else if name == "find" {
+        let finding = finding_in(found);
+        Some(Request::Find { finding })
     } else if name == "drill" {
         let drilling = drilling_in(found);
         Some(Request::Drill { drilling })
@@ -200,6 +209,29 @@ fn senders_in(found: &ArgMatches<'_>) -> Senders
 {
     Senders {
         count: number_in(found, "senders", 2),
+    }
+}
+
+fn lining_in<'a>(found: &ArgMatches<'a>) -> Lining<'a>
+    requires { AreLineOptions (rows_of (found_of found.now)) }
+    ensures { lined_of result ≡ lining_of (rows_of (found_of found.now)) }
+{
+    Lining {
+        file: name_in(found, "FILE"),
+        narrow: is_given(found, "narrow"),
+        eps: number_in(found, "eps", 32),
+    }
+}
+
+fn finding_in<'a>(found: &ArgMatches<'a>) -> Finding<'a>
+    requires { IsNarrowOption (rows_of (found_of found.now)) }
+    ensures { found_by result ≡ finding_of (rows_of (found_of found.now)) }
+{
+    Finding {
+        file: name_in(found, "FILE"),
+        lines: name_in(found, "LINES"),
+        script: name_in(found, "SCRIPT"),
+        narrow: is_given(found, "narrow"),
     }
 }
 

@@ -59,17 +59,27 @@ mix_in-requires-clause-senders c =
     (options_of (c.in_ok-name.name.now, rows_of (found_of c.in_ok-name.found.now)) (codes "mix") (is_met c.args.matches.now _ _ c.in_ok-name.ensures.name c.in_ok-name.ensures.rows
     c.requires.0 c.requires.1 c.requires.2) (sym c.if-eq-8.ensures)).1
 
+pub lining_in-lining-requires : goal.lining_in-lining-requires
+lining_in-lining-requires c =
+    options_of (c.in_ok-name.name.now, rows_of (found_of c.in_ok-name.found.now)) (codes "lines") (is_met c.args.matches.now _ _ c.in_ok-name.ensures.name c.in_ok-name.ensures.rows
+    c.requires.0 c.requires.1 c.requires.2) (sym c.if-eq-9.ensures)
+
+pub finding_in-finding-requires : goal.finding_in-finding-requires
+finding_in-finding-requires c =
+    options_of (c.in_ok-name.name.now, rows_of (found_of c.in_ok-name.found.now)) (codes "find") (is_met c.args.matches.now _ _ c.in_ok-name.ensures.name c.in_ok-name.ensures.rows
+    c.requires.0 c.requires.1 c.requires.2) (sym c.if-eq-10.ensures)
+
 pub drilling_in-drilling-requires : goal.drilling_in-drilling-requires
 drilling_in-drilling-requires c =
     options_of (c.in_ok-name.name.now, rows_of (found_of c.in_ok-name.found.now)) (codes "drill") (is_met c.args.matches.now _ _ c.in_ok-name.ensures.name c.in_ok-name.ensures.rows
-    c.requires.0 c.requires.1 c.requires.2) (sym c.if-eq-9.ensures)
+    c.requires.0 c.requires.1 c.requires.2) (sym c.if-eq-11.ensures)
 
-pub building_in-building-requires-then-eq-10 : goal.building_in-building-requires-then-eq-10
-building_in-building-requires-then-eq-10 c =
+pub building_in-building-requires-then-eq-12 : goal.building_in-building-requires-then-eq-12
+building_in-building-requires-then-eq-12 c =
     options_of (c.in_ok-name.name.now, rows_of (found_of c.in_ok-name.found.now)) (codes "save") (is_met c.args.matches.now _ _ c.in_ok-name.ensures.name c.in_ok-name.ensures.rows
-    c.requires.0 c.requires.1 c.requires.2) (sym c.if-eq-10.ensures)
+    c.requires.0 c.requires.1 c.requires.2) (sym c.if-eq-12.ensures)
 
 pub checking_in-checking-requires : goal.checking_in-checking-requires
 checking_in-checking-requires c =
     options_of (c.in_ok-name.name.now, rows_of (found_of c.in_ok-name.found.now)) (codes "check") (is_met c.args.matches.now _ _ c.in_ok-name.ensures.name c.in_ok-name.ensures.rows
-    c.requires.0 c.requires.1 c.requires.2) (sym c.if-eq-11.ensures)
+    c.requires.0 c.requires.1 c.requires.2) (sym c.if-eq-13.ensures)
