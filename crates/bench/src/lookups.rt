@@ -1,49 +1,56 @@
 // Times an index: `bench lookup KEYS QUERIES EPS [BITS]`.
-ghost use Rattle.std.specs.Prelude.{◌≡◌, ◌+◌, ◌≤◌, length, vec_len, vec_capacity};
+ghost use Rattle.std.specs.Prelude.{◌≤◌};
 
-use crate::shared::{ROUNDS, error_bound, keys_of, least_of, nanos_each, number};
+use crate::shared::{ROUNDS, error_bound, keys_of, least_of, nanos_each, number, questions_of};
 use anyhow::{Result, bail, ensure};
 use bucketed::{Buckets, MAX_BITS};
-use byteorder::{ByteOrder, LittleEndian};
 use exact_cross::MAX_EPSILON;
 use levels::{Index, Keys};
 use std::alloc::{AllocError, Global};
-use std::fs;
 use std::rt::{Clock, Files};
 use std::time::{Duration, Instant};
 
 /// What is asked for positions.
-trait Asked {
+pub trait Asked {
     /// How many keys are below the question.
-    fn position(&self, q: u64) -> u32;
+    fn position(&self, q: u64) -> u64;
 
-    /// The same of many questions, behind what the list has, which has room for them.
-    fn positions(&self, qs: &[u64], into: &mut Vec<u32>)
-        requires room { vec_len into.old + length qs.now ≤ vec_capacity into.old };
+    /// The sum of the positions of many questions, whose searches are interleaved.
+    fn sum_together(&self, alloc: Global, questions: &[u64]) -> Result<u64, AllocError>;
 }
 
 impl Asked for Index {
     #[inline(always)]
-    fn position(&self, q: u64) -> u32 {
-        Index::position(self, q)
+    fn position(&self, q: u64) -> u64 {
+        u64::from(Index::position(self, q))
     }
 
-    #[inline(always)]
-    fn positions(&self, qs: &[u64], into: &mut Vec<u32>) {
-        Index::positions(self, qs, into);
+    fn sum_together(&self, alloc: Global, questions: &[u64]) -> Result<u64, AllocError> {
+        let mut positions = Vec::with_capacity(alloc, questions.len())?;
+        Index::positions(self, questions, &mut positions);
+        Ok(sum_of(&positions))
     }
 }
 
 impl<'a> Asked for Buckets<'a> {
     #[inline(always)]
-    fn position(&self, q: u64) -> u32 {
-        Buckets::position(self, q)
+    fn position(&self, q: u64) -> u64 {
+        u64::from(Buckets::position(self, q))
     }
 
-    #[inline(always)]
-    fn positions(&self, qs: &[u64], into: &mut Vec<u32>) {
-        Buckets::positions(self, qs, into);
+    fn sum_together(&self, alloc: Global, questions: &[u64]) -> Result<u64, AllocError> {
+        let mut positions = Vec::with_capacity(alloc, questions.len())?;
+        Buckets::positions(self, questions, &mut positions);
+        Ok(sum_of(&positions))
     }
+}
+
+fn sum_of(positions: &[u32]) -> u64 {
+    let mut sum = 0u64;
+    for position in positions {
+        sum = sum.wrapping_add(u64::from(*position));
+    }
+    sum
 }
 
 /// Times an index over the keys of a file by the questions of another, and a table over it where
@@ -56,14 +63,14 @@ pub fn run<R: AllocGlobal + Files + Print + Clock>(rt: &R, words: &[String]) -> 
         [keys, questions, eps] => {
             let eps = error_bound(eps.as_str())?;
             let index = index_of(rt, keys.as_str(), eps)?;
-            let questions = questions_of(rt, &index, questions.as_str())?;
+            let questions = questions_for(rt, &index, questions.as_str())?;
             ask(rt, &index, &questions)
         }
         [keys, questions, eps, bits] => {
             let eps = error_bound(eps.as_str())?;
             let bits = number(bits.as_str(), "the bits")?;
             let index = index_of(rt, keys.as_str(), eps)?;
-            let questions = questions_of(rt, &index, questions.as_str())?;
+            let questions = questions_for(rt, &index, questions.as_str())?;
             ask(rt, &index, &questions)?;
             ask_bucketed(rt, &index, bits, &questions)
         }
@@ -87,25 +94,15 @@ fn index_of<R: AllocGlobal + Files + Print + Clock>(rt: &R, name: &str, eps: u32
 }
 
 /// The questions of a file, whose number is printed with those of keys and levels.
-fn questions_of<R: AllocGlobal + Files + Print>(
+fn questions_for<R: AllocGlobal + Files + Print>(
     rt: &R,
     index: &Index,
     name: &str,
 ) -> Result<Vec<u64>> {
-    let bytes = fs::read(rt, name)?;
-    let questions = numbers_in(rt.alloc(), &bytes)?;
+    let questions = questions_of(rt, name)?;
     let (keys, levels, many) = (index.keys().len(), index.levels(), questions.len());
     println!(rt; "keys {keys} levels {levels} questions {many}")?;
     Ok(questions)
-}
-
-/// The numbers after the count.
-fn numbers_in(alloc: Global, bytes: &[u8]) -> Result<Vec<u64>, AllocError> {
-    let mut numbers = Vec::with_capacity(alloc, bytes.len() / 8)?;
-    for number in bytes.chunks_exact(8).skip(1) {
-        numbers.push(LittleEndian::read_u64(number))?;
-    }
-    Ok(numbers)
 }
 
 /// Makes a table over the index, and asks it.
@@ -127,7 +124,7 @@ fn ask_bucketed<R: AllocGlobal + Print + Clock>(
 }
 
 /// Asks all questions in three ways, and prints what each took.
-fn ask<R: AllocGlobal + Print + Clock, A: Asked>(
+pub fn ask<R: AllocGlobal + Print + Clock, A: Asked>(
     rt: &R,
     asked: &A,
     questions: &[u64],
@@ -137,7 +134,7 @@ fn ask<R: AllocGlobal + Print + Clock, A: Asked>(
     let (together, sum_of_all) = least_of(
         rt,
         ROUNDS,
-        || Ok(sum_together(rt.alloc(), asked, questions)?),
+        || Ok(asked.sum_together(rt.alloc(), questions)?),
     )?;
     ensure!(
         sum == sum_of_chain && sum == sum_of_all,
@@ -158,7 +155,7 @@ fn tell<R: Print>(rt: &R, way: &str, taken: Duration, questions: usize) -> Resul
 fn sum_alone<A: Asked>(asked: &A, questions: &[u64]) -> u64 {
     let mut sum = 0u64;
     for question in questions {
-        sum = sum.wrapping_add(u64::from(asked.position(*question)));
+        sum = sum.wrapping_add(asked.position(*question));
     }
     sum
 }
@@ -166,22 +163,12 @@ fn sum_alone<A: Asked>(asked: &A, questions: &[u64]) -> u64 {
 /// Each question waits for the last answer.
 fn sum_chained<A: Asked>(asked: &A, questions: &[u64]) -> u64 {
     // A mask that no compiler knows to be 0: it ties a question to the last answer.
-    let mask = u32::from(questions.len() > 1 << 40);
+    let mask = u64::from(questions.len() > 1 << 40);
     let mut sum = 0u64;
     let mut last = 0;
     for question in questions {
-        last = asked.position(*question ^ u64::from(last & mask));
-        sum = sum.wrapping_add(u64::from(last));
+        last = asked.position(*question ^ (last & mask));
+        sum = sum.wrapping_add(last);
     }
     sum
-}
-
-fn sum_together<A: Asked>(alloc: Global, asked: &A, questions: &[u64]) -> Result<u64, AllocError> {
-    let mut positions = Vec::with_capacity(alloc, questions.len())?;
-    asked.positions(questions, &mut positions);
-    let mut sum = 0u64;
-    for position in &positions {
-        sum = sum.wrapping_add(u64::from(*position));
-    }
-    Ok(sum)
 }

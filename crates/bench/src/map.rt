@@ -1,8 +1,9 @@
 // Times a map of 64-bit keys that changes: `bench map N`.
 use crate::shared::{ROUNDS, nanos_each, number};
 use anyhow::{Result, bail, ensure};
+use budget::NoMemory;
 use edge::OpenGate;
-use log_levels::{LogMap, MapFault, Update};
+use log_levels::{LoadFault, LogMap, MapFault, Update};
 use std::alloc::{AllocError, Global};
 use std::rt::Clock;
 use std::thread::Threads;
@@ -17,8 +18,17 @@ const LEVELS: u32 = 20;
 /// How many numbers a stream has; keys are the first, questions are drawn from others.
 const STREAM: u64 = 1 << 40;
 
+/// How many pairs a range has.
+const RANGE: usize = 100;
+
+/// How many pairs a walk takes at once.
+const BLOCK: usize = 1024;
+
+/// How many of the least keys are taken from a map of so many.
+const TAKEN: usize = 32_000;
+
 /// How many phases there are.
-const PHASES: usize = 8;
+const PHASES: usize = 18;
 
 /// What is timed, in order.
 #[derive(Clone, Copy)]
@@ -27,8 +37,14 @@ enum Phase {
     Hit,
     Miss,
     Next(u64),
+    Range(u64),
+    Walk,
+    Count(u64),
     Mixed,
     Apply,
+    GiveUp,
+    Load,
+    Take,
 }
 
 /// The phases by name.
@@ -37,31 +53,62 @@ const NAMED: [(&str, Phase); PHASES] = [
     ("hit", Phase::Hit),
     ("miss", Phase::Miss),
     ("next", Phase::Next(2)),
+    ("range", Phase::Range(8)),
+    ("walk", Phase::Walk),
+    ("count", Phase::Count(9)),
     ("mixed", Phase::Mixed),
     ("next2", Phase::Next(3)),
+    ("range2", Phase::Range(10)),
+    ("walk2", Phase::Walk),
+    ("count2", Phase::Count(11)),
     ("apply", Phase::Apply),
     ("next3", Phase::Next(4)),
+    ("drop", Phase::GiveUp),
+    ("load", Phase::Load),
+    ("walk3", Phase::Walk),
+    ("take", Phase::Take),
 ];
 
-/// What a phase took at least, and its checksum.
+/// How many things a phase did, and its checksum.
 #[derive(Clone, Copy)]
-struct Taken {
-    least: Duration,
+struct Done {
+    things: u64,
     sum: u64,
 }
 
-/// How many keys there are, and two lists of updates.
+/// What a phase took at least, and what it did.
+#[derive(Clone, Copy)]
+struct Taken {
+    least: Duration,
+    done: Done,
+}
+
+/// How many keys there are, two lists of updates, and the pairs of the keys by rising key.
 #[derive(Clone, Copy)]
 struct Work<'a> {
     n: u64,
     first: &'a [Update],
     second: &'a [Update],
+    pairs: &'a [(u64, u64)],
 }
 
-/// Puts N keys into a map, one by one (`put`); asks for N of them (`hit`), for N others (`miss`)
-/// and for the least key from N places on (`next`); puts N/2 further keys and deletes N/2 keys, in
-/// turn (`mixed`); asks for N least keys again (`next2`); does as many puts and deletions once more
-/// by lists of 1000 (`apply`); and asks again (`next3`). All that three times, on a new map.
+/// The map of all phases, and one whose least keys are taken.
+#[derive(Drop)]
+struct Maps {
+    map: LogMap,
+    queue: LogMap,
+}
+
+/// Goes through all phases three times, each time on a new map.
+///
+/// Puts N keys, one by one (`put`); asks for N of them (`hit`), for N others (`miss`), and for the
+/// least key from each of N numbers on (`next`); takes the hundred pairs from each of N/10 numbers
+/// on (`range`), goes over all pairs by 1024 at once (`walk`), and counts some hundred keys N/10
+/// times (`count`). Puts N/2 further keys and deletes N/2 keys, in turn (`mixed`), and asks so once
+/// more (`next2`, `range2`, `walk2`, `count2`). Does as many puts and deletions again by lists of
+/// 1000 (`apply`), and asks (`next3`). Gives the map up (`drop`), makes one of the N sorted pairs
+/// (`load`), and goes over it (`walk3`). Of a map of up to 32,000 keys takes the least key and
+/// deletes it, until none is left (`take`).
 pub fn run<R: AllocGlobal + Print + Clock + Threads + Sync>(
     rt: &R,
     words: &[String],
@@ -80,27 +127,29 @@ pub fn run<R: AllocGlobal + Print + Clock + Threads + Sync>(
 fn time_all<R: AllocGlobal + Print + Clock + Threads + Sync>(rt: &R, n: u64) -> Result<()> {
     let first = updates(rt.alloc(), n, n, 5)?;
     let second = updates(rt.alloc(), n, n.wrapping_add(n), 6)?;
+    let pairs = sorted_pairs(rt.alloc(), n)?;
     let work = Work {
         n,
         first: &first,
         second: &second,
+        pairs: &pairs,
     };
     let mut taken = [Taken {
         least: Duration::MAX,
-        sum: 0,
+        done: Done { things: 0, sum: 0 },
     }; PHASES];
     for _ in 0..ROUNDS {
         one_round(rt, &work, &mut taken)?;
     }
-    tell(rt, &taken, n as usize)
+    tell(rt, &taken)
 }
 
-fn tell<R: Print>(rt: &R, taken: &[Taken; PHASES], n: usize) -> Result<()> {
+fn tell<R: Print>(rt: &R, taken: &[Taken; PHASES]) -> Result<()> {
     for k in 0..PHASES {
         let (name, _) = NAMED[k];
-        let Taken { least, sum } = taken[k];
-        let each = nanos_each(least, n);
-        println!(rt; "{name} {each:.1} checksum {sum}")?;
+        let Taken { least, done } = taken[k];
+        let each = nanos_each(least, done.things as usize);
+        println!(rt; "{name} {each:.1} checksum {}", done.sum)?;
     }
     Ok(())
 }
@@ -111,32 +160,42 @@ fn one_round<R: AllocGlobal + Clock + Threads + Sync>(
     work: &Work<'_>,
     taken: &mut [Taken; PHASES],
 ) -> Result<()> {
-    let mut map = LogMap::new(rt.alloc(), LEVELS)?;
+    let mut maps = Maps {
+        map: LogMap::new(rt.alloc(), LEVELS)?,
+        queue: LogMap::of_sorted(rt.alloc(), LEVELS, least_pairs(work.pairs))?,
+    };
     for k in 0..PHASES {
         let (_, phase) = NAMED[k];
         let start = Instant::now(rt)?;
-        let sum = go_through(rt, rt.alloc(), &mut map, phase, work)?;
+        let done = go_through(rt, rt.alloc(), &mut maps, phase, work)?;
         let least = taken[k].least.min(start.elapsed(rt)?);
-        taken[k] = Taken { least, sum };
+        taken[k] = Taken { least, done };
     }
     Ok(())
 }
 
-/// Does what a phase does, and gives its checksum.
+/// Does what a phase does.
 fn go_through<R: Threads + Sync>(
     rt: &R,
     alloc: Global,
-    map: &mut LogMap,
+    maps: &mut Maps,
     phase: Phase,
     work: &Work<'_>,
-) -> Result<u64, MapFault> {
+) -> Result<Done> {
+    let Maps { map, queue } = maps;
     match phase {
-        Phase::Put => put_all(alloc, map, work.n),
+        Phase::Put => Ok(put_all(alloc, map, work.n)?),
         Phase::Hit => Ok(sum_of_hits(map, work.n)),
         Phase::Miss => Ok(sum_of_misses(map, work.n)),
         Phase::Next(stream) => Ok(sum_of_nexts(map, work.n, stream)),
-        Phase::Mixed => update_each(alloc, map, work.first),
-        Phase::Apply => apply_all(rt, alloc, map, work.second),
+        Phase::Range(stream) => Ok(sum_of_ranges(map, work.n, stream)),
+        Phase::Walk => Ok(walk_all(map)),
+        Phase::Count(stream) => Ok(sum_of_counts(map, work.n, stream)),
+        Phase::Mixed => Ok(update_each(alloc, map, work.first)?),
+        Phase::Apply => Ok(apply_all(rt, alloc, map, work.second)?),
+        Phase::GiveUp => Ok(empty(alloc, map, work.n)?),
+        Phase::Load => Ok(load(alloc, map, work.pairs)?),
+        Phase::Take => Ok(take_all(alloc, queue)?),
     }
 }
 
@@ -175,44 +234,112 @@ fn updates(alloc: Global, n: u64, from: u64, stream: u64) -> Result<Vec<Update>,
     Ok(updates)
 }
 
-fn put_all(alloc: Global, map: &mut LogMap, n: u64) -> Result<u64, MapFault> {
+/// The first `n` keys with their numbers, by rising key.
+fn sorted_pairs(alloc: Global, n: u64) -> Result<Vec<(u64, u64)>, AllocError> {
+    let mut pairs = Vec::new(alloc);
+    for i in 0..n {
+        pairs.push((scattered(i), i))?;
+    }
+    pairs.sort_unstable();
+    Ok(pairs)
+}
+
+/// The first of the pairs, up to 32,000.
+fn least_pairs(pairs: &[(u64, u64)]) -> &[(u64, u64)] {
+    let many = TAKEN.min(pairs.len());
+    &pairs[..many]
+}
+
+fn put_all(alloc: Global, map: &mut LogMap, n: u64) -> Result<Done, MapFault> {
     for i in 0..n {
         map.put(alloc, scattered(i), i)?;
     }
-    Ok(0)
+    Ok(Done { things: n, sum: 0 })
 }
 
 /// The sum of the values.
-fn sum_of_hits(map: &LogMap, n: u64) -> u64 {
+fn sum_of_hits(map: &LogMap, n: u64) -> Done {
     let mut sum = 0u64;
     for i in 0..n {
         let value = map.get(some_key(n, drawn(1, i)));
         sum = sum.wrapping_add(value.unwrap_or(0));
     }
-    sum
+    Done { things: n, sum }
 }
 
 /// One for each key that isn't there.
-fn sum_of_misses(map: &LogMap, n: u64) -> u64 {
+fn sum_of_misses(map: &LogMap, n: u64) -> Done {
     let mut sum = 0u64;
     for i in 0..n {
         let value = map.get(drawn(7, i));
         sum = sum.wrapping_add(value.unwrap_or(1));
     }
-    sum
+    Done { things: n, sum }
 }
 
 /// The sum of the keys and values.
-fn sum_of_nexts(map: &LogMap, n: u64, stream: u64) -> u64 {
+fn sum_of_nexts(map: &LogMap, n: u64, stream: u64) -> Done {
     let mut sum = 0u64;
     for i in 0..n {
         let (key, value) = map.next(drawn(stream, i)).unwrap_or((0, 0));
         sum = sum.wrapping_add(key).wrapping_add(value);
     }
+    Done { things: n, sum }
+}
+
+/// The sum of the keys and values of the hundred pairs from each number on.
+fn sum_of_ranges(map: &LogMap, n: u64, stream: u64) -> Done {
+    let mut pairs = [(0u64, 0u64); RANGE];
+    let mut sum = 0u64;
+    let things = n.div_ceil(10);
+    for i in 0..things {
+        let many = map.range(drawn(stream, i), u64::MAX, &mut pairs);
+        sum = sum.wrapping_add(sum_of(&pairs[..many]));
+    }
+    Done { things, sum }
+}
+
+/// The sum of all keys and values, by blocks.
+fn walk_all(map: &LogMap) -> Done {
+    let mut pairs = [(0u64, 0u64); BLOCK];
+    let mut done = Done { things: 0, sum: 0 };
+    let mut from = 0;
+    for _ in 0..map.accepted() / BLOCK as u64 + 1 {
+        let many = map.range(from, u64::MAX, &mut pairs);
+        done.things = done.things.wrapping_add(many as u64);
+        done.sum = done.sum.wrapping_add(sum_of(&pairs[..many]));
+        let (last, _) = pairs[BLOCK - 1];
+        if many < BLOCK || last == u64::MAX {
+            return done;
+        }
+        from = last + 1;
+    }
+    done
+}
+
+fn sum_of(pairs: &[(u64, u64)]) -> u64 {
+    let mut sum = 0u64;
+    for (key, value) in pairs {
+        sum = sum.wrapping_add(*key).wrapping_add(*value);
+    }
     sum
 }
 
-fn update_each(alloc: Global, map: &mut LogMap, updates: &[Update]) -> Result<u64, MapFault> {
+/// The sum of how many keys there are from each number on, up to one behind which a hundred would
+/// be if all keys were even.
+fn sum_of_counts(map: &LogMap, n: u64, stream: u64) -> Done {
+    let step = u64::MAX.checked_div(n).unwrap_or(0);
+    let width = step.saturating_mul(RANGE as u64);
+    let mut sum = 0u64;
+    let things = n.div_ceil(10);
+    for i in 0..things {
+        let low = drawn(stream, i);
+        sum = sum.wrapping_add(map.count(low, low.saturating_add(width)));
+    }
+    Done { things, sum }
+}
+
+fn update_each(alloc: Global, map: &mut LogMap, updates: &[Update]) -> Result<Done, MapFault> {
     for update in updates {
         match *update {
             Update::Put(key, value) => map.put(alloc, key, value)?,
@@ -220,7 +347,10 @@ fn update_each(alloc: Global, map: &mut LogMap, updates: &[Update]) -> Result<u6
             Update::Sweep(..) => {}
         }
     }
-    Ok(0)
+    Ok(Done {
+        things: updates.len() as u64,
+        sum: 0,
+    })
 }
 
 fn apply_all<R: Threads + Sync>(
@@ -228,9 +358,47 @@ fn apply_all<R: Threads + Sync>(
     alloc: Global,
     map: &mut LogMap,
     updates: &[Update],
-) -> Result<u64, MapFault> {
+) -> Result<Done, MapFault> {
     for batch in updates.chunks(BATCH) {
         map.apply(rt, alloc, batch, 1, &OpenGate)?;
     }
-    Ok(0)
+    Ok(Done {
+        things: updates.len() as u64,
+        sum: 0,
+    })
+}
+
+/// Gives up a map of so many keys, for an empty one.
+fn empty(alloc: Global, map: &mut LogMap, n: u64) -> Result<Done, NoMemory> {
+    *map = LogMap::new(alloc, LEVELS)?;
+    Ok(Done { things: n, sum: 0 })
+}
+
+/// Makes a map of sorted pairs, in place of an empty one.
+fn load(alloc: Global, map: &mut LogMap, pairs: &[(u64, u64)]) -> Result<Done, LoadFault> {
+    *map = LogMap::of_sorted(alloc, LEVELS, pairs)?;
+    Ok(Done {
+        things: pairs.len() as u64,
+        sum: 0,
+    })
+}
+
+/// The sum of the keys and values, the least one taken and deleted each time. Where no more are
+/// left than half of what the map has accepted, it is made anew of what is left.
+fn take_all(alloc: Global, map: &mut LogMap) -> Result<Done, MapFault> {
+    let mut done = Done { things: 0, sum: 0 };
+    let mut left = map.accepted();
+    for _ in 0..map.accepted() {
+        let Some((key, value)) = map.next(0) else {
+            break;
+        };
+        map.del(alloc, key)?;
+        done.things = done.things.wrapping_add(1);
+        done.sum = done.sum.wrapping_add(key).wrapping_add(value);
+        left = left.saturating_sub(1);
+        if left <= map.accepted() / 2 {
+            *map = map.compacted(alloc, LEVELS)?;
+        }
+    }
+    Ok(done)
 }

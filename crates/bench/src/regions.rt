@@ -24,7 +24,7 @@ use zorder::{Corners, Region, encode, inside};
 const ANSWERS: u32 = 5;
 
 /// How many bytes a script has at most.
-const SCRIPT_LIMIT: u64 = 67_108_864;
+pub const SCRIPT_LIMIT: u64 = 67_108_864;
 
 /// How many codes of each box are jumped from at most.
 const JUMPS: usize = 16;
@@ -72,7 +72,7 @@ pub fn run<R: AllocGlobal + Files + Print + Clock + Threads + Sync>(
 }
 
 /// Reads points, and prints how long that takes.
-fn points_of<R: AllocGlobal + Files + Print + Clock>(
+pub fn points_of<R: AllocGlobal + Files + Print + Clock>(
     rt: &R,
     name: &str,
     dims: u32,

@@ -3,9 +3,12 @@ ghost use Rattle.std.specs.Prelude.{◌≤◌, ◌<◌, ◌^◌, IfOk, vec_len};
 ghost use Rattle.std.specs.List.Sorted.{IsNonDecreasing};
 
 use anyhow::{Context, Result, ensure};
+use byteorder::{ByteOrder, LittleEndian};
 use edge::{FileShelf, Shelf};
 use exact_cross::MAX_EPSILON;
 use sosd_reader::read_keys;
+use std::alloc::{AllocError, Global};
+use std::fs;
 use std::rt::{Clock, Files};
 use std::time::{Duration, Instant};
 
@@ -37,6 +40,20 @@ pub fn keys_of<R: AllocGlobal + Files>(rt: &R, name: &str) -> Result<Vec<u64>>
     let mut files = FileShelf::new(rt);
     ensure!(files.take_file(name).is_ok(), "the key file isn't there");
     Ok(read_keys(rt.alloc(), &mut files, true)?)
+}
+
+/// The numbers of a file of questions: those after its count.
+pub fn questions_of<R: AllocGlobal + Files>(rt: &R, name: &str) -> Result<Vec<u64>> {
+    let bytes = fs::read(rt, name)?;
+    Ok(numbers_in(rt.alloc(), &bytes)?)
+}
+
+fn numbers_in(alloc: Global, bytes: &[u8]) -> Result<Vec<u64>, AllocError> {
+    let mut numbers = Vec::with_capacity(alloc, bytes.len() / 8)?;
+    for number in bytes.chunks_exact(8).skip(1) {
+        numbers.push(LittleEndian::read_u64(number))?;
+    }
+    Ok(numbers)
 }
 
 /// Does a work so often, and gives the least time of one and what the last one came to.

@@ -1,0 +1,122 @@
+// Times lookups over keys that stay where they are: `bench lines KEYS QUERIES EPS`.
+ghost use Rattle.std.specs.Prelude.{◌≤◌};
+
+use crate::lookups::{Asked, ask};
+use crate::shared::{ROUNDS, error_bound, keys_of, questions_of};
+use anyhow::{Result, bail};
+use exact_cross::MAX_EPSILON;
+use key_points::KeysFault;
+use lines::{lines_of, position, positions};
+use std::alloc::{AllocError, Global};
+use std::rt::{Clock, Files};
+use std::time::{Duration, Instant};
+
+/// How many questions are asked in the same room.
+const ROOM: usize = 1024;
+
+/// Keys that stay where they are, and words that say where to look first.
+#[derive(Clone, Copy)]
+struct Lined<'a> {
+    keys: &'a [u64],
+    words: &'a [u64],
+}
+
+impl<'a> Asked for Lined<'a> {
+    #[inline(always)]
+    fn position(&self, q: u64) -> u64 {
+        position(self.keys, self.words, q) as u64
+    }
+
+    fn sum_together(&self, _alloc: Global, questions: &[u64]) -> Result<u64, AllocError> {
+        let mut places = [0usize; ROOM];
+        let mut sum = 0u64;
+        for few in questions.chunks(ROOM) {
+            positions(self.keys, self.words, few, &mut places);
+            for k in 0..few.len().min(ROOM) {
+                sum = sum.wrapping_add(places[k] as u64);
+            }
+        }
+        Ok(sum)
+    }
+}
+
+/// Times lookups over the keys of a file by the questions of another, first with the words of the
+/// keys, and then with those of the questions, which lead anywhere.
+///
+/// Both files are a 64-bit count and numbers of 64 bits, little-endian; those of the key file never
+/// fall.
+pub fn run<R: AllocGlobal + Files + Print + Clock>(rt: &R, words: &[String]) -> Result<()> {
+    match words {
+        [keys, questions, eps] => {
+            let eps = error_bound(eps.as_str())?;
+            let keys = keys_of(rt, keys.as_str())?;
+            let questions = questions_of(rt, questions.as_str())?;
+            println!(rt; "keys {} questions {}", keys.len(), questions.len())?;
+            ask_by_words(rt, &keys, &questions, eps)
+        }
+        _ => bail!("usage: bench lines KEYS QUERIES EPS"),
+    }
+}
+
+/// Asks all questions with the words of the keys, and with those of the questions.
+fn ask_by_words<R: AllocGlobal + Print + Clock>(
+    rt: &R,
+    keys: &[u64],
+    questions: &[u64],
+    eps: u32,
+) -> Result<()>
+    requires { eps ≤ MAX_EPSILON }
+{
+    let words = words_of(rt, "own", keys, eps)?;
+    let lined = Lined {
+        keys,
+        words: &words,
+    };
+    ask(rt, &lined, questions)?;
+    let others = sorted(rt.alloc(), questions)?;
+    let words = words_of(rt, "other", &others, eps)?;
+    let lined = Lined {
+        keys,
+        words: &words,
+    };
+    ask(rt, &lined, questions)
+}
+
+fn sorted(alloc: Global, questions: &[u64]) -> Result<Vec<u64>, AllocError> {
+    let mut sorted = Vec::with_capacity(alloc, questions.len())?;
+    sorted.extend_from_slice(questions)?;
+    sorted.sort_unstable();
+    Ok(sorted)
+}
+
+/// The words of keys. Prints how many lines and bytes they are, and the seconds of making them.
+fn words_of<R: AllocGlobal + Print + Clock>(
+    rt: &R,
+    whose: &str,
+    keys: &[u64],
+    eps: u32,
+) -> Result<Vec<u64>>
+    requires { eps ≤ MAX_EPSILON }
+{
+    let mut least = Duration::MAX;
+    for _ in 0..ROUNDS {
+        let start = Instant::now(rt)?;
+        make_and_drop(rt.alloc(), keys, eps)?;
+        least = least.min(start.elapsed(rt)?);
+    }
+    let words = lines_of(rt.alloc(), keys, eps)?;
+    let (lines, bytes) = (
+        words.get(2).copied().unwrap_or(0),
+        words.len().saturating_mul(8),
+    );
+    let building = least.as_secs_f64();
+    println!(rt; "words {whose} lines {lines} bytes {bytes} build {building}")?;
+    Ok(words)
+}
+
+fn make_and_drop(alloc: Global, keys: &[u64], eps: u32) -> Result<(), KeysFault>
+    requires { eps ≤ MAX_EPSILON }
+{
+    let _words = lines_of(alloc, keys, eps)?;
+    Ok(())
+}
