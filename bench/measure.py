@@ -17,6 +17,7 @@ import time
 
 TOP = pathlib.Path(__file__).resolve().parent.parent
 PAGE = TOP / "bench/README.md"
+POINTS = TOP / "bench/points.py"
 KINDS = ("uniform", "cascade", "events", "dense", "pareto", "outliers", "lognormal", "normal",
          "numbers")
 # Pages of two megabytes, as the script `pgmtool` has them.
@@ -86,6 +87,31 @@ class Runs:
         names = {path.stem for path in (self.made / "data").glob("*.keys")}
         return KINDS + tuple(sorted(name for name in names if "." not in name))
 
+    def points(self, kind, dims):
+        """A million points, where there are ten million keys; or those that somebody put there."""
+        real = self.made / "data" / f"{kind}.points"
+        if kind not in ("uniform", "clustered"):
+            return real
+        many, seed = self.given.size // 10, self.given.seed
+        path = self.made / "data" / f"{kind}.{dims}.{many}.{seed}.points"
+        if not path.exists():
+            self.run(sys.executable, POINTS, "points", many, dims, kind, seed, path)
+        return path
+
+    def centres(self, points, dims, k):
+        """A script of centres that ask for the k nearest points."""
+        many, seed = self.given.questions // 100, self.given.seed
+        path = points.with_suffix(f".{many}.{k}")
+        if not path.exists():
+            self.run(sys.executable, POINTS, "centres", many, dims, k, seed, points, path)
+        return path
+
+    def point_sets(self):
+        """The kinds of points with their coordinates, and the files that somebody put there."""
+        names = {path.stem for path in (self.made / "data").glob("*.points")}
+        made = [(kind, dims) for kind in ("uniform", "clustered") for dims in (2, 3)]
+        return made + [(name, 2) for name in sorted(names) if "." not in name]
+
 
 def agree(what, found):
     """The one value that all sides found."""
@@ -107,32 +133,42 @@ def rows_of(text, word):
             yield dict(zip(words[::2], words[1::2]))
 
 
-def asked(text, times, prefix):
-    """The three ways of `bench lookup`, once for the index and once for buckets."""
+def asked(text, times, names):
+    """The three ways of `bench lookup` and `bench lines`, of each thing that was asked."""
     sums = re.findall(r"^checksum (\d+)$", text, re.M)
-    for name, part in zip(("index", "buckets"), text.split("checksum ")[1:]):
+    for name, part in zip(names, text.split("checksum ")[1:]):
         for way in ("alone", "chained", "together"):
-            least(times, f"{prefix}{name} {way}", re.search(rf"^{way} (\d+)", part, re.M).group(1))
+            least(times, f"{name} {way}", re.search(rf"^{way} (\d+)", part, re.M).group(1))
     return sums
 
 
+def by_rivals(runs, kind, times, sums, *names):
+    """The rival's ways, or those of these names: their times, and what they print."""
+    ways = {}
+    text = runs.run(runs.rival("lookups"), runs.keys(kind), runs.questions(kind), 1, *names)
+    for way in rows_of(text, "way"):
+        ways[way["way"]] = way
+        for name in ("build", "alone", "chained", "together"):
+            least(times, f"{way['way']} {name}", way[name])
+        # Of numbers behind equal keys the spline promises nothing.
+        if way["way"] != "spline_16":
+            sums[way["way"]] = way["checksum"]
+    return ways
+
+
 def timed_lookups(runs, kind):
-    """All ways among the keys of a kind: their times, and what the rival's indexes take."""
+    """All ways among the keys of a kind."""
     keys, questions = runs.keys(kind), runs.questions(kind)
-    times, ways, sums = {}, {}, {}
+    times, sums = {}, {}
     for _ in runs.rounds():
-        for way in rows_of(runs.run(runs.rival("lookups"), keys, questions, 1), "way"):
-            ways[way["way"]] = way
-            for name in ("build", "alone", "chained", "together"):
-                least(times, f"{way['way']} {name}", way[name])
-            if way["way"] != "spline_16":
-                sums[way["way"]] = way["checksum"]
+        by_rivals(runs, kind, times, sums)
         for eps, bits in ((64, ()), (16, (16,))):
             text = runs.run(runs.bench, "lookup", keys, questions, eps, *bits)
-            for number, one in enumerate(asked(text, times, f"{eps} ")):
+            names = f"{eps} index", f"{eps} buckets"
+            for number, one in enumerate(asked(text, times, names)):
                 sums[f"bench {eps} {number}"] = one
     agree(kind, sums)
-    return times, ways
+    return times
 
 
 def pair(times, name):
@@ -142,7 +178,7 @@ def pair(times, name):
 def lookups(runs):
     first, second = [], []
     for kind in runs.kinds():
-        times, _ = timed_lookups(runs, kind)
+        times = timed_lookups(runs, kind)
 
         def together(name):
             return f"{times[name + ' together']:.0f}"
@@ -160,6 +196,49 @@ def lookups(runs):
                                       "`Index`, 16", "`Buckets`, 16"], second)
 
 
+def timed_lines(runs, kind):
+    """Lookups over borrowed keys, and rivals: their times, and the bytes beyond the keys."""
+    keys, questions = runs.keys(kind), runs.questions(kind)
+    times, sums, taken = {}, {}, {}
+    for _ in runs.rounds():
+        ways = by_rivals(runs, kind, times, sums, "lower_bound", "halving", "pgm_16", "pgm_64",
+                         "spline_16")
+        taken.update((name, int(way["bytes"])) for name, way in ways.items())
+        for eps in (16, 64):
+            text = runs.run(runs.bench, "lines", keys, questions, eps)
+            names = f"{eps} own", f"{eps} other"
+            for number, one in enumerate(asked(text, times, names)):
+                sums[f"bench {eps} {number}"] = one
+            for words in rows_of(text, "words"):
+                least(times, f"{eps} {words['words']} build", float(words["build"]) * 1e3)
+                taken[f"{eps} {words['words']}"] = int(words["bytes"])
+    agree(kind, sums)
+    return times, taken
+
+
+def lines(runs):
+    first, second = [], []
+    for kind in runs.kinds():
+        times, taken = timed_lines(runs, kind)
+        first.append([kind, *(pair(times, name) for name in (
+            "lower_bound", "pgm_16", "pgm_64", "spline_16", "16 own", "64 own", "64 other")),
+            *(f"{times[name + ' together']:.0f}" for name in ("halving", "pgm_64", "16 own",
+                                                              "64 own"))])
+        sizes = (f"{taken[name]:,}" for name in ("pgm_16", "pgm_64", "spline_16", "16 own",
+                                                 "64 own"))
+        builds = (f"{times[name + ' build']:.0f}" for name in ("pgm_16", "pgm_64", "spline_16",
+                                                               "16 own", "64 own"))
+        second.append([kind, *sizes, *builds])
+    write(runs, "lines", ["nanoseconds", "`std::lower_bound`", "C++ PGM, ε 16", "ε 64",
+                          "RadixSpline, ε 16", "`position`, ε 16", "ε 64",
+                          "ε 64, words of other keys", "halving, 16", "C++ PGM, 16, ε 64",
+                          "`positions`, ε 16", "ε 64"], first)
+    write(runs, "words of lines", ["bytes; milliseconds of building", "C++ PGM, ε 16", "ε 64",
+                                   "RadixSpline, ε 16", "words, ε 16", "ε 64",
+                                   "C++ PGM builds, ε 16", "ε 64", "RadixSpline, ε 16",
+                                   "`lines_of`, ε 16", "ε 64"], second)
+
+
 def live_bytes(runs, kind, eps):
     """What an index in memory takes beyond its keys: what is held of malloc when it is built."""
     keys = runs.keys(kind)
@@ -168,6 +247,8 @@ def live_bytes(runs, kind, eps):
     done = subprocess.run([runs.bench, "lookup", keys, few, str(eps)], env=shim, text=True,
                           stdout=subprocess.DEVNULL, stderr=subprocess.PIPE, check=True)
     held = int(re.search(r"^live (\d+)", done.stderr, re.M).group(1))
+    if held == 0:
+        raise Missing(f"{runs.bench} takes its memory from elsewhere than malloc")
     return held - (keys.stat().st_size - 8)
 
 
@@ -307,18 +388,36 @@ def boxes(runs):
                           "`visit`"], rows)
 
 
+def near(runs):
+    """The search for the nearest points by itself."""
+    rows = []
+    for kind, dims in runs.point_sets():
+        points, times, found = runs.points(kind, dims), {}, {}
+        scripts = [runs.centres(points, dims, k) for k in (1, 10, 100)]
+        for _ in runs.rounds():
+            text = runs.run(runs.rival("kd_tree"), points, dims, *scripts)
+            for line in rows_of(text, "script"):
+                least(times, f"tree {line['script']}", line["nanoseconds"])
+                found.setdefault(line["script"], {})["tree"] = line["found"], line["distances"]
+            text = runs.run(runs.bench, "near", points, dims, *scripts)
+            for line, sums in zip(rows_of(text, "script"), rows_of(text, "distances")):
+                least(times, f"near {line['script']}", sums["nanoseconds"])
+                found[line["script"]]["near"] = line["points"], sums["distances"]
+        for script in map(str, scripts):
+            agree(script, found[script])
+        rows.append([f"{kind}, {dims} coordinates", *(
+            ", ".join(f"{times[f'{side} {script}'] / 1e3:.2f}" for side in ("near", "tree"))
+            for script in scripts)])
+    write(runs, "near", ["microseconds a centre", "k = 1", "k = 10", "k = 100"], rows)
+
+
 def nearest(runs):
-    rows, points_py = [], TOP / "bench/points.py"
-    points, centres, seed = runs.given.size // 10, runs.given.questions // 100, runs.given.seed
+    """The command `near`, with reading its script and writing its text."""
+    rows, centres = [], runs.given.questions // 100
     for kind in ("uniform", "clustered"):
-        data = runs.made / "data" / f"{kind}.{points}.{seed}.points"
-        if not data.exists():
-            runs.run(sys.executable, points_py, "points", points, 2, kind, seed, data)
-        cells = [kind]
+        data, cells = runs.points(kind, 2), [kind]
         for k in (1, 10, 100):
-            script = data.with_suffix(f".{centres}.{k}")
-            if not script.exists():
-                runs.run(sys.executable, points_py, "centres", centres, 2, k, seed, data, script)
+            script = runs.centres(data, 2, k)
             times, found = {}, {}
             for _ in runs.rounds():
                 least(times, "near", runs.wall(runs.pgmtool, "near", data, script))
@@ -339,6 +438,11 @@ def nearest(runs):
 WORKS = (("put", "put"), ("hit", "get, a key that is there"), ("miss", "get, one that is not"),
          ("next", "next"), ("mixed", "mixed updates"), ("next2", "next after them"),
          ("apply", "the same by `apply`"), ("next3", "next after both"))
+WHOLES = (("range", "a range of a hundred pairs"), ("range2", "the same after mixed updates"),
+          ("count", "a count of some hundred keys"), ("count2", "the same after mixed updates"),
+          ("walk", "a pair, of all"), ("walk2", "the same after mixed updates"),
+          ("walk3", "the same after a load"), ("load", "a pair, of a load"),
+          ("drop", "a key, of giving all up"), ("take", "the least of up to 32,000 keys, deleted"))
 
 
 def ordered_map(runs):
@@ -349,27 +453,32 @@ def ordered_map(runs):
             for line in runs.run(program, *words).splitlines():
                 work, nanoseconds, _, checksum = line.split()
                 least(times, f"{side} {work}", nanoseconds)
-                if work in ("hit", "miss", "next", "next2", "next3"):
-                    sums.setdefault(work, {})[side] = checksum
+                sums.setdefault(work, {})[side] = checksum
     for work, found in sums.items():
+        if len(found) != 2:
+            raise Missing(f"{work} is of one side alone")
         agree(work, found)
-    rows = []
-    for work, name in WORKS:
-        ours, tree = times[f"map {work}"], times[f"tree {work}"]
-        rows.append([name, f"{ours:.0f}", f"{tree:.0f}", f"{ours / tree:.2f}"])
-    write(runs, "the map", [f"{size:,} keys", "`LogMap`", "`absl::btree_map`", "ratio"], rows)
+    for name, works in (("the map", WORKS), ("the map as a whole", WHOLES)):
+        rows = []
+        for work, meaning in works:
+            ours, tree = times[f"map {work}"], times[f"tree {work}"]
+            rows.append([meaning, f"{ours:.0f}", f"{tree:.0f}", f"{ours / tree:.2f}"])
+        write(runs, name, [f"{size:,} keys", "`LogMap`", "`absl::btree_map`", "ratio"], rows)
 
 
 def readers(runs):
-    size, best = runs.given.size // 10, {}
+    size, best, sums = runs.given.size // 10, {}, {}
     for _ in runs.rounds():
         for side, program, words in (("map", runs.bench, ("read", size, runs.given.questions)),
                                      ("tree", runs.rival("locked_tree"),
                                       (size, runs.given.questions))):
-            for line in rows_of(runs.run(program, *words), "readers"):
+            text = runs.run(program, *words)
+            sums[side] = tuple(re.findall(r" sum (\d+)$", text, re.M))
+            for line in rows_of(text, "readers"):
                 at = side, line["readers"], line["writing"]
                 if at not in best or float(line["looks"]) > float(best[at]["looks"]):
                     best[at] = line
+        agree("sums of the looks", sums)
     rows = []
     for many in ("1", "2", "4"):
         cells = [f"{many} reader{'s' if many != '1' else ''}"]
@@ -380,6 +489,11 @@ def readers(runs):
     write(runs, "readers beside a writer", ["millions of looks", "map, writer still",
                                             "map, publishing", "batches", "tree and lock, still",
                                             "tree and lock, publishing", "batches"], rows)
+
+
+def rate(many, seconds, digits):
+    """Millions a second, where the seconds can be told."""
+    return f"{many / seconds / 1e6:.{digits}f}" if seconds > 0 else "-"
 
 
 def senders(runs):
@@ -396,8 +510,8 @@ def senders(runs):
             least(times, "replay", runs.wall(runs.pgmtool, "replay", *options, "--readers", 1))
         beyond = times["mix"] - times["replay"]
         rows.append([f"{count} sender{'s' if count > 1 else ''}",
-                     *(f"{many / times[way] / 1e6:.2f}" for way in ("yield", "wait")),
-                     f"{many / beyond / 1e6:.1f}" if beyond > 0 else "-"])
+                     *(rate(many, times[way], 2) for way in ("yield", "wait")),
+                     rate(many, beyond, 1)])
     write(runs, "several senders", ["millions of updates a second", "deque, `yield`",
                                     "deque, `wait`", "`mix` beyond `replay`"], rows)
 
@@ -465,9 +579,10 @@ def write(runs, name, head, rows):
     PAGE.write_text(f"{before}{begin}\n{text}\n{end}{after}")
 
 
-PARTS = {"lookups": lookups, "memory": memory, "building": building, "segmenting": segmenting,
-         "questions": questions, "boxes": boxes, "nearest": nearest, "map": ordered_map,
-         "readers": readers, "senders": senders, "explain": explain}
+PARTS = {"lookups": lookups, "lines": lines, "memory": memory, "building": building,
+         "segmenting": segmenting, "questions": questions, "boxes": boxes, "near": near,
+         "nearest": nearest, "map": ordered_map, "readers": readers, "senders": senders,
+         "explain": explain}
 
 
 def main():

@@ -5,7 +5,8 @@
 #   --rounds N      rounds, of which the least counts (3) --seed N        of the data (1)
 #   --print         print the tables, and leave the page as it is
 #
-# Parts: lookups memory building questions segmenting boxes nearest map readers senders explain.
+# Parts: lookups lines memory building segmenting questions boxes near nearest map readers senders
+# explain.
 # It installs nothing. Data and the rivals' programs are made below out/bench. The proved programs
 # have to be there: `./pgmtool prove`, and `(cd crates/bench && rt run)`. Wanted are a C++ compiler
 # that knows C++20, python3, a processor with BMI2, and for `map` and `readers` the B-tree of Abseil

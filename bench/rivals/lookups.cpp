@@ -1,9 +1,9 @@
-// Ways to find how many keys are below a question: lookups KEYS QUESTIONS ROUNDS
+// Ways to find how many keys are below a question: lookups KEYS QUESTIONS ROUNDS [WAY ..]
 // Both files are a count and numbers of 64 bits. Each way goes once a round, and the least time
-// counts. Prints a line for each way: what it takes beyond the keys, in bytes; the milliseconds of
-// building; the nanoseconds of a question alone, chained (each waits for the answer before it) and
-// sixteen together, 0 where there is no such way; how many answers differ from
-// std::lower_bound; and the sum of the answers.
+// counts; without a name all ways go. Prints a line for each way: what it takes beyond the keys, in
+// bytes; the milliseconds of building; the nanoseconds of a question alone, chained (each waits for
+// the answer before it) and sixteen together, 0 where there is no such way; how many answers differ
+// from std::lower_bound; and the sum of the answers.
 #include "learned.hpp"
 #include "pgm_index.hpp"
 #include "searches.hpp"
@@ -136,37 +136,60 @@ static Way tree_way(const Numbers &keys) {
 }
 #endif
 
-static std::vector<Way> all_ways(const Numbers &keys) {
+static Way halving_way(const Numbers &keys) {
     const u64 *at = keys.data();
     size_t count = keys.size();
-    std::vector<Way> ways;
-    ways.push_back(way_of("lower_bound", [at, count](u64 question) {
-        return (u64)(std::lower_bound(at, at + count, question) - at);
-    }));
-    Way halving =
-        way_of("halving", [at, count](u64 question) { return halve(at, count, question); });
-    halving.together = [at, count](const Numbers &questions) {
+    Way way = way_of("halving", [at, count](u64 question) { return halve(at, count, question); });
+    way.together = [at, count](const Numbers &questions) {
         auto group = [at, count](const u64 *few, u64 *places) {
             halve_together<MANY>(at, count, few, places);
         };
         return sum_together(group, questions);
     };
-    ways.push_back(halving);
-    ways.push_back(pgm_way<pgm::Index<16>>("pgm_16", keys));
-    ways.push_back(pgm_way<pgm::Index<64>>("pgm_64", keys));
-    add_together(ways.back(), keys);
-    ways.push_back(pgm_way<pgm::Index<256>>("pgm_256", keys));
-    ways.push_back(pgm_way<pgm::Bucketing<16>>("buckets_16", keys));
-    auto spline = [&keys] { return std::make_shared<RadixSpline>(keys, 16, 18); };
-    ways.push_back(windowed<RadixSpline>("spline_16", keys, spline,
-                                         [](const RadixSpline &made) { return made.knots(); }));
-    for (int bits : {16, 20}) {
-        auto rmi = [&keys, bits] { return std::make_shared<Rmi>(keys, size_t(1) << bits); };
-        ways.push_back(windowed<Rmi>("rmi_" + std::to_string(bits), keys, rmi,
-                                     [](const Rmi &made) { return made.leaves(); }));
-    }
+    return way;
+}
+
+static Way spline_way(const Numbers &keys) {
+    auto make = [&keys] { return std::make_shared<RadixSpline>(keys, 16, 18); };
+    return windowed<RadixSpline>("spline_16", keys, make,
+                                 [](const RadixSpline &made) { return made.knots(); });
+}
+
+static Way rmi_way(const std::string &name, const Numbers &keys, int bits) {
+    auto make = [&keys, bits] { return std::make_shared<Rmi>(keys, size_t(1) << bits); };
+    return windowed<Rmi>(name, keys, make, [](const Rmi &made) { return made.leaves(); });
+}
+
+// The ways that are wanted, in their order.
+static std::vector<Way> ways_of(const Numbers &keys, const std::vector<std::string> &wanted) {
+    const u64 *at = keys.data();
+    size_t count = keys.size();
+    std::vector<Way> ways;
+    auto want = [&](const std::string &name, auto make) {
+        bool is_wanted = wanted.empty();
+        for (const std::string &word : wanted) is_wanted |= word == name;
+        if (is_wanted) ways.push_back(make(name));
+    };
+    using Name = const std::string &;
+    want("lower_bound", [&](Name name) {
+        return way_of(name, [at, count](u64 question) {
+            return (u64)(std::lower_bound(at, at + count, question) - at);
+        });
+    });
+    want("halving", [&](Name) { return halving_way(keys); });
+    want("pgm_16", [&](Name name) { return pgm_way<pgm::Index<16>>(name, keys); });
+    want("pgm_64", [&](Name name) {
+        Way way = pgm_way<pgm::Index<64>>(name, keys);
+        add_together(way, keys);
+        return way;
+    });
+    want("pgm_256", [&](Name name) { return pgm_way<pgm::Index<256>>(name, keys); });
+    want("buckets_16", [&](Name name) { return pgm_way<pgm::Bucketing<16>>(name, keys); });
+    want("spline_16", [&](Name) { return spline_way(keys); });
+    want("rmi_16", [&](Name name) { return rmi_way(name, keys, 16); });
+    want("rmi_20", [&](Name name) { return rmi_way(name, keys, 20); });
 #ifdef HAS_TREE
-    ways.push_back(tree_way(keys));
+    want("btree_map", [&](Name) { return tree_way(keys); });
 #endif
     return ways;
 }
@@ -188,13 +211,14 @@ static void go_once(std::vector<Way> &ways, const Numbers &questions) {
 }
 
 int main(int count, char **words) {
-    if (count != 4) fail("usage: lookups KEYS QUESTIONS ROUNDS");
+    if (count < 4) fail("usage: lookups KEYS QUESTIONS ROUNDS [WAY ..]");
     Numbers keys = read_numbers(words[1]), questions = read_numbers(words[2]);
     questions.resize(questions.size() / MANY * MANY);
-    std::vector<Way> ways = all_ways(keys);
+    std::vector<Way> ways = ways_of(keys, {words + 4, words + count});
     for (int round = 0; round < std::atoi(words[3]); ++round) go_once(ways, questions);
-    Numbers truth(questions.size()), places(questions.size());
-    ways[0].places(questions, truth);
+    Numbers truth, places(questions.size());
+    for (u64 question : questions)
+        truth.push_back((u64)(std::lower_bound(keys.begin(), keys.end(), question) - keys.begin()));
     std::printf("keys %zu questions %zu\n", keys.size(), questions.size());
     for (Way &way : ways) {
         way.places(questions, places);

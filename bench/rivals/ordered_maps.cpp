@@ -12,12 +12,14 @@
 #include <cstdlib>
 #include <map>
 #include <string>
+#include <utility>
 #include <vector>
 
 using Number = uint64_t;
 
-static const char *const kPhases[] = {"put",   "hit",   "miss",  "next",
-                                      "mixed", "next2", "apply", "next3"};
+using Pairs = std::vector<std::pair<Number, Number>>;
+
+constexpr Number kRange = 100, kTaken = 32000;
 
 static Number scattered(Number number) {
     Number word = (number + 1) * 0x9E3779B97F4A7C15ull;
@@ -46,16 +48,28 @@ static std::vector<Update> updates(Number n, Number from, Number stream) {
     return list;
 }
 
-template <class Map> static Number least_keys(const Map &map, Number n, Number stream) {
+// How many things were done, and their checksum.
+struct Done {
+    Number things, sum;
+};
+
+static Pairs sorted_pairs(Number n) {
+    Pairs pairs;
+    for (Number i = 0; i < n; ++i) pairs.push_back({scattered(i), i});
+    std::sort(pairs.begin(), pairs.end());
+    return pairs;
+}
+
+template <class Map> static Done least_keys(const Map &map, Number n, Number stream) {
     Number sum = 0;
     for (Number i = 0; i < n; ++i) {
         auto found = map.lower_bound(drawn(stream, i));
         if (found != map.end()) sum += found->first + found->second;
     }
-    return sum;
+    return {n, sum};
 }
 
-template <class Map> static Number values(const Map &map, Number n, bool hits) {
+template <class Map> static Done values(const Map &map, Number n, bool hits) {
     Number sum = 0;
     for (Number i = 0; i < n; ++i) {
         auto found = map.find(hits ? some_key(n, drawn(1, i)) : drawn(7, i));
@@ -64,62 +78,132 @@ template <class Map> static Number values(const Map &map, Number n, bool hits) {
         else if (!hits)
             ++sum;
     }
-    return sum;
+    return {n, sum};
 }
 
-template <class Map> static Number update_all(Map &map, const std::vector<Update> &list) {
+template <class Map> static Done ranges(const Map &map, Number n, Number stream) {
+    Number sum = 0, many = n / 10 + (n % 10 != 0);
+    for (Number i = 0; i < many; ++i) {
+        auto at = map.lower_bound(drawn(stream, i));
+        for (Number k = 0; k < kRange && at != map.end(); ++k, ++at) sum += at->first + at->second;
+    }
+    return {many, sum};
+}
+
+template <class Map> static Done walk(const Map &map) {
+    Number sum = 0;
+    for (const auto &pair : map) sum += pair.first + pair.second;
+    return {map.size(), sum};
+}
+
+// From a key to another, which is included.
+template <class Map> static Done counts(const Map &map, Number n, Number stream) {
+    Number width, sum = 0, many = n / 10 + (n % 10 != 0);
+    if (__builtin_mul_overflow(~Number(0) / n, kRange, &width)) width = ~Number(0);
+    for (Number i = 0; i < many; ++i) {
+        Number low = drawn(stream, i), high;
+        if (__builtin_add_overflow(low, width, &high)) high = ~Number(0);
+        for (auto at = map.lower_bound(low); at != map.end() && at->first <= high; ++at) ++sum;
+    }
+    return {many, sum};
+}
+
+template <class Map> static Done update_all(Map &map, const std::vector<Update> &list) {
     for (auto &update : list) {
         if (update.is_put)
             map.insert_or_assign(update.key, update.value);
         else
             map.erase(update.key);
     }
-    return 0;
+    return {list.size(), 0};
+}
+
+template <class Map> static Done give_up(Map &map, Number n) {
+    map.clear();
+    return {n, 0};
+}
+
+// Pairs that come sorted are put at the end.
+template <class Map> static Done load(Map &map, const Pairs &pairs) {
+    map.insert(pairs.begin(), pairs.end());
+    return {pairs.size(), 0};
+}
+
+template <class Map> static Done take_all(Map &map) {
+    Done done{0, 0};
+    while (!map.empty()) {
+        auto least = map.begin();
+        done.sum += least->first + least->second;
+        ++done.things;
+        map.erase(least);
+    }
+    return done;
+}
+
+struct Work {
+    Number n;
+    std::vector<Update> puts, first, second;
+    Pairs pairs;
+};
+
+// The works by name, in their order.
+template <class Map> struct Phase {
+    const char *name;
+    Done (*go)(Map &map, Map &queue, const Work &work);
+};
+
+template <class Map> static const std::vector<Phase<Map>> &phases() {
+    using W = const Work &;
+    static const std::vector<Phase<Map>> list = {
+        {"put", [](Map &map, Map &, W work) { return update_all(map, work.puts); }},
+        {"hit", [](Map &map, Map &, W work) { return values(map, work.n, true); }},
+        {"miss", [](Map &map, Map &, W work) { return values(map, work.n, false); }},
+        {"next", [](Map &map, Map &, W work) { return least_keys(map, work.n, 2); }},
+        {"range", [](Map &map, Map &, W work) { return ranges(map, work.n, 8); }},
+        {"walk", [](Map &map, Map &, W) { return walk(map); }},
+        {"count", [](Map &map, Map &, W work) { return counts(map, work.n, 9); }},
+        {"mixed", [](Map &map, Map &, W work) { return update_all(map, work.first); }},
+        {"next2", [](Map &map, Map &, W work) { return least_keys(map, work.n, 3); }},
+        {"range2", [](Map &map, Map &, W work) { return ranges(map, work.n, 10); }},
+        {"walk2", [](Map &map, Map &, W) { return walk(map); }},
+        {"count2", [](Map &map, Map &, W work) { return counts(map, work.n, 11); }},
+        {"apply", [](Map &map, Map &, W work) { return update_all(map, work.second); }},
+        {"next3", [](Map &map, Map &, W work) { return least_keys(map, work.n, 4); }},
+        {"drop", [](Map &map, Map &, W work) { return give_up(map, work.n); }},
+        {"load", [](Map &map, Map &, W work) { return load(map, work.pairs); }},
+        {"walk3", [](Map &map, Map &, W) { return walk(map); }},
+        {"take", [](Map &, Map &queue, W) { return take_all(queue); }},
+    };
+    return list;
 }
 
 template <class Map> static void time_all(Number n) {
-    auto first = updates(n, n, 5), second = updates(n, 2 * n, 6);
-    std::vector<Update> puts;
-    for (Number i = 0; i < n; ++i) puts.push_back({scattered(i), i, true});
-    double least[8];
-    Number sums[8];
-    std::fill(least, least + 8, 1e18);
+    Work work{n, {}, updates(n, n, 5), updates(n, 2 * n, 6), sorted_pairs(n)};
+    for (Number i = 0; i < n; ++i) work.puts.push_back({scattered(i), i, true});
+    const auto &list = phases<Map>();
+    std::vector<double> least(list.size(), 1e18);
+    std::vector<Number> sums(list.size());
     for (int round = 0; round < 3; ++round) {
-        Map map;
-        for (int phase = 0; phase < 8; ++phase) {
+        Map map, queue(work.pairs.begin(), work.pairs.begin() + std::min(n, kTaken));
+        for (std::size_t phase = 0; phase < list.size(); ++phase) {
             auto start = std::chrono::steady_clock::now();
-            switch (phase) {
-            case 0:
-                sums[phase] = update_all(map, puts);
-                break;
-            case 1:
-                sums[phase] = values(map, n, true);
-                break;
-            case 2:
-                sums[phase] = values(map, n, false);
-                break;
-            case 4:
-                sums[phase] = update_all(map, first);
-                break;
-            case 6:
-                sums[phase] = update_all(map, second);
-                break;
-            default:
-                sums[phase] = least_keys(map, n, (phase + 1) / 2);
-            }
+            Done done = list[phase].go(map, queue, work);
             auto time = std::chrono::steady_clock::now() - start;
-            least[phase] =
-                std::min(least[phase], std::chrono::duration<double, std::nano>(time).count() / n);
+            double each = std::chrono::duration<double, std::nano>(time).count() /
+                          std::max<Number>(done.things, 1);
+            least[phase] = std::min(least[phase], each);
+            sums[phase] = done.sum;
         }
     }
-    for (int phase = 0; phase < 8; ++phase)
-        std::printf("%s %.1f checksum %llu\n", kPhases[phase], least[phase],
+    for (std::size_t phase = 0; phase < list.size(); ++phase)
+        std::printf("%s %.1f checksum %llu\n", list[phase].name, least[phase],
                     (unsigned long long)sums[phase]);
 }
 
 int main(int count, char **words) {
     if (count != 3) return 2;
     Number n = std::strtoull(words[2], nullptr, 10);
+    if (n == 0) return 2;
     if (words[1] == std::string("tree"))
         time_all<absl::btree_map<Number, Number>>(n);
     else if (words[1] == std::string("map"))
