@@ -1,6 +1,10 @@
 pub mod Values
 pub mod Crossing
 pub mod IndexHandles
+pub mod LinesHandles
 pub mod MapHandles
+pub mod Judged
+pub mod PairLemmas
+pub mod Ranges
 pub mod Blocks
 pub mod Applied

@@ -1,7 +1,10 @@
 pub mod Owned
 pub mod Answers
 pub mod Building
+pub mod Lines
 pub mod Positions
 pub mod Segments
 pub mod Changes
 pub mod Updates
+pub mod Pairs
+pub mod Loading

@@ -38,7 +38,8 @@ pub(crate) fn boxed_index(
     }
 }
 
-fn answer_of(fault: KeysFault) -> Answer
+/// Why keys were refused, as an answer.
+pub(crate) fn answer_of(fault: KeysFault) -> Answer
     ensures { result ≡ refused_as fault }
 {
     match fault {

@@ -12,13 +12,20 @@
 
 mod answer;
 mod building;
+mod find_calls;
 mod index_calls;
 mod index_handle;
 mod kept_index;
+mod kept_lines;
+mod lines_calls;
+mod lines_handle;
+mod load_calls;
 mod loose;
+mod making;
 mod many;
 mod map_calls;
 mod map_handle;
+mod range_calls;
 mod segment_parts;
 mod updates;
 
@@ -26,6 +33,7 @@ ghost use Rattle.std.specs.Prelude.{◌≡◌};
 
 use answer::Answer;
 use index_handle::IndexHandle;
+use lines_handle::LinesHandle;
 use map_calls::Pair;
 use map_handle::MapHandle;
 use segment_parts::SegmentParts;
@@ -38,6 +46,8 @@ pub const VERSION: u32 = 1_000;
 const _: () = prove!(size_of::<Answer>() == 16);
 
 const _: () = prove!(size_of::<IndexHandle>() == 8);
+
+const _: () = prove!(size_of::<LinesHandle>() == 8);
 
 const _: () = prove!(size_of::<MapHandle>() == 8);
 
@@ -58,6 +68,7 @@ pub extern "C" fn kuldebiq_version() -> u32
 /// Handles may go to another thread: this is checked only where both are [`Send`]. It runs nothing.
 pub fn handles_may_move() {
     moves::<IndexHandle>();
+    moves::<LinesHandle>();
     moves::<MapHandle>();
 }
 

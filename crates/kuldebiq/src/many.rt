@@ -69,9 +69,7 @@ fn copy_at(found: &[u32], positions: &mut [u32], from: usize)
     ensures copied { (j : ℕ) → j < length found.now →
         slice_index positions.new (from + j) ≡ slice_index found.now j }
 {
-    for i in 0..found.len() {
-        positions[from + i] = found[i];
-    }
+    positions[from..from + found.len()].copy_from_slice(found);
 }
 
 fn one_by_one(index: &Index, questions: &[u64], positions: &mut [u32])

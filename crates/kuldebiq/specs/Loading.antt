@@ -1,0 +1,59 @@
+-- Which pairs can be loaded into a map, how others are refused, and what a map holds that was made of pairs.
+use Rattle.std.specs.Prelude.{◌≡◌, ◌⊎◌, ℕ, ◌-◌, ◌*◌, ◌^◌, ◌<◌, ◌≤◌, List, length, Option}
+use Rattle.std.specs.Option.{MatchOption}
+use Rattle.log_levels.specs.declared.update.Update.{Update}
+use Rattle.log_levels.specs.Accepted.{puts_of}
+use Rattle.log_levels.specs.Maps.{map_after, AreRising, IsFirstStall}
+use Rattle.log_levels.specs.Shapes.{Held, StandsFor}
+use Rattle.kuldebiq.specs.declared.answer.Answer.{Answer}
+use Rattle.kuldebiq.specs.Answers.{refuses}
+
+-- how many entries a map with so many levels can accept
+abbrev pub capacity_with : ℕ → ℕ
+capacity_with levels = 64 * 2 ^ levels - 1
+
+-- a map has as many levels
+pub record IsLevelCount (levels : ℕ) : Type 0 where
+  pub some : 1 ≤ levels
+  pub few : levels ≤ 26
+
+-- pairs that a map with so many levels takes: their keys rise, and they aren't too many
+pub record CanBeLoaded (levels : ℕ) (pairs : List (ℕ × ℕ)) : Type 0 where
+  pub level_count : IsLevelCount levels
+  pub rising : AreRising pairs
+  pub fit : length pairs ≤ capacity_with levels
+
+-- no map has so many levels
+abbrev pub RefusesLevels : ℕ → Answer → Type 0
+RefusesLevels levels answer = (answer ≡ refuses 10 levels) × ((levels ≡ 0) ⊎ (26 < levels))
+
+-- the first place whose key isn't above the one before it, or else the pairs are too many
+abbrev pub RefusesPairs : ℕ → List (ℕ × ℕ) → Answer → Type 0
+RefusesPairs levels pairs answer =
+    ((place : ℕ) × (answer ≡ refuses 4 place) × IsFirstStall pairs place)
+    ⊎ (AreRising pairs × ((answer ≡ refuses 11 (capacity_with levels)) × (capacity_with levels < length pairs)))
+
+-- a number of levels that no map has, or else pairs that are refused
+abbrev pub IsLoadRefusal : ℕ → List (ℕ × ℕ) → Answer → Type 0
+IsLoadRefusal levels pairs answer = RefusesLevels levels answer ⊎ (IsLevelCount levels × RefusesPairs levels pairs answer)
+
+-- the map stands for a put of each of these pairs, and is these pairs; it has so many levels, and has accepted nothing else
+pub record IsMapOf (levels : ℕ) (pairs : List (ℕ × ℕ)) (map : Held) : Type 0 where
+  pub stands : StandsFor map (puts_of pairs)
+  pub same : map_after (puts_of pairs) ≡ pairs
+  pub accepted : map.accepted ≡ length pairs
+  pub level_count : length map.levels ≡ levels
+
+-- the handle holds the map of these pairs
+abbrev pub HoldsMapOf : ℕ → List (ℕ × ℕ) → Option Held → Type 0
+HoldsMapOf levels pairs held = MatchOption held ⊥ (IsMapOf levels pairs)
+
+-- the handle holds the map of the pairs that the one has that it held
+abbrev pub HasCompacted : ℕ → Option Held → Option Held → Type 0
+HasCompacted levels was now = MatchOption was ⊥ (λ map. (updates : List Update) → StandsFor map updates → HoldsMapOf levels (map_after updates) now)
+
+-- why a map isn't compacted: no map has so many levels, or else it has more pairs than fit, or memory isn't found
+abbrev pub RefusesCompact : ℕ → Held → Answer → Type 0
+RefusesCompact levels map answer =
+    RefusesLevels levels answer
+    ⊎ (IsLevelCount levels × (((answer ≡ refuses 11 (capacity_with levels)) × ((updates : List Update) → StandsFor map updates → capacity_with levels < length (map_after updates))) ⊎ (answer ≡ refuses 1 0)))
