@@ -30,6 +30,13 @@ sanitizes() {
     "$1" -fsanitize=address,undefined "$made/try.c" -o "$made/try" >/dev/null 2>&1 && "$made/try"
 }
 
+# Whether the compiler has the spans of C++20.
+has_spans() {
+    printf '#include <iterator>\n#include <span>\nint main() { return std::span<int>{}.size() != 0; }\n' \
+        >"$made/try.cpp"
+    "$1" -std=c++20 "$made/try.cpp" -o "$made/try" >/dev/null 2>&1
+}
+
 # Builds a program and runs it: its compiler, its source, its own words, and what else the compiler
 # is told.
 try() {
@@ -74,12 +81,16 @@ if have pkg-config; then
 fi
 
 both "$cc" examples/c/walk.c "" -std=c11
+both "$cc" examples/c/mapped.c "" -std=c11
 both "$cc" examples/c/no_memory.c "" -std=c11
 ran="C"
 if have "$cxx"; then
     both "$cxx" examples/cpp/walk.cpp "" -std=c++17
     both "$cxx" examples/cpp/compare.cpp 50000 -std=gnu++17 -pthread -Wno-pedantic
-    both "$cxx" examples/cpp/threads.cpp 20000 -std=c++17 -pthread
+    both "$cxx" examples/cpp/threads.cpp "" -std=c++17 -pthread
+    if has_spans "$cxx"; then
+        both "$cxx" examples/cpp/lines.cpp "" -std=c++20
+    fi
     ran="$ran, C++"
 fi
 if have python3; then

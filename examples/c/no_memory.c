@@ -48,6 +48,33 @@ static bool is(kuldebiq_answer answer, uint32_t status, uint64_t number) {
     return answer.status == status && answer.number == number;
 }
 
+/* The map of 1000 keys, made anew and made of other pairs, while each allocation fails in turn. */
+static void load_and_compact(kuldebiq_map *map) {
+    static kuldebiq_pair pairs[1000];
+    for (uint64_t i = 0; i < 1000; i++) pairs[i] = (kuldebiq_pair){2 * i, i};
+    kuldebiq_answer answer;
+    for (long tries = 0;; tries++) {
+        granted = tries;
+        answer = kuldebiq_map_compact(map, 5);
+        if (answer.status == KULDEBIQ_DONE) break;
+        expect(is(answer, KULDEBIQ_NO_MEMORY, 0), "a compaction");
+        expect(is(kuldebiq_map_capacity(map), KULDEBIQ_DONE, 1023), "that the old map stands");
+    }
+    expect(answer.number == 1000 && is(kuldebiq_map_capacity(map), KULDEBIQ_DONE, 2047), "the new map");
+    for (long tries = 0;; tries++) {
+        granted = tries;
+        answer = kuldebiq_map_load(map, 4, pairs, 1000);
+        if (answer.status == KULDEBIQ_DONE) break;
+        expect(is(answer, KULDEBIQ_NO_MEMORY, 0), "a load");
+        expect(is(kuldebiq_map_get(map, 999), KULDEBIQ_DONE, 1006), "that all keys stand");
+    }
+    kuldebiq_pair last = {0, 0};
+    granted = 0;
+    expect(is(kuldebiq_map_range(map, 1997, 9999, &last, 1), KULDEBIQ_DONE, 1) && last.key == 1998 &&
+               is(kuldebiq_map_previous(map, 5, &last), KULDEBIQ_DONE, 0) && last.value == 2,
+           "pairs without memory");
+}
+
 int main(void) {
     enum { COUNT = 5000 };
     static uint64_t keys[COUNT];
@@ -73,6 +100,23 @@ int main(void) {
                positions[0] == 100 && positions[2] == 102,
            "positions without memory");
     expect(is(kuldebiq_index_share(&index, &other), KULDEBIQ_NO_MEMORY, 0), "a share");
+    /* Places come by lines, also without memory; the lines that a handle holds stand. */
+    kuldebiq_lines lines = KULDEBIQ_NOTHING;
+    static uint64_t words[COUNT];
+    granted = 1000;
+    answer = kuldebiq_lines_build(&lines, keys, COUNT, 64);
+    expect(answer.status == KULDEBIQ_DONE && answer.number <= COUNT, "lines");
+    for (tries = 0;; tries++) {
+        granted = tries;
+        kuldebiq_answer other_lines = kuldebiq_lines_build(&lines, keys, 4000, 2);
+        if (other_lines.status == KULDEBIQ_DONE) break;
+        expect(is(other_lines, KULDEBIQ_NO_MEMORY, 0), "lines without memory");
+        expect(is(kuldebiq_lines_words(&lines), KULDEBIQ_DONE, answer.number), "that lines stand");
+    }
+    granted = 0;
+    answer = kuldebiq_lines_write(&lines, words, COUNT);
+    expect(answer.status == KULDEBIQ_DONE, "words without memory");
+    expect(kuldebiq_find(keys, 4000, words, answer.number, 50) == 8, "a place without memory");
     kuldebiq_map map = KULDEBIQ_NOTHING;
     expect(is(kuldebiq_map_new(&map, 4), KULDEBIQ_NO_MEMORY, 0), "a map");
     granted = 1000;
@@ -87,7 +131,9 @@ int main(void) {
             expect(is(kuldebiq_map_count(&map, 0, 9999), KULDEBIQ_DONE, key), "that all keys stand");
         }
     }
+    load_and_compact(&map);
     kuldebiq_map_free(&map);
+    kuldebiq_lines_free(&lines);
     kuldebiq_index_free(&index);
     kuldebiq_index_free(&other);
     expect(blocks == 0, "that all memory is given back");

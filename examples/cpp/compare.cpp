@@ -1,4 +1,4 @@
-// The calls beside std::lower_bound and std::map, on as many random keys and updates as the first
+// The calls beside std::lower_bound, std::upper_bound and std::map, on as many random keys and updates as the first
 // word says, a million where there is none. Says what differs, and ends with 1 then.
 #include "kuldebiq.h"
 
@@ -58,6 +58,86 @@ Keys random_questions(std::mt19937_64 &random, const Keys &keys) {
         questions.push_back(i % 4 == 0 ? random() : key + i % 4 - 2);
     }
     return questions;
+}
+
+// The words of the lines of keys, behind which two more numbers stay as they are.
+Keys lines_of(const Keys &keys, std::uint32_t epsilon) {
+    kuldebiq_lines lines = KULDEBIQ_NOTHING;
+    expect(is(kuldebiq_lines_words(&lines), KULDEBIQ_NOTHING_HELD, 0), "no words of no lines");
+    const kuldebiq_answer made = kuldebiq_lines_build(&lines, keys.data(), keys.size(), epsilon);
+    expect(made.status == KULDEBIQ_DONE && gives(kuldebiq_lines_words(&lines), made.number),
+           "how many words");
+    Keys words(made.number + 2, 7);
+    expect(is(kuldebiq_lines_write(&lines, words.data(), made.number - 1), KULDEBIQ_TOO_LITTLE_ROOM,
+              made.number - 1) &&
+               words[0] == 7,
+           "room for too few words");
+    expect(gives(kuldebiq_lines_write(&lines, words.data(), words.size()), made.number), "the words");
+    expect(words[made.number] == 7 && words[made.number + 1] == 7, "what lies behind the words");
+    words.resize(made.number);
+    // A refusal leaves the handle as it is.
+    const Keys falling{1, 4, 4, 3, 2};
+    expect(is(kuldebiq_lines_build(&lines, falling.data(), 5, epsilon), KULDEBIQ_UNSORTED, 3) &&
+               is(kuldebiq_lines_build(&lines, falling.data(), 5, 1048577), KULDEBIQ_EPSILON_TOO_GREAT,
+                  1048577) &&
+               gives(kuldebiq_lines_words(&lines), made.number),
+           "lines that are refused");
+    kuldebiq_lines_free(&lines);
+    kuldebiq_lines_free(&lines);
+    return words;
+}
+
+// By these words, which need not be those of the keys.
+void compare_found(const Keys &keys, const Keys &words, const Keys &questions) {
+    std::vector<std::size_t> places(questions.size() + 3, 7);
+    kuldebiq_find_many(keys.data(), keys.size(), words.data(), words.size(), questions.data(),
+                       questions.size(), places.data(), places.size());
+    expect(std::count(places.end() - 3, places.end(), std::size_t(7)) == 3, "what lies behind places");
+    for (std::size_t i = 0; i < questions.size(); i++) {
+        const std::uint64_t want = below(keys, questions[i]);
+        const auto after = std::upper_bound(keys.begin(), keys.end(), questions[i]);
+        expect(places[i] == want, "one of many places");
+        expect(kuldebiq_find(keys.data(), keys.size(), words.data(), words.size(), questions[i]) == want,
+               "a place");
+        expect(kuldebiq_find_past(keys.data(), keys.size(), words.data(), words.size(), questions[i]) ==
+                   std::size_t(after - keys.begin()),
+               "the place past a question");
+    }
+}
+
+// A place in keys that may fall: the key before it is below the question, and that at it isn't.
+void compare_brackets(const Keys &keys, const Keys &words, const Keys &questions) {
+    for (const std::uint64_t question : questions) {
+        const std::size_t place =
+            kuldebiq_find(keys.data(), keys.size(), words.data(), words.size(), question);
+        expect(place <= keys.size() && (place == 0 || keys[place - 1] < question) &&
+                   (place == keys.size() || keys[place] >= question),
+               "a bracket");
+    }
+}
+
+void compare_finding(std::mt19937_64 &random, const Keys &keys, const Keys &questions) {
+    const Keys words = lines_of(keys, EPSILON);
+    compare_found(keys, words, questions);
+    const Keys few(questions.begin(), questions.begin() + std::min<std::size_t>(questions.size(), 2000));
+    compare_found(keys, lines_of(keys, 0), few);
+    compare_found(keys, {}, few);
+    compare_found({}, words, few);
+    Keys damaged = words;
+    for (std::size_t i = 2; i < damaged.size(); i += 1 + random() % 8) damaged[i] = random();
+    compare_found(keys, damaged, few);
+    Keys mixed = keys;
+    std::shuffle(mixed.begin(), mixed.end(), random);
+    compare_brackets(mixed, words, few);
+    std::size_t room[2] = {7, 7};
+    kuldebiq_find_many(keys.data(), keys.size(), words.data(), words.size(), few.data(), few.size(), room,
+                       1);
+    expect(room[0] == below(keys, few[0]) && room[1] == 7, "room for one place");
+    kuldebiq_find_many(nullptr, 0, nullptr, 0, nullptr, 0, nullptr, 0);
+    expect(kuldebiq_find(nullptr, 0, nullptr, 0, 5) == 0 &&
+               kuldebiq_find_past(nullptr, 0, nullptr, 0, UINT64_MAX) == 0,
+           "a place among no keys");
+    expect(lines_of({}, EPSILON).size() >= 6, "lines of no keys");
 }
 
 void compare_positions(kuldebiq_index &index, const Keys &keys, const Keys &questions) {
@@ -170,6 +250,9 @@ void compare_refusals(kuldebiq_index &index, const Keys &keys) {
                "too many keys");
         munmap(nowhere, many * sizeof(std::uint64_t));
     }
+    kuldebiq_lines no_lines = KULDEBIQ_NOTHING;
+    std::uint64_t words[6];
+    expect(is(kuldebiq_lines_write(&no_lines, words, 6), KULDEBIQ_NOTHING_HELD, 0), "no lines");
     expect(is(kuldebiq_positions(&index, keys.data(), 3, room, 2), KULDEBIQ_TOO_LITTLE_ROOM, 2),
            "room for too few");
     expect(is(kuldebiq_positions(&none, keys.data(), 3, room, 2), KULDEBIQ_NOTHING_HELD, 0),
@@ -191,6 +274,7 @@ void compare_index(std::mt19937_64 &random, std::size_t count) {
                  keys.size()),
            "build");
     const Keys questions = random_questions(random, keys);
+    compare_finding(random, keys, questions);
     compare_positions(index, keys, questions);
     compare_in_threads(index, keys, questions);
     compare_lines(index, keys);
@@ -238,10 +322,70 @@ void ask(kuldebiq_map &map, const Wanted &wanted, std::uint64_t key) {
         expect(gives(next, 0) && pair.key == after->first && pair.value == after->second,
                "the next key");
     }
+    kuldebiq_pair last{7, 7};
+    const auto past = wanted.upper_bound(key);
+    const kuldebiq_answer previous = kuldebiq_map_previous(&map, key, &last);
+    if (past == wanted.begin()) {
+        expect(is(previous, KULDEBIQ_ABSENT, 0) && last.key == 7 && last.value == 7, "no previous key");
+    } else {
+        const auto before = std::prev(past);
+        expect(gives(previous, 0) && last.key == before->first && last.value == before->second,
+               "the previous key");
+    }
+}
+
+// The first pairs of a range, as many as there is room for.
+void compare_range(kuldebiq_map &map, const Wanted &wanted, std::uint64_t low, std::uint64_t high,
+                   std::size_t room) {
+    std::vector<kuldebiq_pair> pairs(room + 1, kuldebiq_pair{7, 7});
+    std::size_t count = 0;
+    const kuldebiq_answer found = kuldebiq_map_range(&map, low, high, pairs.data(), room);
+    for (auto at = wanted.lower_bound(low); at != wanted.end() && at->first <= high && count < room;
+         ++at, count++) {
+        expect(pairs[count].key == at->first && pairs[count].value == at->second, "a pair of a range");
+    }
+    expect(gives(found, count), "how many pairs a range has");
+    for (; count <= room; count++) {
+        expect(pairs[count].key == 7 && pairs[count].value == 7, "what lies behind the pairs");
+    }
+}
+
+// The map made at once of the pairs of another, and the other one made anew.
+void compare_loaded(kuldebiq_map &map, const Wanted &wanted) {
+    std::vector<kuldebiq_pair> pairs;
+    for (const auto &want : wanted) pairs.push_back({want.first, want.second});
+    kuldebiq_map loaded = KULDEBIQ_NOTHING;
+    expect(is(kuldebiq_map_compact(&loaded, 16), KULDEBIQ_NOTHING_HELD, 0), "no map to compact");
+    expect(is(kuldebiq_map_load(&loaded, 0, pairs.data(), pairs.size()), KULDEBIQ_LEVELS_OUT_OF_RANGE, 0),
+           "no levels");
+    expect(gives(kuldebiq_map_load(&loaded, 16, pairs.data(), pairs.size()), wanted.size()), "a load");
+    compare_range(loaded, wanted, 0, UINT64_MAX, wanted.size() + 1);
+    expect(gives(kuldebiq_map_accepted(&loaded), wanted.size()), "how many a load is");
+    expect(is(kuldebiq_map_load(&loaded, 1, pairs.data(), 128), KULDEBIQ_FULL, 127), "a load of too many");
+    std::swap(pairs[3], pairs[5]);
+    expect(is(kuldebiq_map_load(&loaded, 16, pairs.data(), pairs.size()), KULDEBIQ_UNSORTED, 4),
+           "a load of pairs that fall");
+    pairs[1] = pairs[0];
+    expect(is(kuldebiq_map_load(&loaded, 1, pairs.data(), pairs.size()), KULDEBIQ_UNSORTED, 1),
+           "a load of one key twice");
+    expect(gives(kuldebiq_map_count(&loaded, 0, UINT64_MAX), wanted.size()), "that the map stands");
+    expect(is(kuldebiq_map_compact(&map, 27), KULDEBIQ_LEVELS_OUT_OF_RANGE, 27) &&
+               is(kuldebiq_map_compact(&map, 1), KULDEBIQ_FULL, 127),
+           "a map that isn't compacted");
+    compare_range(map, wanted, 0, UINT64_MAX, wanted.size() + 1);
+    expect(gives(kuldebiq_map_compact(&map, 17), wanted.size()), "a compacted map");
+    expect(gives(kuldebiq_map_accepted(&map), wanted.size()) &&
+               gives(kuldebiq_map_capacity(&map), 64 * 131072 - 1),
+           "what it has accepted and can");
+    compare_range(map, wanted, 0, UINT64_MAX, wanted.size() + 1);
+    expect(gives(kuldebiq_map_load(&loaded, 2, nullptr, 0), 0) &&
+               gives(kuldebiq_map_count(&loaded, 0, UINT64_MAX), 0),
+           "a load of nothing");
+    kuldebiq_map_free(&loaded);
 }
 
 void compare_map(std::mt19937_64 &random, std::size_t count) {
-    kuldebiq_map map = KULDEBIQ_NOTHING;
+    kuldebiq_map map = KULDEBIQ_NOTHING, none = KULDEBIQ_NOTHING;
     expect(is(kuldebiq_map_new(&map, 27), KULDEBIQ_LEVELS_OUT_OF_RANGE, 27), "too many levels");
     expect(is(kuldebiq_map_put(&map, 1, 1), KULDEBIQ_NOTHING_HELD, 0), "no map");
     expect(gives(kuldebiq_map_new(&map, 16), 64 * 65536 - 1), "new");
@@ -262,6 +406,16 @@ void compare_map(std::mt19937_64 &random, std::size_t count) {
                "a walk");
         from = pair.key + 1;
     }
+    expect(is(kuldebiq_map_range(&none, 0, 9, &pair, 1), KULDEBIQ_NOTHING_HELD, 0) &&
+               is(kuldebiq_map_previous(&none, 9, &pair), KULDEBIQ_NOTHING_HELD, 0),
+           "no map to go through");
+    for (std::size_t room = 0; room < 300; room += 1 + room / 8) {
+        const std::uint64_t low = random() % top;
+        compare_range(map, wanted, low, low + random() % top, room);
+        compare_range(map, wanted, low, UINT64_MAX, room);
+    }
+    compare_range(map, wanted, 9, 8, 5);
+    compare_loaded(map, wanted);
     kuldebiq_map_free(&map);
 }
 

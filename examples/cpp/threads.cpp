@@ -1,11 +1,21 @@
-// What threads that ask one index cost one another: each has a handle of its own, in an array (side by
-// side) or in cache lines of their own (apart). Prints the questions a second of all threads together,
-// in millions, for 1, 2 and 4 threads; the first word says how many questions each asks.
+// What threads that ask at once cost one another. With no words it compares what they answer, on few
+// keys. With two, as many keys as the first says and as many questions for each thread as the second,
+//
+//     threads KEYS QUESTIONS
+//
+// it prints the nanoseconds that each thread takes for a question, for 1, 2 and 4 threads: by
+// kuldebiq_find over keys and lines that all share, and by kuldebiq_position with a handle for each,
+// side by side in one array, or 64 bytes apart. Threads that cost one another nothing take as long as
+// one.
 #include "kuldebiq.h"
 
+#include <algorithm>
+#include <atomic>
 #include <chrono>
+#include <cstddef>
 #include <cstdint>
 #include <cstdlib>
+#include <iomanip>
 #include <iostream>
 #include <random>
 #include <thread>
@@ -13,55 +23,135 @@
 
 namespace {
 
-struct alignas(128) Apart {
-    kuldebiq_index handle = KULDEBIQ_NOTHING;
-};
+using Numbers = std::vector<std::uint64_t>;
 
 struct Beside {
     kuldebiq_index handle = KULDEBIQ_NOTHING;
 };
 
-void expect(bool holds) {
-    if (!holds) std::exit(1);
+struct alignas(64) Apart {
+    kuldebiq_index handle = KULDEBIQ_NOTHING;
+};
+
+void expect(bool holds, const char *what) {
+    if (!holds) {
+        std::cerr << "differs: " << what << '\n';
+        std::exit(1);
+    }
 }
 
-void ask(kuldebiq_index &index, std::uint64_t seed, std::size_t count) {
+Numbers random_numbers(std::uint64_t seed, std::size_t count) {
     std::mt19937_64 random(seed);
-    std::uint64_t sum = 0;
-    for (std::size_t i = 0; i < count; i++) sum += kuldebiq_position(&index, random() >> 40).number;
-    expect(sum > 0);
+    Numbers numbers(count);
+    for (std::uint64_t &number : numbers) number = random();
+    return numbers;
 }
 
-// Millions of questions a second.
-template <typename Handle>
-double asked(kuldebiq_index &index, std::size_t threads, std::size_t count) {
-    std::vector<Handle> handles(threads);
-    for (Handle &handle : handles) {
-        expect(kuldebiq_index_share(&index, &handle.handle).status == KULDEBIQ_DONE);
-    }
+Numbers lines_of(const Numbers &keys) {
+    kuldebiq_lines lines = KULDEBIQ_NOTHING;
+    const kuldebiq_answer made = kuldebiq_lines_build(&lines, keys.data(), keys.size(), 64);
+    expect(made.status == KULDEBIQ_DONE, "lines");
+    Numbers words(made.number);
+    const kuldebiq_answer written = kuldebiq_lines_write(&lines, words.data(), words.size());
+    expect(written.status == KULDEBIQ_DONE && written.number == words.size(), "their words");
+    kuldebiq_lines_free(&lines);
+    return words;
+}
+
+// Has each thread ask its questions, and adds what it is told to its sum. Gives the nanoseconds that
+// a question took. The threads begin together.
+template <typename Ask>
+double asked(const std::vector<Numbers> &questions, std::size_t threads, Numbers &sums, Ask ask) {
+    std::atomic<std::size_t> ready{0};
+    std::atomic<bool> begin{false};
     std::vector<std::thread> running;
-    const auto begun = std::chrono::steady_clock::now();
     for (std::size_t i = 0; i < threads; i++) {
-        running.emplace_back([&handles, i, count] { ask(handles[i].handle, i, count); });
+        running.emplace_back([&, i] {
+            std::uint64_t sum = 0;
+            ready++;
+            while (!begin) std::this_thread::yield();
+            for (const std::uint64_t question : questions[i]) sum += ask(i, question);
+            sums[i] = sum;
+        });
     }
+    while (ready < threads) std::this_thread::yield();
+    const auto from = std::chrono::steady_clock::now();
+    begin = true;
     for (std::thread &thread : running) thread.join();
-    const std::chrono::duration<double> took = std::chrono::steady_clock::now() - begun;
-    for (Handle &handle : handles) kuldebiq_index_free(&handle.handle);
-    return double(threads) * double(count) / took.count() / 1e6;
+    const std::chrono::duration<double, std::nano> took = std::chrono::steady_clock::now() - from;
+    return took.count() / double(questions[0].size());
+}
+
+// The same with a handle for each thread.
+template <typename Handle>
+double asked_by(kuldebiq_index &index, const std::vector<Numbers> &questions, std::size_t threads,
+                Numbers &sums) {
+    std::vector<Handle> handles(threads);
+    for (Handle &one : handles) {
+        expect(kuldebiq_index_share(&index, &one.handle).status == KULDEBIQ_DONE, "a share");
+    }
+    const double took = asked(questions, threads, sums, [&](std::size_t i, std::uint64_t question) {
+        return kuldebiq_position(&handles[i].handle, question).number;
+    });
+    for (Handle &one : handles) kuldebiq_index_free(&one.handle);
+    return took;
+}
+
+Numbers wanted(const Numbers &keys, const std::vector<Numbers> &questions) {
+    Numbers sums;
+    for (const Numbers &list : questions) {
+        std::uint64_t sum = 0;
+        for (const std::uint64_t question : list) {
+            sum += std::uint64_t(std::lower_bound(keys.begin(), keys.end(), question) - keys.begin());
+        }
+        sums.push_back(sum);
+    }
+    return sums;
+}
+
+void run(std::size_t count, std::size_t each, bool timed) {
+    Numbers keys = random_numbers(1, count);
+    std::sort(keys.begin(), keys.end());
+    const Numbers lines = lines_of(keys);
+    kuldebiq_index index = KULDEBIQ_NOTHING;
+    expect(kuldebiq_index_build(&index, keys.data(), keys.size(), 64, 4).status == KULDEBIQ_DONE,
+           "an index");
+    std::vector<Numbers> questions;
+    for (std::uint64_t seed = 2; seed < 6; seed++) questions.push_back(random_numbers(seed, each));
+    const Numbers want = wanted(keys, questions);
+    if (timed) std::cout << "threads  find  side by side  64 bytes apart\n";
+    for (const std::size_t threads : {1, 2, 4}) {
+        Numbers found(4), beside(4), apart(4);
+        const double by_lines = asked(questions, threads, found, [&](std::size_t, std::uint64_t q) {
+            return kuldebiq_find(keys.data(), keys.size(), lines.data(), lines.size(), q);
+        });
+        const double side_by_side = asked_by<Beside>(index, questions, threads, beside);
+        const double far_apart = asked_by<Apart>(index, questions, threads, apart);
+        for (std::size_t i = 0; i < threads; i++) {
+            expect(found[i] == want[i], "what kuldebiq_find gives");
+            expect(beside[i] == want[i], "what handles side by side give");
+            expect(apart[i] == want[i], "what handles that lie apart give");
+        }
+        if (timed) {
+            std::cout << std::fixed << std::setprecision(0) << std::setw(7) << threads << std::setw(6)
+                      << by_lines << std::setw(14) << side_by_side << std::setw(16) << far_apart << '\n';
+        } else {
+            std::cout << "threads " << threads << ": no difference\n";
+        }
+    }
+    kuldebiq_index_free(&index);
 }
 
 } // namespace
 
 int main(int words, char **word) {
-    const std::size_t count = words > 1 ? std::strtoull(word[1], nullptr, 10) : 1000000;
-    std::vector<std::uint64_t> keys;
-    for (std::uint64_t i = 0; i < 1000000; i++) keys.push_back(i * 16 + i % 7);
-    kuldebiq_index index = KULDEBIQ_NOTHING;
-    expect(kuldebiq_index_build(&index, keys.data(), keys.size(), 64, 4).status == KULDEBIQ_DONE);
-    for (const std::size_t threads : {1, 2, 4}) {
-        std::cout << threads << " threads: side by side " << asked<Beside>(index, threads, count)
-                  << ", apart " << asked<Apart>(index, threads, count) << '\n';
+    if (words == 1) {
+        run(20000, 5000, false);
+    } else if (words == 3) {
+        run(std::strtoull(word[1], nullptr, 10), std::strtoull(word[2], nullptr, 10), true);
+    } else {
+        std::cerr << "usage: threads [KEYS QUESTIONS]\n";
+        return 2;
     }
-    kuldebiq_index_free(&index);
     return 0;
 }
