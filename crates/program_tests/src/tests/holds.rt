@@ -1,5 +1,5 @@
-// Gates that hold a thread at a place until another place was reached. So a run whose threads don't
-// get there at once gives up, and its test fails.
+// Gates that hold a thread at a place until another place was reached. A thread gives up where no
+// other gets there at once: then its test fails, or shows that it is alone.
 use super::*;
 use edge::Place;
 use std::sync::atomic::{AtomicBool, Ordering};
@@ -8,21 +8,23 @@ use std::thread::yield_now;
 // How often a thread looks before it gives up.
 const TURNS: u64 = 1_000_000;
 
-// A place that is held until another is reached.
+// A place that is held until another is reached, or for so many looks.
 #[derive(Drop)]
-struct Hold {
+pub struct Hold {
     place: Place,
     until: Place,
+    turns: u64,
     begun: AtomicBool,
     reached: AtomicBool,
     gave_up: AtomicBool,
 }
 
 impl Hold {
-    fn new((place, until): (Place, Place)) -> Hold {
+    pub fn new((place, until): (Place, Place), turns: u64) -> Hold {
         Hold {
             place,
             until,
+            turns,
             begun: AtomicBool::new(false),
             reached: AtomicBool::new(false),
             gave_up: AtomicBool::new(false),
@@ -40,7 +42,7 @@ impl Hold {
             return;
         }
         self.begun.store(true, Ordering::SeqCst);
-        for _turn in 0..TURNS {
+        for _turn in 0..self.turns {
             if self.reached.load(Ordering::SeqCst) {
                 return;
             }
@@ -55,6 +57,18 @@ impl Hold {
             && self.reached.load(Ordering::SeqCst)
             && !self.gave_up.load(Ordering::SeqCst)
     }
+
+    // Whether the other place was reached, but only when a thread had given up.
+    pub fn is_in_vain(&self) -> bool {
+        self.reached.load(Ordering::SeqCst) && self.gave_up.load(Ordering::SeqCst)
+    }
+}
+
+impl Gate for Hold {
+    fn at(&self, place: Place) {
+        self.tell(place);
+        self.hold(place);
+    }
 }
 
 // A gate that holds two places.
@@ -68,8 +82,8 @@ impl Holds {
     // Each pair is a place, and the one that it is held for.
     pub fn new(one: (Place, Place), other: (Place, Place)) -> Holds {
         Holds {
-            one: Hold::new(one),
-            other: Hold::new(other),
+            one: Hold::new(one, TURNS),
+            other: Hold::new(other, TURNS),
         }
     }
 

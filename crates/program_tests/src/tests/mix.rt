@@ -3,6 +3,7 @@
 use super::*;
 use edge::Place;
 use holds::Holds;
+use std::sync::atomic::{AtomicU64, Ordering};
 
 const ROWS: [Row; 5] = [
     (
@@ -76,6 +77,64 @@ fn senders_send_at_once(rt: HostRuntime) -> Result<(), Fail> {
     let expected = b"updates 2\nfrom 1\nfrom 0\nend get 1 10\nlive 1\n";
     assert_eq!(rt; text.as_slice(), expected.as_slice());
     Ok(())
+}
+
+// A gate that holds two places, and keeps the number of the last publication.
+#[derive(Drop)]
+struct Counted {
+    holds: Holds,
+    published: AtomicU64,
+}
+
+impl Gate for Counted {
+    fn at(&self, place: Place) {
+        if let Place::Published(number) = place {
+            self.published.store(number, Ordering::SeqCst);
+        }
+        self.holds.at(place);
+    }
+}
+
+// Mixes so many puts of one sender in batches of three. Both holds have to be passed, and there
+// have to be so many publications.
+fn check_batches<R: AllocGlobal + Abort + Threads + Wait + Sync>(
+    rt: &R,
+    count: u64,
+    holds: Holds,
+    published: u64,
+) -> Result<(), Fail> {
+    let gate = Counted {
+        holds,
+        published: AtomicU64::new(0),
+    };
+    let script = puts(rt, count, (1, 1), (1, 1))?;
+    let text = mixed(rt, "mix script --senders 1 --batch 3", &script, &gate)?;
+    assert!(rt; gate.holds.is_passed());
+    assert_eq!(rt; gate.published.load(Ordering::SeqCst), published);
+    let live = format!(in rt.alloc(); "from 0\nlive {count}\n")?;
+    assert!(rt; text.ends_with(live.as_bytes()), "{text:?}");
+    Ok(())
+}
+
+// The sender waits with its second update until the first is published, and with its third until
+// the second is. A writer that waits for whole batches, or publishes at the end, never gets there.
+#[test]
+fn an_update_by_itself_is_published(rt: HostRuntime) -> Result<(), Fail> {
+    let second = Place::Send { sender: 0, turn: 1 };
+    let third = Place::Send { sender: 0, turn: 2 };
+    let holds = Holds::new((second, Place::Published(1)), (third, Place::Published(2)));
+    check_batches(&rt, 3, holds, 3)
+}
+
+// The writer waits, its first update published, until the sender has sent three more and is about
+// to send the fifth. They are one batch, and the fifth the next.
+#[test]
+fn updates_that_wait_are_published_at_once(rt: HostRuntime) -> Result<(), Fail> {
+    let second = Place::Send { sender: 0, turn: 1 };
+    let fifth = Place::Send { sender: 0, turn: 4 };
+    let first = Place::Published(1);
+    let holds = Holds::new((second, first), (first, fifth));
+    check_batches(&rt, 5, holds, 3)
 }
 
 // What a script of puts to the key 1 is mixed with: the batch, readers, senders, how many puts
