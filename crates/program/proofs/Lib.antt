@@ -5,5 +5,6 @@ pub mod ScriptInputs
 pub mod SavedInputs
 pub mod OneReading
 pub mod ScriptUpdates
+pub mod FewEntries
 pub mod Questions
 pub mod OutcomeLemmas

@@ -8,6 +8,7 @@ ghost use Rattle.log_levels.specs.Accepted.{IsPlain, entries_of};
 ghost use Rattle.log_levels.specs.Maps.{map_after};
 ghost use Rattle.log_levels.specs.Shapes.{Held, StandsFor};
 ghost use Rattle.commands.specs.Histories.{mix_of, replay_of};
+ghost use Rattle.program.specs.declared.inputs.TheConstants.{SCRIPT_LIMIT};
 ghost use Rattle.program.specs.Inputs.{map_questions_in, reads_history, reads_mixing};
 ghost use Rattle.program.specs.Inputs.{room_of, updates_in};
 ghost use Rattle.program.specs.Stops.{Answers};
@@ -17,7 +18,7 @@ ghost use Rattle.pgm_script.specs.Scripts.{IsLineOf};
 use crate::refusal::{Refusal, Stopped};
 use command_line::Replaying;
 use commands::{History, Mixing, Question};
-use log_levels::{LogMap, Update, one_map};
+use log_levels::{LogMap, MapFault, Update, one_map};
 use options::Senders;
 use pgm_script::ScriptLine;
 use std::alloc::{AllocError, Global};
@@ -25,16 +26,18 @@ use std::alloc::{AllocError, Global};
 /// The greatest map, which judges how many entries the updates of a script have.
 const MOST_LEVELS: u32 = 26;
 
-/// The updates and the questions of a script.
+/// The updates and the questions of a script, which has no more lines than bytes.
 ///
 /// # Errors
 ///
 /// `Full` where the updates have more entries than the map can accept, and `NoMemory`.
+#[tactic(auto, using(crate::proofs::FewEntries::few_updates))]
 pub fn history_in(
     alloc: Global,
     replaying: Replaying<'_>,
     lines: &[ScriptLine],
 ) -> Result<History, Stopped>
+    requires { length lines.now ≤ SCRIPT_LIMIT }
     ensures { (faults : ℕ) → Answers (reads_history (replayed_of replaying.entry) lines.now)
         replay_of faults faults result }
 {
@@ -145,9 +148,10 @@ fn push_map_question(questions: &mut Vec<Question>, line: &ScriptLine) -> Result
 
 // How many entries the updates have, and the map after them, where it was made.
 //
-// A sweep has one for each key that it takes away, so the updates are made to the greatest map. No
-// script is long enough to fill it: a put is swept away once at most.
+// A sweep has one for each key that it takes away, so the updates are made to the greatest map.
+// They don't fill it: a key that is taken away was put before, so each update has two at most.
 fn counted(alloc: Global, updates: &[Update]) -> Result<(u64, Option<LogMap>), AllocError>
+    requires { length updates.now ≤ SCRIPT_LIMIT }
     ensures count { IfOk result (λ counted. counted.0 ≡ length (entries_of updates.now)) }
     ensures after { IfOk result (λ counted. (held : Held) (others : List Update) →
         counted.1 ≡ Some held → StandsFor held others →
@@ -157,8 +161,10 @@ fn counted(alloc: Global, updates: &[Update]) -> Result<(u64, Option<LogMap>), A
         return Ok((updates.len() as u64, None));
     }
     let mut map = LogMap::new(alloc, MOST_LEVELS)?;
-    for i in 0..updates.len() {
-        accept(alloc, &mut map, updates[i])?;
+    match map.apply_here(alloc, updates) {
+        Ok(()) => {}
+        Err(MapFault::Full { .. }) => unreachable!(),
+        Err(MapFault::NoMemory) => return Err(AllocError),
     }
     // Whatever updates it stands for leave the same pairs.
     one_map();
@@ -170,19 +176,6 @@ fn unless_read(readers: u32, map: Option<LogMap>) -> Option<LogMap>
     ensures { (held : Held) → result ≡ Some held → map ≡ Some held }
 {
     if readers > 0 { None } else { map }
-}
-
-// Makes an update to the map.
-fn accept(alloc: Global, map: &mut LogMap, update: Update) -> Result<(), AllocError>
-    ensures { OnOk result ((before : List Update) → StandsFor map.old before →
-        StandsFor map.new (before ++ update ∷ [])) }
-{
-    let accepted = match update {
-        Update::Put(key, value) => map.put(alloc, key, value).is_ok(),
-        Update::Del(key) => map.del(alloc, key).is_ok(),
-        Update::Sweep(low, high) => map.sweep(alloc, low, high).is_ok(),
-    };
-    if accepted { Ok(()) } else { Err(AllocError) }
 }
 
 // Whether no update is a sweep.

@@ -1,5 +1,5 @@
 // The inputs of requests: the numbers of files and the lines of scripts.
-ghost use Rattle.std.specs.Prelude.{◌≡◌, ◌++◌, ◌∷◌, [], All, Err, IfOk, OnOk};
+ghost use Rattle.std.specs.Prelude.{◌≡◌, ◌≤◌, ◌++◌, ◌∷◌, [], All, Err, IfOk, OnOk, length};
 ghost use Rattle.zorder.specs.Codes.{IsDimension, IsInRange};
 ghost use Rattle.pgm_script.specs.Scripts.{IsKind, IsLineOf};
 ghost use Rattle.commands.specs.PointRegions.{IsRegionOf};
@@ -84,6 +84,7 @@ pub fn coordinates<F: Shelf>(
 }
 
 /// The lines of the script of this name.
+#[tactic(auto, using(crate::proofs::FewEntries::few_lines))]
 pub fn script_lines<F: Shelf, L: LineList>(
     alloc: Global,
     files: &mut F,
@@ -94,6 +95,8 @@ pub fn script_lines<F: Shelf, L: LineList>(
     requires takes { L.takes kind }
     ensures answer { Answers (reads_script kind (F.files files.old) name.now)
         (λ lines. L.lines lines) (F.faults files.old) (F.faults files.new) result }
+    // Told or not: a text has no more lines than bytes.
+    ensures few { IfOk result (λ lines. length (L.lines lines) ≤ SCRIPT_LIMIT) }
     ensures missing { IsMissing (F.files files.old) name.now
         → result ≡ Err (Stopped.Refused Refusal.ReadFault) }
     ensures files { F.files files.new ≡ F.files files.old }

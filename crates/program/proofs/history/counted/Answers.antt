@@ -1,10 +1,7 @@
-use Rattle.std.proofs.Common.{◌≡◌, ◌∙◌, [], ap, sym, subst, take, length, List, arith}
-use Rattle.std.proofs.lemmas.List.{take_all, take_more}
-use Rattle.log_levels.specs.declared.update.Update.{Update}
-use Rattle.log_levels.specs.declared.update.Update.TheVariants.{Put}
-use Rattle.log_levels.specs.Accepted.{entries_of}
-use Rattle.log_levels.specs.Shapes.{Held, StandsFor}
+use Rattle.std.proofs.Common.{◌≡◌, ◌∙◌, [], Err, ap, length, arith}
+use Rattle.log_levels.specs.declared.fault.MapFault.TheVariants.{Full}
 use Rattle.log_levels.proofs.UpdateLemmas.{length-plain, entries_of-none}
+use Rattle.program.proofs.FewEntries.{room_for_all}
 use Rattle.program.proofs.history.counted.Goals as goal
 
 pub returns-then-are_plain-clause-count : goal.returns-then-are_plain-clause-count
@@ -13,19 +10,11 @@ returns-then-are_plain-clause-count c =
     let more = length-plain [] c.args.updates.now (c.are_plain.ensures c.if-are_plain.true) in
     omega (arith, more, none)
 
-pub loop-i-preserved : goal.loop-i-preserved
-loop-i-preserved c =
-    subst (StandsFor c.accept.new.map) (sym (take_more c.args.updates.now c.loop-i.i (Put 0 0) (omega arith)))
-    (c.in_ok-accept.ensures (take c.loop-i.i c.args.updates.now) c.loop-i.invariant)
-
-pub returns-clause-count : goal.returns-clause-count
-returns-clause-count c =
-    c.accepted.ensures.count ∙ c.loop-i.invariant.accepted
-    ∙ ap (λ (us : List Update). length (entries_of us)) (take_all c.loop-i.i c.args.updates.now (omega arith))
-
-pub returns-clause-after : goal.returns-clause-after
-returns-clause-after c = λ held others is stands.
-    let updates = c.args.updates.now in
-    let whole : StandsFor c.loop-i.map updates = subst (StandsFor c.loop-i.map) (take_all c.loop-i.i updates (omega arith)) c.loop-i.invariant in
-    let same : c.loop-i.map ≡ held = cc is in
-    c.one_map.ensures.map held others updates stands (subst (λ (h : Held). StandsFor h updates) same whole)
+-- a full map would have more entries than two for each update
+pub unreachable-requires : goal.unreachable-requires
+unreachable-requires c =
+    let accepted = c.in-Err-Full.field-0-0 in
+    let full : c.apply_here.result ≡ Err (Full accepted) = c.in-Err-Full.is ∙ ap Err c.in-Err-Full.field-0-is in
+    let over = (c.apply_here.ensures.full_only accepted full).1 [] c.in_ok-map.ensures.empty in
+    let room = room_for_all c.in_ok-map.map c.args.updates.now c.in_ok-map.ensures.levels c.requires in
+    omega (arith, over, room)
