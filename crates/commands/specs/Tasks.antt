@@ -13,7 +13,7 @@ pub record Bounds : Type 0 where
   pub eps : ℕ
   pub eps_rec : ℕ
 
--- each command, with its inputs and its options
+-- each command, with its inputs and its options; the words that a find is led by aren't told, since no answer depends on them
 pub data Task : Type 0 where
   build : (keys : List ℕ) (bounds : Bounds) → Task
   explain : (keys : List ℕ) (bounds : Bounds) → Task
@@ -23,6 +23,8 @@ pub data Task : Type 0 where
   near : (d : ℕ) (coords : List ℕ) (centres : List Centre) → Task
   replay : (updates : List Update) (questions : List Question) (batch readers : ℕ) → Task
   mix : (updates : List Update) (questions : List Question) (readers senders : ℕ) → Task
+  lines : (keys : List ℕ) (eps : ℕ) → Task
+  find : (keys questions : List ℕ) → Task
   drill : (n seed : ℕ) (bounds : Bounds) → Task
   save : (keys : List ℕ) (bounds : Bounds) → Task
   check : (levels runs : ℕ) → Task
@@ -41,6 +43,8 @@ task_of (variant.Box search) = box search.dims search.coords.items search.region
 task_of (variant.Near neighbours) = near neighbours.dims neighbours.coords.items neighbours.centres.items
 task_of (variant.Replay history) = replay history.updates.items history.questions.items history.plan.batch history.plan.readers
 task_of (variant.Mix mixing) = mix mixing.history.updates.items mixing.history.questions.items mixing.history.plan.readers mixing.senders.count
+task_of (variant.Lines fitting) = lines fitting.sorted.keys.items fitting.eps
+task_of (variant.Find lookups) = find lookups.sorted.keys.items lookups.questions.items
 task_of (variant.Drill d bounds workers) = drill d.number d.seed (bounds_of bounds)
 task_of (variant.Save keys bounds workers) = save keys.keys.items (bounds_of bounds)
 task_of (variant.Check levels runs) = check levels runs

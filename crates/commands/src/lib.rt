@@ -21,8 +21,10 @@ mod check;
 mod coordinates;
 mod drill;
 mod explain;
+mod find;
 mod finder;
 mod indexing;
+mod line_words;
 mod mix;
 mod neighbours;
 mod positions;
@@ -37,6 +39,7 @@ pub use build::one_build;
 pub use drill::one_drill;
 use edge::{Gate, Sink};
 pub use explain::one_explain;
+pub use find::find_is_query;
 pub use map_replay::Question;
 pub use neighbours::one_near;
 pub use query::one_query;
@@ -46,7 +49,7 @@ pub use save::one_save;
 use std::alloc::Global;
 use std::sync::Wait;
 use std::thread::Threads;
-pub use task::{Centre, History, Mixing, Neighbours, Search, SortedKeys, Task};
+pub use task::{Centre, Fitting, History, Lookups, Mixing, Neighbours, Search, SortedKeys, Task};
 use written::Unfinished;
 
 /// Writes the text of the task. An index is built by workers, which pass the gate before and after
@@ -94,6 +97,8 @@ pub fn write<R: Threads + Wait + Sync, S: Sink, G: Gate>(
         Task::Near { neighbours } => neighbours::write(rt, alloc, neighbours, out),
         Task::Replay { history } => replay::write(rt, alloc, history, out, gate),
         Task::Mix { mixing } => mix::write(rt, alloc, mixing, out, gate),
+        Task::Lines { fitting } => line_words::write(alloc, fitting, out),
+        Task::Find { lookups } => find::write(lookups, out),
         Task::Drill {
             drill,
             bounds,

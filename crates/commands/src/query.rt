@@ -190,7 +190,8 @@ fn write_windows<S: Sink>(
     Ok(())
 }
 
-fn fill_find_line(line: &mut TextLine, question: u64, position: u32)
+/// Fills the text line that tells the position of a question's key.
+pub fn fill_find_line(line: &mut TextLine, question: u64, position: u32)
     ensures { line.new ≡ find_line question position }
 {
     line.clear();

@@ -2,6 +2,7 @@
 ghost use Rattle.std.specs.Prelude.{◌-◌, ◌<◌, ◌≤◌, ◌^◌, vec_len};
 ghost use Rattle.std.specs.List.Sorted.{IsNonDecreasing};
 ghost use Rattle.std.specs.Prelude.{◌≡◌, ◌*◌, ◌/◌, All, List, Some, length, true};
+ghost use Rattle.exact_cross.specs.declared.TheConstants.{MAX_EPSILON};
 ghost use Rattle.zorder.specs.Codes.{IsDimension, IsInRange, coordinate_bits};
 ghost use Rattle.log_levels.specs.declared.update.Update.{Update};
 ghost use Rattle.log_levels.specs.Accepted.{entries_of};
@@ -89,6 +90,25 @@ pub struct Mixing {
     pub ghost plain: { All (λ update. is_plain update ≡ true) history.updates.items },
 }
 
+/// The keys of a file, and the error bound of the lines that are made of them.
+#[derive(Drop)]
+pub struct Fitting {
+    pub sorted: SortedKeys,
+    /// The error bound ε, in places.
+    pub eps: u32,
+    pub ghost bounded: { eps ≤ MAX_EPSILON },
+}
+
+/// The keys of a file, words that say where among them to look first, and questions.
+#[derive(Drop)]
+pub struct Lookups {
+    pub sorted: SortedKeys,
+    /// Any words: no answer depends on them.
+    pub words: Vec<u64>,
+    /// The questions, in turn.
+    pub questions: Vec<u64>,
+}
+
 /// A command, with its inputs and its options.
 #[derive(Drop)]
 pub enum Task {
@@ -139,6 +159,14 @@ pub enum Task {
     /// them.
     Mix {
         mixing: Mixing,
+    },
+    /// Write words that say where among the keys to look first, as bytes.
+    Lines {
+        fitting: Fitting,
+    },
+    /// Write the position of each question's key, by lookups that such words lead.
+    Find {
+        lookups: Lookups,
     },
     /// Write what is counted of inputs of every kind that are drawn.
     Drill {
