@@ -1,13 +1,15 @@
-//! The index and the map for C and C++.
+//! Lookups by lines, the index and the map for C and C++.
 //!
 //! Each call is named `kuldebiq_..` and is declared in `include/kuldebiq.h`, which says for each
-//! what C owes. A handle is a pointer in C's memory, null where it holds nothing, and each call is
-//! passed the handle's place. A call answers a status and a number ([`Answer`]): what a call can test
-//! is tested, and refused with a number that says why.
+//! what C owes. A lookup by lines is given keys and words, and answers a place. Each other call is
+//! passed the place of a handle, which is a pointer in C's memory, null where it holds nothing, and
+//! answers a status and a number ([`Answer`]): what a call can test is tested, and refused with a
+//! number that says why.
 //!
-//! Main clauses: `done`, `judged` and `refused` of [`kuldebiq_index_build`], `answer` of
-//! [`kuldebiq_position`], `done` of [`kuldebiq_positions`] and of each call that updates a map, and
-//! `answer` of each that asks one. The words of the clauses are in `specs/`.
+//! Main clauses: `bracket` and `found` of [`kuldebiq_find`], `done`, `judged` and `refused` of
+//! [`kuldebiq_index_build`], `answer` of [`kuldebiq_position`], `done` of [`kuldebiq_positions`] and
+//! of each call that updates a map, and `answer` of each that asks one. The words of the clauses are
+//! in `specs/`.
 #![tactic(auto)]
 
 mod answer;
