@@ -3,7 +3,9 @@ pub mod InputLemmas
 pub mod NumberInputs
 pub mod ScriptInputs
 pub mod SavedInputs
+pub mod LineInputs
 pub mod OneReading
+pub mod OtherLines
 pub mod ScriptUpdates
 pub mod FewEntries
 pub mod Questions

@@ -1,5 +1,5 @@
 -- What the files define for a request: its task, or the refusal that the first bad input gives.
-use Rattle.std.specs.Prelude.{◌≡◌, ◌⊎◌, ℕ, ◌*◌, ◌-◌, ◌^◌, ◌<◌, ◌≤◌, Bool, not, List, length, filter_map, All, Option, Result, Ok, Err, None, Some}
+use Rattle.std.specs.Prelude.{◌≡◌, ◌⊎◌, ℕ, ◌*◌, ◌-◌, ◌^◌, ◌<◌, ◌≤◌, Bool, not, List, length, filter_map, All, Option, Result, Ok, Err, None, Some, ⊤}
 use Rattle.sosd_reader.specs.declared.fault.KeyFault.{KeyFault}
 use Rattle.sosd_reader.specs.FileFaults.{ReadsAsFile}
 use Rattle.sosd_reader.specs.KeyFiles.{key_width}
@@ -55,6 +55,16 @@ reads_script asked files name (Err TooLong) = HoldsOfFile files name (λ bytes. 
 reads_script asked files name (Err (Script line why)) =
     HoldsOfFile files name (λ bytes. (length bytes ≤ SCRIPT_LIMIT) × ReadsScript asked bytes (Err (script.At line why)))
 reads_script asked files name (Err refusal) = ⊥
+
+-- a file of lines, of which nothing is told, since no answer depends on what it holds: it is there, or it isn't
+abbrev pub reads_lines : Files → List ℕ → Reading ⊤
+reads_lines files name (Ok _) = HoldsOfFile files name (λ bytes. ⊤)
+reads_lines files name (Err ReadFault) = IsMissing files name
+reads_lines files name (Err refusal) = ⊥
+
+-- nothing is told of words
+abbrev pub no_words : {A : Type 0} → A → ⊤
+no_words words = tt
 
 -- the questions of a script, in order
 abbrev pub question_in : ScriptLine → Option ℕ
@@ -170,6 +180,11 @@ reads files (near searching) = then (reads_points searching.dims files searching
     gives (tasks.Task.near searching.dims coords (centres_in lines))))
 reads files (replay replaying) = then (reads_script ScriptKind.Replay files replaying.script) (reads_history replaying)
 reads files (mix replaying senders) = then (reads_script ScriptKind.Mix files replaying.script) (reads_mixing replaying senders)
+reads files (Request.lines lining) = then (reads_keys (not lining.narrow) files lining.file) (λ keys. gives (tasks.Task.lines keys lining.eps))
+reads files (Request.find finding) = then (reads_keys (not finding.narrow) files finding.file) (λ keys.
+    then (reads_lines files finding.lines) (λ _.
+    then (reads_script ScriptKind.Find files finding.script) (λ lines.
+    gives (tasks.Task.find keys (questions_in lines)))))
 reads files (drill drilling) = gives (drill_of drilling)
 reads files (save building) = then (reads_index files building) (λ keys. gives (tasks.Task.save keys (bounds_in building)))
 reads files (check checking) = then (reads_keys (not checking.narrow) files checking.file) (λ keys.

@@ -6,8 +6,10 @@
 //! aren't joined, `box FILE SCRIPT` the points in each box of the script, `near FILE SCRIPT` those
 //! nearest to each centre, `replay SCRIPT` what a map says beside the updates of the script and
 //! after them, `mix SCRIPT` the same where senders send the updates, `save FILE` the index as
-//! bytes, `check FILE INDEX` whether such bytes are the index of the keys, and `drill N SEED` what
-//! is counted of drawn keys, questions, points and updates.
+//! bytes, `check FILE INDEX` whether such bytes are the index of the keys, `lines FILE` words that
+//! say where among the keys to look first, `find FILE LINES SCRIPT` what `query` does, by lookups
+//! that such words lead, and `drill N SEED` what is counted of drawn keys, questions, points and
+//! updates.
 //! Of the keys 0, 1, 2, 10, `explain` writes with both bounds 0:
 //!
 //! ```text
@@ -39,6 +41,7 @@ ghost use Rattle.program.specs.Outcomes.Outcome.{text};
 mod history;
 mod inputs;
 mod judging;
+mod line_file;
 mod refusal;
 mod status;
 mod tasks;
@@ -48,6 +51,7 @@ use crate::tasks::read;
 use command_line::{NoRequest, requested};
 use commands::write;
 use edge::{Gate, Shelf, Sink};
+pub use line_file::find_ignores_lines;
 pub use status::Status;
 use std::sync::Wait;
 use std::thread::Threads;

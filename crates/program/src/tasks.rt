@@ -1,9 +1,10 @@
 // The task that a request asks for: its inputs, in turn.
 ghost use Rattle.std.specs.Prelude.{◌≡◌, Err};
 ghost use Rattle.command_line.specs.Requests.{asked_of, built_of, checked_of, first_file};
+ghost use Rattle.command_line.specs.Requests.{found_by};
 ghost use Rattle.command_line.specs.Requests.{replayed_of, searched_of};
 ghost use Rattle.command_line.specs.Requests.Request.{box as search, near, query, relax};
-ghost use Rattle.command_line.specs.Requests.Request.{check, mix, replay};
+ghost use Rattle.command_line.specs.Requests.Request.{check, find, mix, replay};
 ghost use Rattle.commands.specs.Tasks.{task_of};
 ghost use Rattle.program.specs.Files.{IsFirstMissing, IsMissing};
 ghost use Rattle.program.specs.Inputs.{reads};
@@ -12,9 +13,10 @@ ghost use Rattle.program.specs.Stops.{Answers};
 use crate::history::{history_in, mixing_in};
 use crate::inputs::{centres_in, coordinates, index_keys, regions_in, script_lines, sorted_keys};
 use crate::judging::{judged, saved_index};
+use crate::line_file::line_words;
 use crate::refusal::{Refusal, Stopped};
-use command_line::{Building, Checking, Replaying, Request, Searching};
-use commands::{Neighbours, Search, Task};
+use command_line::{Building, Checking, Finding, Replaying, Request, Searching};
+use commands::{Fitting, Lookups, Neighbours, Search, Task};
 use edge::Shelf;
 use options::{Pieces, Senders, Table};
 use pgm_script::{Finds, ScriptKind, ScriptLine};
@@ -67,6 +69,14 @@ pub fn read<F: Shelf>(alloc: Global, files: &mut F, request: Request<'_>) -> Res
         Request::Near { searching } => near_task(alloc, files, searching),
         Request::Replay { replaying } => replay_task(alloc, files, replaying),
         Request::Mix { replaying, senders } => mix_task(alloc, files, replaying, senders),
+        Request::Lines { lining } => {
+            let sorted = sorted_keys(alloc, files, lining.file, !lining.narrow)?;
+            let eps = lining.eps;
+            Ok(Task::Lines {
+                fitting: Fitting { sorted, eps },
+            })
+        }
+        Request::Find { finding } => find_task(alloc, files, finding),
         Request::Drill { drilling } => Ok(Task::Drill {
             drill: drilling.drill,
             bounds: drilling.bounds,
@@ -222,6 +232,24 @@ fn mix_task<F: Shelf>(
     let lines: Vec<ScriptLine> = script_lines(alloc, files, replaying.script, kind)?;
     let mixing = mixing_in(alloc, replaying, senders, &lines)?;
     Ok(Task::Mix { mixing })
+}
+
+// Keys, words that say where among them to look first, and questions for their positions.
+fn find_task<F: Shelf>(alloc: Global, files: &mut F, finding: Finding<'_>) -> Result<Task, Stopped>
+    ensures answer { Answers (reads (F.files files.old) (find (found_by finding.entry))) task_of
+        (F.faults files.old) (F.faults files.new) result }
+    ensures missing { IsMissing (F.files files.old) finding.entry.file.now
+        → result ≡ Err (Stopped.Refused Refusal.ReadFault) }
+{
+    let sorted = sorted_keys(alloc, files, finding.file, !finding.narrow)?;
+    let words = line_words(alloc, files, finding.lines, sorted.keys.len())?;
+    let finds: Finds = script_lines(alloc, files, finding.script, ScriptKind::Find)?;
+    let lookups = Lookups {
+        sorted,
+        words,
+        questions: finds.numbers,
+    };
+    Ok(Task::Find { lookups })
 }
 
 // Keys, and a saved index that is judged over them.

@@ -1,0 +1,84 @@
+-- What a file of lines holds changes nothing that a `find` is defined to do.
+--
+-- Main result: `same_outcome`.
+use Rattle.std.proofs.Common.{◌≡◌, inl, inr, ℕ, List, Option, None, Some, Result, Ok, Err, refl, sym, ap, subst, ◌∙◌}
+use Rattle.std.specs.Prelude.{IsSome, ⊤, not}
+use Rattle.pgm_script.specs.declared.script.ScriptKind.{ScriptKind}
+use Rattle.pgm_script.specs.declared.script.ScriptLine.{ScriptLine}
+use Rattle.sosd_reader.specs.NumberFiles.{Kind}
+use Rattle.command_line.specs.Requests.{Finding, Request}
+use Rattle.command_line.specs.Words.{AskFor}
+use Rattle.commands.specs.Tasks.{Task}
+use Rattle.program.specs.declared.refusal.Refusal.{Refusal}
+use Rattle.program.specs.declared.refusal.Refusal.TheVariants.{ReadFault, TooLong, Script}
+use Rattle.program.specs.Files.{HoldsOfFile, IsMissing}
+use Rattle.program.specs.Inputs.{Reading, gives, questions_in, reads, reads_keys, reads_lines, reads_numbers, reads_script, then}
+use Rattle.program.specs.Outcomes.{Defines, IsOutcome, Outcome}
+use Rattle.program.specs.Outcomes.Defines.{no_command, asked}
+use Rattle.program.specs.Outcomes.Outcome.{text, refused}
+
+module _ (files others : List ℕ → Option (List ℕ)) where
+  -- a file of the same bytes
+  module _ (name : List ℕ) (same : files name ≡ others name) where
+    holds : (P : List ℕ → Type 0) → HoldsOfFile (Some files) name P → HoldsOfFile (Some others) name P
+    holds P (bytes, is, p) = (bytes, sym same ∙ is, p)
+
+    missing : IsMissing (Some files) name → IsMissing (Some others) name
+    missing (told, is, none) =
+        let files_are : told ≡ files = cc in
+        (others, refl, sym same ∙ subst (λ (c : List ℕ → Option (List ℕ)). c name ≡ None) files_are none)
+
+    numbers : (asked : Kind) (r : Result (List ℕ) Refusal) → reads_numbers asked (Some files) name r → reads_numbers asked (Some others) name r
+    numbers asked (Ok numbers) (readable, read) = (readable, holds _ read)
+    numbers asked (Err ReadFault) is = missing is
+    numbers asked (Err refusal) (fault, tells, is_of, read) = (fault, tells, is_of, holds _ read)
+
+    script : (kind : ScriptKind) (r : Result (List ScriptLine) Refusal) → reads_script kind (Some files) name r → reads_script kind (Some others) name r
+    script kind (Ok lines) (each, read) = (each, holds _ read)
+    script kind (Err ReadFault) is = missing is
+    script kind (Err TooLong) read = holds _ read
+    script kind (Err (Script line why)) read = holds _ read
+    script kind (Err refusal) wrong = absurd wrong
+
+  -- a file that is there
+  something : (contents : Option (List ℕ)) → IsSome contents → (bytes : List ℕ) × (contents ≡ Some bytes) × ⊤
+  something None some = cc
+  something (Some bytes) some = (bytes, refl, tt)
+
+  nothing_there : (contents : Option (List ℕ)) → contents ≡ None → IsSome contents → ⊥
+  nothing_there None is some = cc
+  nothing_there (Some bytes) is some = cc
+
+  lines : (name : List ℕ) → IsSome (files name) → IsSome (others name) → (r : Result ⊤ Refusal) → reads_lines (Some files) name r → reads_lines (Some others) name r
+  lines name some also (Ok any) is = something (others name) also
+  lines name some also (Err ReadFault) (told, is, none) =
+      let files_are : told ≡ files = cc in
+      absurd (nothing_there (files name) (subst (λ (c : List ℕ → Option (List ℕ)). c name ≡ None) files_are none) some)
+  lines name some also (Err refusal) wrong = absurd wrong
+
+  -- inputs one after the other
+  then_alike : {A B : Type 0} (first first' : Reading A) (next next' : A → Reading B) → ((r : Result A Refusal) → first r → first' r) →
+      ((x : A) (r : Result B Refusal) → next x r → next' x r) → (r : Result B Refusal) → then first next r → then first' next' r
+  then_alike first first' next next' one two (Ok y) (x, is, more) = (x, one (Ok x) is, two x (Ok y) more)
+  then_alike first first' next next' one two (Err refusal) (inl is) = inl (one (Err refusal) is)
+  then_alike first first' next next' one two (Err refusal) (inr (x, is, more)) = inr (x, one (Ok x) is, two x (Err refusal) more)
+
+  module _ (finding : Finding) (same_keys : files finding.file ≡ others finding.file) (same_script : files finding.script ≡ others finding.script)
+      (some : IsSome (files finding.lines)) (also : IsSome (others finding.lines)) (words : List (List ℕ)) (asks : AskFor words (Request.find finding)) where
+    inputs : (r : Result Task Refusal) → reads (Some files) (Request.find finding) r → reads (Some others) (Request.find finding) r
+    inputs =
+        then_alike (reads_keys (not finding.narrow) (Some files) finding.file) (reads_keys (not finding.narrow) (Some others) finding.file) _ _
+        (numbers finding.file same_keys _)
+        (λ keys. then_alike (reads_lines (Some files) finding.lines) (reads_lines (Some others) finding.lines) _ _ (lines finding.lines some also)
+        (λ any. then_alike (reads_script ScriptKind.Find (Some files) finding.script) (reads_script ScriptKind.Find (Some others) finding.script) _ _
+        (script finding.script same_script ScriptKind.Find) (λ asked r is. is)))
+
+    defines : (r : Result Task Refusal) → Defines (Some files) words r → Defines (Some others) words r
+    defines r (no_command refused) = no_command refused
+    defines r (asked request reading asks' read) =
+        let same : request ≡ Request.find finding = cc (sym asks'.asks ∙ asks.asks) in
+        asked (Request.find finding) reading asks (inputs reading (subst (λ (q : Request). reads (Some files) q reading) same read))
+
+    pub same_outcome : (outcome : Outcome) → IsOutcome (Some files) words outcome → IsOutcome (Some others) words outcome
+    same_outcome (text pieces) (task, defined, is) = (task, defines (Ok task) defined, is)
+    same_outcome (refused refusal) is = defines (Err refusal) is
