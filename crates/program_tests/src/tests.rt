@@ -13,6 +13,7 @@ mod damage;
 mod drill;
 mod explain;
 mod holds;
+mod lines;
 mod mix;
 mod neighbours;
 mod query;

@@ -4,10 +4,10 @@ use command_line::{Building, NoRequest, Request, requested};
 use options::Plan;
 use std::alloc::Global;
 
-// Command lines, with a space between two words, and what they ask for: a command, its one or two
+// Command lines, with a space between two words, and what they ask for: a command, its one to three
 // names, and its numbers, with 1 for a flag that is given. The numbers of an index are its two
 // error bounds, its workers, and whether its keys are narrow.
-static TAKEN: [(&str, &str); 41] = [
+static TAKEN: [(&str, &str); 47] = [
     // All defaults, and another command.
     ("pgmtool explain keys", "explain keys, [64, 4, 4, 0, 0, 0]"),
     ("pgmtool build keys", "build keys, [64, 4, 4, 0, 0, 0]"),
@@ -149,6 +149,29 @@ static TAKEN: [(&str, &str); 41] = [
         "pgmtool mix --readers 16 --workers=1 --senders 1 -- script",
         "mix ,script [20, 16, 16, 1, 1, 0]",
     ),
+    // The error bound of lines, and whether keys are narrow.
+    ("pgmtool lines keys", "lines keys, [32, 0, 0, 0, 0, 0]"),
+    (
+        "pgmtool lines --narrow keys --eps=0",
+        "lines keys, [0, 1, 0, 0, 0, 0]",
+    ),
+    (
+        "pgmtool lines --eps +1048576 -- keys",
+        "lines keys, [1048576, 0, 0, 0, 0, 0]",
+    ),
+    // The keys, the lines, the script, and whether keys are narrow.
+    (
+        "pgmtool find keys lines script",
+        "find keys,lines,script [0, 0, 0, 0, 0, 0]",
+    ),
+    (
+        "pgmtool find keys --narrow lines script",
+        "find keys,lines,script [1, 0, 0, 0, 0, 0]",
+    ),
+    (
+        "pgmtool find --narrow -- -a -b -c",
+        "find -a,-b,-c [1, 0, 0, 0, 0, 0]",
+    ),
     // How many inputs, the seed, the two error bounds and the workers.
     ("pgmtool drill 2 1", "drill , [2, 1, 64, 4, 4, 0]"),
     (
@@ -170,7 +193,7 @@ static TAKEN: [(&str, &str); 41] = [
 ];
 
 // Command lines that are no command, though each is near one.
-static REFUSED: [(&str, &str); 70] = [
+static REFUSED: [(&str, &str); 78] = [
     ("no command", "pgmtool"),
     ("a command that isn't there", "pgmtool nothing keys"),
     ("a command's name abbreviated", "pgmtool expl keys"),
@@ -271,6 +294,23 @@ static REFUSED: [(&str, &str); 70] = [
         "pgmtool query keys script --buckets 21",
     ),
     ("a table to build", "pgmtool build keys --buckets 4"),
+    ("lines of no keys", "pgmtool lines"),
+    ("lines by a script", "pgmtool lines keys script"),
+    (
+        "a bound of lines past its range",
+        "pgmtool lines keys --eps 1048577",
+    ),
+    ("a bound above lines", "pgmtool lines keys --rec 4"),
+    ("workers of lines", "pgmtool lines keys --workers 2"),
+    ("a find without its script", "pgmtool find keys lines"),
+    (
+        "a file of a find too many",
+        "pgmtool find keys lines script more",
+    ),
+    (
+        "an error bound of a find",
+        "pgmtool find keys lines script --eps 0",
+    ),
     ("a drill of no number", "pgmtool drill"),
     ("a drill without a seed", "pgmtool drill 2"),
     ("a drill of nothing", "pgmtool drill 0 1"),
@@ -301,7 +341,7 @@ fn words_of(alloc: Global, line: &str) -> Option<Vec<String>> {
     Some(words)
 }
 
-// What a request asks for, beside its numbers: its command and its names.
+// What a request asks for, beside its numbers: its command, and its first names.
 fn names_of<'a>(request: Request<'a>) -> (&'a str, &'a str, &'a str) {
     match request {
         Request::Build { building } => ("build", building.file, ""),
@@ -320,6 +360,8 @@ fn names_of<'a>(request: Request<'a>) -> (&'a str, &'a str, &'a str) {
         Request::Near { searching } => ("near", searching.file, searching.script),
         Request::Replay { replaying } => ("replay", "", replaying.script),
         Request::Mix { replaying, .. } => ("mix", "", replaying.script),
+        Request::Lines { lining } => ("lines", lining.file, ""),
+        Request::Find { finding } => ("find", finding.file, finding.lines),
         Request::Drill { .. } => ("drill", "", ""),
         Request::Save { building } => ("save", building.file, ""),
         Request::Check { checking } => ("check", checking.file, checking.index),
@@ -364,6 +406,8 @@ fn numbers_of(request: Request<'_>) -> [u32; 6] {
         }
         Request::Replay { replaying } => plan_numbers(replaying.plan, 0),
         Request::Mix { replaying, senders } => plan_numbers(replaying.plan, senders.count),
+        Request::Lines { lining } => [lining.eps, u32::from(lining.narrow), 0, 0, 0, 0],
+        Request::Find { finding } => [u32::from(finding.narrow), 0, 0, 0, 0, 0],
         Request::Drill { drilling: asked } => {
             [
                 asked.drill.number,
@@ -378,11 +422,20 @@ fn numbers_of(request: Request<'_>) -> [u32; 6] {
     }
 }
 
+// The third name, behind a comma, where there is one.
+fn last_name<'a>(request: Request<'a>) -> (&'a str, &'a str) {
+    match request {
+        Request::Find { finding } => (",", finding.script),
+        _ => ("", ""),
+    }
+}
+
 // Whether a request, as the rows write it, is this.
 fn is_told(alloc: Global, request: Request<'_>, asked: &str) -> bool {
     let (command, file, script) = names_of(request);
+    let (comma, last) = last_name(request);
     let numbers = numbers_of(request);
-    match format!(in alloc; "{command} {file},{script} {numbers:?}") {
+    match format!(in alloc; "{command} {file},{script}{comma}{last} {numbers:?}") {
         Ok(told) => told.as_str() == asked,
         Err(_) => false,
     }
