@@ -13,7 +13,7 @@ mod damage;
 mod drill;
 mod explain;
 mod holds;
-mod lines;
+mod line_words;
 mod mix;
 mod neighbours;
 mod query;
