@@ -5,7 +5,9 @@ use Rattle.std.proofs.Common.{◌≡◌, inl, inr, ℕ, List, Option, None, Some
 use Rattle.std.specs.Prelude.{IsSome, ⊤, not}
 use Rattle.pgm_script.specs.declared.script.ScriptKind.{ScriptKind}
 use Rattle.pgm_script.specs.declared.script.ScriptLine.{ScriptLine}
+use Rattle.sosd_reader.specs.KeyFiles.{key_width}
 use Rattle.sosd_reader.specs.NumberFiles.{Kind}
+use Rattle.sosd_reader.specs.NumberFiles.Kind.{of_keys}
 use Rattle.command_line.specs.Requests.{Finding, Request}
 use Rattle.command_line.specs.Words.{AskFor}
 use Rattle.commands.specs.Tasks.{Task}
@@ -28,17 +30,17 @@ module _ (files others : List ℕ → Option (List ℕ)) where
         let files_are : told ≡ files = cc in
         (others, refl, sym same ∙ subst (λ (c : List ℕ → Option (List ℕ)). c name ≡ None) files_are none)
 
-    numbers : (asked : Kind) (r : Result (List ℕ) Refusal) → reads_numbers asked (Some files) name r → reads_numbers asked (Some others) name r
-    numbers asked (Ok numbers) (readable, read) = (readable, holds _ read)
-    numbers asked (Err ReadFault) is = missing is
-    numbers asked (Err refusal) (fault, tells, is_of, read) = (fault, tells, is_of, holds _ read)
+    numbers : (wanted : Kind) (r : Result (List ℕ) Refusal) → reads_numbers wanted (Some files) name r → reads_numbers wanted (Some others) name r
+    numbers wanted (Ok read_so) (readable, read) = (readable, holds _ read)
+    numbers wanted (Err ReadFault) is = missing is
+    numbers wanted (Err refusal) (fault, tells, is_of, read) = (fault, tells, is_of, holds _ read)
 
-    script : (kind : ScriptKind) (r : Result (List ScriptLine) Refusal) → reads_script kind (Some files) name r → reads_script kind (Some others) name r
-    script kind (Ok lines) (each, read) = (each, holds _ read)
-    script kind (Err ReadFault) is = missing is
-    script kind (Err TooLong) read = holds _ read
-    script kind (Err (Script line why)) read = holds _ read
-    script kind (Err refusal) wrong = absurd wrong
+    script : (wanted : ScriptKind) (r : Result (List ScriptLine) Refusal) → reads_script wanted (Some files) name r → reads_script wanted (Some others) name r
+    script wanted (Ok lines) (each, read) = (each, holds _ read)
+    script wanted (Err ReadFault) is = missing is
+    script wanted (Err TooLong) read = holds _ read
+    script wanted (Err (Script line why)) read = holds _ read
+    script wanted (Err refusal) wrong = absurd wrong
 
   -- a file that is there
   something : (contents : Option (List ℕ)) → IsSome contents → (bytes : List ℕ) × (contents ≡ Some bytes) × ⊤
@@ -65,16 +67,20 @@ module _ (files others : List ℕ → Option (List ℕ)) where
 
   module _ (finding : Finding) (same_keys : files finding.file ≡ others finding.file) (same_script : files finding.script ≡ others finding.script)
       (some : IsSome (files finding.lines)) (also : IsSome (others finding.lines)) (words : List (List ℕ)) (asks : AskFor words (Request.find finding)) where
+    -- what is done with a script, once the keys are read
+    abbrev asks_of : List ℕ → List ScriptLine → Reading Task
+    asks_of keys read = gives (Task.find keys (questions_in read))
+
     inputs : (r : Result Task Refusal) → reads (Some files) (Request.find finding) r → reads (Some others) (Request.find finding) r
     inputs =
         then_alike (reads_keys (not finding.narrow) (Some files) finding.file) (reads_keys (not finding.narrow) (Some others) finding.file) _ _
-        (numbers finding.file same_keys _)
+        (numbers finding.file same_keys (of_keys (key_width (not finding.narrow))))
         (λ keys. then_alike (reads_lines (Some files) finding.lines) (reads_lines (Some others) finding.lines) _ _ (lines finding.lines some also)
-        (λ any. then_alike (reads_script ScriptKind.Find (Some files) finding.script) (reads_script ScriptKind.Find (Some others) finding.script) _ _
-        (script finding.script same_script ScriptKind.Find) (λ asked r is. is)))
+        (λ any. then_alike (reads_script ScriptKind.Find (Some files) finding.script) (reads_script ScriptKind.Find (Some others) finding.script) (asks_of keys) (asks_of keys)
+        (script finding.script same_script ScriptKind.Find) (λ read r is. is)))
 
     defines : (r : Result Task Refusal) → Defines (Some files) words r → Defines (Some others) words r
-    defines r (no_command refused) = no_command refused
+    defines r (no_command none) = no_command none
     defines r (asked request reading asks' read) =
         let same : request ≡ Request.find finding = cc (sym asks'.asks ∙ asks.asks) in
         asked (Request.find finding) reading asks (inputs reading (subst (λ (q : Request). reads (Some files) q reading) same read))

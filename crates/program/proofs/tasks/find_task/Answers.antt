@@ -11,7 +11,7 @@ use Rattle.commands.specs.Tasks.{task_of}
 use Rattle.commands.specs.Tasks as tasks
 use Rattle.program.specs.Files.{Files}
 use Rattle.program.specs.Stops.{Answers}
-use Rattle.program.specs.Inputs.{reads, reads_keys, reads_lines, reads_script, questions_in, gives, no_words, then}
+use Rattle.program.specs.Inputs.{reads, reads_keys, reads_lines, reads_script, questions_in, gives, no_words, then, Reading}
 use Rattle.program.proofs.InputLemmas.{then_goes_on, then_stops, second_stops, handed_on}
 use Rattle.program.proofs.Questions.{questions_in-finds}
 use Rattle.program.proofs.tasks.find_task.Goals as goal
@@ -24,7 +24,7 @@ asked files finding keys questions index lines script =
     (keys, index, (tt, lines, (map Find questions, script, ap (λ (q : List ℕ). Ok (tasks.Task.find keys q)) (sym (questions_in-finds questions)))))
 
 -- what goes on once the keys are read, and once the lines are
-abbrev asks_of : Files → Finding → List ℕ → ⊤ → _
+abbrev asks_of : Files → Finding → List ℕ → ⊤ → Reading tasks.Task
 asks_of files finding keys any = then (reads_script ScriptKind.Find files finding.script) (λ lines. gives (tasks.Task.find keys (questions_in lines)))
 
 pub returns-clause-answer : goal.returns-clause-answer
