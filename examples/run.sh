@@ -82,6 +82,7 @@ fi
 
 both "$cc" examples/c/walk.c "" -std=c11
 both "$cc" examples/c/mapped.c "" -std=c11
+both "$cc" examples/c/parts.c "" -std=c11
 both "$cc" examples/c/no_memory.c "" -std=c11
 ran="C"
 if have "$cxx"; then
