@@ -1,12 +1,13 @@
 #!/usr/bin/env python3
 """Runs the built program on damaged files: damaged_files.py [CASES [SEED [PROGRAM]]].
 
-Good key files, point files, scripts and saved indexes are damaged: bytes are flipped, cut off or
-doubled, counts lie, and files are random bytes. Each run has an address space of 1 GiB. It has to
-end with one of the statuses 0 to 8, never by a signal, and with the status's text: some lines and
-no fault line, nothing, or one fault line of that status. What `save` writes has to be an index that
-`check` passes, and a damaged index that `check` passes has to be the one that `save` writes. What
-each status was seen for is counted at the end.
+Good key files, point files, scripts, saved indexes and files of lines are damaged: bytes are
+flipped, cut off or doubled, counts lie, and files are random bytes. Each run has an address space of
+1 GiB. It has to end with one of the statuses 0 to 8, never by a signal, and with the status's text:
+some lines and no fault line, nothing, or one fault line of that status. What `save` writes has to be
+an index that `check` passes, and a damaged index that `check` passes has to be the one that `save`
+writes. What `find` writes has to be what `query` does, whatever lines lead it. What each status was
+seen for is counted at the end.
 """
 import collections
 import os
@@ -24,6 +25,7 @@ FAULTS = {2: b"fault usage", 3: b"fault read", 5: b"fault keys ", 6: b"fault scr
           7: b"fault full ", 8: b"fault index "}
 LIMIT = 1 << 30
 MAGIC = b"PGMINDEX"
+LINES = b"kbqline1"
 
 
 def key_file(rng, wide):
@@ -84,7 +86,8 @@ def damaged(rng, good):
     return bytes(data)
 
 
-COMMANDS = ("build", "explain", "query", "relax", "save", "check", "box", "near", "replay", "mix")
+COMMANDS = ("build", "explain", "query", "relax", "save", "check", "lines", "find", "box", "near",
+            "replay", "mix")
 
 
 def random_index(rng):
@@ -97,6 +100,12 @@ def random_index(rng):
         levels.append(struct.pack("<I", len(runs)) + b"".join(map(bytes.__add__, runs, ends)))
     bounds = [rng.choice((0, 1, 64, 1048576, 1048577)) for _ in range(2)]
     return MAGIC + struct.pack("<III", *bounds, len(levels)) + b"".join(levels)
+
+
+def random_lines(rng):
+    """Words in the format of lines or in none, with any numbers in them."""
+    words = [rng.randrange(rng.choice((8, 1 << 64))) for _ in range(rng.randrange(40))]
+    return rng.choice((LINES, b"")) + struct.pack(f"<{len(words)}Q", *words)
 
 
 def map_case(rng, command):
@@ -123,6 +132,12 @@ def key_case(rng, command, saved):
         good = saved(["save", "file"] + eps + narrow, {"file": keys})
         files["index"] = damaged(rng, good if rng.random() < 0.8 else random_index(rng))
         return ["check", "file", "index"] + narrow, files
+    if command == "find":
+        files = {"file": keys if rng.random() < 0.9 else files["file"]}
+        good = saved(["lines", "file"] + eps + narrow, {"file": keys})
+        files["lines"] = damaged(rng, good if rng.random() < 0.8 else random_lines(rng))
+        files["script"] = damaged(rng, script(rng, [("find", 1)]))
+        return ["find", "file", "lines", "script"] + narrow, files
     words = [command, "file"] + eps + narrow
     if command in ("query", "relax"):
         files["script"] = damaged(rng, script(rng, [("find", 1)]))
@@ -152,6 +167,8 @@ def wrong(status, out, command):
     lines = out.split(b"\n")
     if status == 0 and command == "save":
         return None if out.startswith(MAGIC) else "no saved index"
+    if status == 0 and command == "lines":
+        return None if out.startswith(LINES) and len(out) % 8 == 0 else "no words of lines"
     if status == 0:
         whole = b"fault" not in out and (not out or out.endswith(b"\n"))
         return None if whole else "a text with a fault"
@@ -164,11 +181,14 @@ def wrong(status, out, command):
     return None if alone else "not just its fault line"
 
 
-def wrong_index(words, files, status, out, saved):
-    """What is wrong with a run of `save` or `check` that ended well, if anything."""
-    if status or words[0] not in ("save", "check"):
+def wrong_beside(words, files, status, out, saved):
+    """What is wrong with a run of `save`, `check` or `find` that ended well, beside another run."""
+    if status or words[0] not in ("save", "check", "find"):
         return None
     narrow = ["--narrow"] if "--narrow" in words else []
+    if words[0] == "find":
+        same = saved(["query", "file", "script"] + narrow, files) == out
+        return None if same else "another text than that of query"
     if words[0] == "save":
         files = dict(files, index=out)
         good = saved(["check", "file", "index"] + narrow, files).startswith(b"check levels ")
@@ -206,7 +226,7 @@ def some_cases(program, seed, cases):
             status, out = run(program, folder, words, files)
             seen[words[0], status] += 1
             fault = (wrong(status, out, words[0])
-                     or wrong_index(words, files, status, out, saved))
+                     or wrong_beside(words, files, status, out, saved))
             if fault:
                 found.append((fault, words, {name: data.hex() for name, data in files.items()}))
     return seen, found

@@ -49,8 +49,8 @@ void *aligned_alloc(size_t a, size_t n) { return OR_REFUSED(__libc_memalign(a, n
 
 def rows():
     """Words and what is written to the file SCRIPT: one cut, several levels, points, boxes, updates
-    in batches and of senders, drawn inputs, and an index that is built, saved and checked. INDEX is
-    an index that the program saved."""
+    in batches and of senders, drawn inputs, an index that is built, saved and checked, and lines
+    that are made and lead. INDEX and LINES are an index and lines that the program wrote."""
     puts = "".join(f"put {key} {key}\n" for key in range(700))
     dealt = "".join(f"put {key} {key}\n" for key in range(200))
     finds = "find 7\nfind 99991\n"
@@ -72,6 +72,8 @@ def rows():
          dealt + "get 7\nnext 100\n"),
         (["save", primes, *two], None),
         (["check", primes, "INDEX"], None),
+        (["lines", primes, "--eps", "4"], None),
+        (["find", primes, "LINES", "SCRIPT"], finds),
         (["drill", "300", "7", "--workers", "2"], None),
     ]
 
@@ -124,10 +126,11 @@ def main():
         with open(source, "w") as file:
             file.write(SHIM)
         subprocess.run(["cc", "-O2", "-shared", "-fPIC", "-o", shim, source, "-ldl"], check=True)
-        files = {"SCRIPT": os.path.join(folder, "script"), "INDEX": os.path.join(folder, "index")}
-        with open(files["INDEX"], "wb") as file:
-            save = [program, "save", "data/primes.keys", "--eps", "4"]
-            file.write(subprocess.run(save, cwd=TOP, stdout=subprocess.PIPE, check=True).stdout)
+        files = {name: os.path.join(folder, name.lower()) for name in ("SCRIPT", "INDEX", "LINES")}
+        for name, command in (("INDEX", "save"), ("LINES", "lines")):
+            with open(files[name], "wb") as file:
+                made = [program, command, "data/primes.keys", "--eps", "4"]
+                file.write(subprocess.run(made, cwd=TOP, stdout=subprocess.PIPE, check=True).stdout)
         for words, script in rows():
             if script is not None:
                 with open(files["SCRIPT"], "w") as file:
