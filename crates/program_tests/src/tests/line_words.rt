@@ -13,6 +13,9 @@ const FOUR_LINES: &[u8] = b"kbqline1\0\0\0\0\0\0\0\0\
 
 const FOUR_NARROW: &[u8] = b"\x04\0\0\0\0\0\0\0\0\0\0\0\x01\0\0\0\x02\0\0\0\x0a\0\0\0";
 
+// The keys 5 and 4.
+const FALLING: &[u8] = b"\x02\0\0\0\0\0\0\0\x05\0\0\0\0\0\0\0\x04\0\0\0\0\0\0\0";
+
 const NO_KEY: &[u8] = b"\0\0\0\0\0\0\0\0";
 
 const FIND: &str = "find keys lines script";
@@ -69,10 +72,10 @@ fn check_text<R: AllocGlobal + Abort + Threads + Wait + Sync>(
 }
 
 // The words that `lines` makes of keys.
-fn made<R: AllocGlobal + Abort + Threads + Wait + Sync>(
+fn made<'a, R: AllocGlobal + Abort + Threads + Wait + Sync>(
     rt: &R,
-    keys: &[u8],
-    words: &str,
+    keys: &'a [u8],
+    words: &'a str,
 ) -> Result<Vec<u8>, Fail> {
     let asked = Asked {
         words,
@@ -246,7 +249,7 @@ fn files_that_fail_are_told(rt: HostRuntime) -> Result<(), Fail> {
         let asked = of_four(FOUR_LINES);
         let all = seen(&rt, asked, Device { failing: 0, most })?;
         expect(&rt, "failing", 0, &all, Status::Done, ANSWERED);
-        for failing in 1..all.reads + 1 {
+        for failing in 1..all.reads.saturating_add(1) {
             let found = seen(&rt, asked, Device { failing, most })?;
             expect(
                 &rt,
@@ -317,10 +320,9 @@ fn the_first_bad_file_is_told(rt: HostRuntime) -> Result<(), Fail> {
         Status::BadScript,
         b"fault script 1 missing\n",
     );
-    let unsorted = file_of(&rt, "2 5 4", "")?;
     let falling = Asked {
         words: "lines keys",
-        keys: &unsorted,
+        keys: FALLING,
         ..none
     };
     let found = seen(&rt, falling, WHOLE)?;
