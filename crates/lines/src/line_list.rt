@@ -3,9 +3,7 @@ ghost use Rattle.std.specs.Prelude.{◌≡◌, ◌+◌, ◌-◌, ◌*◌, ◌/�
 ghost use Rattle.window_search.specs.Brackets.{IsBracket};
 ghost use Rattle.lines.specs.Told.{IsToldBy, first_xs, height_at};
 
-use crate::lookup::position_from;
-use std::marker::Brand;
-use std::sync::ledger::Blank;
+use crate::lookup::position_at;
 use window_search::KeyList;
 
 /// The first x of each line, as keys.
@@ -39,7 +37,26 @@ pub fn lines_begun(lines: &[u64], hint: usize, q: u64) -> usize
     if q == u64::MAX {
         return lines.len() / 3;
     }
-    position_from::<FirstXs, Brand>(FirstXs { lines }, hint, q + 1, Blank::new(1))
+    position_at(FirstXs { lines }, begun_near(lines, hint, q), q + 1)
+}
+
+/// So many lines are looked at where a hint leads.
+const NEAR: usize = 4;
+
+/// How many lines begin at or before `q`, if those before the hint do, and no more than `NEAR`
+/// others. No clause says so.
+#[inline(always)]
+fn begun_near(lines: &[u64], hint: usize, q: u64) -> usize {
+    let count = lines.len() / 3;
+    if count < NEAR {
+        return hint;
+    }
+    let from = hint.min(count - NEAR);
+    let mut begun = from;
+    for i in 0..NEAR {
+        begun = begun.wrapping_add(usize::from(lines[3 * (from + i)] <= q));
+    }
+    begun
 }
 
 /// The place among `n` keys that the lines tell, of which `begun` begin at or before `q`.

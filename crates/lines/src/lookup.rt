@@ -5,12 +5,12 @@ ghost use Rattle.window_search.specs.Brackets.{IsBracket};
 ghost use Rattle.window_search.specs.Searches.{lb};
 ghost use Rattle.lines.specs.Lookups.{IsPosition, LeadsWithin, ReadsWithin};
 
-use crate::near::near_told;
+use crate::near::{is_far, near_told};
 use crate::words::told;
 use budget::Steps;
 use std::marker::Brand;
 use std::sync::ledger::{Blank, Ledger};
-use window_search::{KeyList, bracket_from};
+use window_search::{KeyList, bracket_from, bracket_of, is_bracket};
 
 /// The lower bound of `q`: where the keys never fall, how many of them are below `q`; in any keys a
 /// place with a key below `q` before it and none at it.
@@ -39,14 +39,14 @@ pub fn lower_bound<K: KeyList, L: Ledger>(
 
 /// The place of `q`, as by [`lower_bound`], without counted steps.
 ///
-/// Keys near where the words tell are looked at in groups first, with no branch on an answer, and
-/// it is searched from what they say away.
+/// Keys near where the words tell are looked at in groups first, with no branch on an answer. Where
+/// the place isn't there, it is searched from there away, or, if it is far off, among all keys.
 #[inline]
 pub fn position<K: KeyList>(keys: K, words: &[u64], q: u64) -> usize
     ensures { IsPosition (K.listed keys) q result }
 {
     let hint = near_told(keys, words, told(words, keys.len(), q), q);
-    position_from::<K, Brand>(keys, hint, q, Blank::new(1))
+    position_at(keys, hint, q)
 }
 
 /// How many keys are at most `q`, where they never fall: the place of `q + 1`, or after the
@@ -64,14 +64,29 @@ pub fn upper_bound<K: KeyList>(keys: K, words: &[u64], q: u64) -> usize
     position(keys, words, q + 1)
 }
 
-/// The place of `q`, from a hint away, with a counter of its own, from a new ledger.
+/// The place of `q`, which may be a hint: two keys there tell.
 #[inline(always)]
-pub fn position_from<K: KeyList, L: Ledger>(keys: K, hint: usize, q: u64, blank: Blank) -> usize
+pub fn position_at<K: KeyList>(keys: K, hint: usize, q: u64) -> usize
+    ensures { IsPosition (K.listed keys) q result }
+{
+    if is_bracket(keys, hint, q) {
+        return hint;
+    }
+    position_off::<K, Brand>(keys, hint, q, Blank::new(1))
+}
+
+/// The place of `q`, which isn't the hint: from there away, or, if it is far off, among all keys,
+/// with a counter of its own, from a new ledger.
+#[inline(never)]
+fn position_off<K: KeyList, L: Ledger>(keys: K, hint: usize, q: u64, blank: Blank) -> usize
     requires name { blank.name ≡ L.name }
     requires parts { blank.parts ≡ L.parts }
     requires one { blank.parts ≡ 1 }
     ensures { IsPosition (K.listed keys) q result }
 {
     let mut steps = Steps::<L>::new(blank);
+    if is_far(keys, hint, q) {
+        return bracket_of(keys, q, &mut steps);
+    }
     bracket_from(keys, hint, q, &mut steps)
 }

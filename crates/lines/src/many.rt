@@ -2,11 +2,9 @@
 ghost use Rattle.std.specs.Prelude.{◌≤◌, ◌<◌, ℕ, length, min, slice_index};
 ghost use Rattle.lines.specs.Lookups.{ArePositions, IsPosition, IsSameOutside};
 
-use crate::lookup::position_from;
-use crate::near::near_told;
+use crate::lookup::position_at;
+use crate::near::{halved, width_of};
 use crate::words::told;
-use std::marker::Brand;
-use std::sync::ledger::Blank;
 use window_search::KeyList;
 
 /// So many questions are asked at once, so that their reads of memory overlap.
@@ -46,7 +44,8 @@ fn tell(words: &[u64], n: usize, questions: &[u64], places: &mut [usize], first:
     }
 }
 
-/// Goes nearer to the places of the questions `first..end`, each from where its room says.
+/// Goes nearer to the places of the questions `first..end`, each from where its room says: by
+/// halving the places that right words leave open, in step, with no branch on an answer.
 #[inline(always)]
 fn approach<K: KeyList>(
     keys: K,
@@ -61,8 +60,52 @@ fn approach<K: KeyList>(
     requires room { end ≤ length places.old }
     ensures { IsSameOutside first end places.old places.new }
 {
+    let n = keys.len();
+    let Some(width) = width_of(words) else {
+        return;
+    };
+    if n < width {
+        return;
+    }
+    set_out(places, first, end, width / 2, n - (width - 1));
+    let mut left = width;
+    while left > 1 {
+        let half = left / 2;
+        halve(keys, questions, places, first, end, half);
+        left -= half;
+    }
+}
+
+/// Goes so many places back from those in the room `first..end`, and to none above `last`.
+#[inline(always)]
+fn set_out(places: &mut [usize], first: usize, end: usize, back: usize, last: usize)
+    requires order { first ≤ end }
+    requires room { end ≤ length places.old }
+    ensures { IsSameOutside first end places.old places.new }
+{
     for lane in first..end {
-        places[lane] = near_told(keys, words, places[lane], questions[lane]);
+        places[lane] = places[lane].saturating_sub(back).min(last);
+    }
+}
+
+/// One step of halving for each of the questions `first..end`.
+#[inline(always)]
+fn halve<K: KeyList>(
+    keys: K,
+    questions: &[u64],
+    places: &mut [usize],
+    first: usize,
+    end: usize,
+    half: usize,
+)
+    requires order { first ≤ end }
+    requires asked { end ≤ length questions.now }
+    requires room { end ≤ length places.old }
+    requires some { 0 < length (K.listed keys) }
+    ensures { IsSameOutside first end places.old places.new }
+{
+    for lane in first..end {
+        places[lane] = halved(keys, places[lane], half, questions[lane]);
     }
 }
 
@@ -77,7 +120,6 @@ fn search<K: KeyList>(keys: K, questions: &[u64], places: &mut [usize], first: u
         (slice_index questions.now k) (slice_index places.new k) }
 {
     for lane in first..end {
-        let hint = places[lane];
-        places[lane] = position_from::<K, Brand>(keys, hint, questions[lane], Blank::new(1));
+        places[lane] = position_at(keys, places[lane], questions[lane]);
     }
 }

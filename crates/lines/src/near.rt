@@ -60,3 +60,48 @@ fn count_below<K: KeyList>(keys: K, from: usize, q: u64) -> usize
     }
     count
 }
+
+/// A place that so many keys or more lie before is far.
+const FAR: usize = 512;
+
+/// Whether the place of `q` is far from a hint: then halving all keys reads fewer that are in no
+/// cache than steps that double. No clause says that it is.
+pub fn is_far<K: KeyList>(keys: K, hint: usize, q: u64) -> bool {
+    let count = keys.len();
+    let hint = hint.min(count);
+    if hint > FAR && keys.at(hint - FAR) >= q {
+        return true;
+    }
+    count - hint > FAR && keys.at(hint + FAR) < q
+}
+
+/// The greatest error bound with which the places told for many questions are halved.
+const MOST_OPEN: u64 = 1 << 20;
+
+/// How many places words with an error bound leave open for a question, unless it is great: as many
+/// before the place told as behind it.
+#[inline(always)]
+pub fn width_of(words: &[u64]) -> Option<usize>
+    ensures some { IfSome result (λ width. 1 ≤ width) }
+    ensures few { IfSome result (λ width. width < 2 ^ 32) }
+{
+    let eps = *words.get(1)?;
+    if eps > MOST_OPEN {
+        return None;
+    }
+    Some(2 * eps as usize + 5)
+}
+
+/// A place, or the one `half` behind it, where the key before that is below `q`. No clause says
+/// that `q` is nearer to it.
+///
+/// The answer of the comparison is multiplied: of a selection the compiler may make a branch, which
+/// is mispredicted half of the time, and then the searches of many questions wait for one another.
+#[inline(always)]
+pub fn halved<K: KeyList>(keys: K, place: usize, half: usize, q: u64) -> usize
+    requires some { 0 < length (K.listed keys) }
+{
+    let last = keys.len() - 1;
+    let is_below = keys.at(place.wrapping_add(half).wrapping_sub(1).min(last)) < q;
+    place.wrapping_add(half.wrapping_mul(usize::from(is_below)))
+}

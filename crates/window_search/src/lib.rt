@@ -20,7 +20,7 @@ mod keys;
 mod searches;
 mod windows;
 
-pub use brackets::bracket_from;
+pub use brackets::{bracket_from, bracket_of, is_bracket};
 pub use keys::{CountedKeys, KeyList};
 pub use searches::{lower_in, predecessor_in};
 pub use windows::window;

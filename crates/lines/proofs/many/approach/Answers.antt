@@ -1,7 +1,4 @@
--- One more place is written.
+-- One step of halving more.
 use Rattle.std.proofs.Common.{arith}
-use Rattle.lines.proofs.LookupLemmas.{same_outside_set}
+use Rattle.lines.proofs.LookupLemmas.{same_twice}
 use Rattle.lines.proofs.many.approach.Goals as goal
-
-pub loop-lane-preserved : goal.loop-lane-preserved
-loop-lane-preserved g c = same_outside_set _ _ c.loop-lane.lane c.near_told.result _ c.loop-lane.places (omega arith) (omega arith) c.loop-lane.invariant

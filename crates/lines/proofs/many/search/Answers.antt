@@ -7,6 +7,6 @@ pub loop-lane-preserved : goal.loop-lane-preserved
 loop-lane-preserved g c =
     let inv = c.loop-lane.invariant in
     record {
-      same = same_outside_set _ _ c.loop-lane.lane c.position_from.result _ c.loop-lane.places (omega arith) (omega arith) inv.same;
-      found = positions_set _ _ c.loop-lane.places _ c.loop-lane.lane c.position_from.result (omega (arith, c.loop-lane.auto.places)) inv.found c.position_from.ensures;
+      same = same_outside_set _ _ c.loop-lane.lane c.position_at.result _ c.loop-lane.places (omega arith) (omega arith) inv.same;
+      found = positions_set _ _ c.loop-lane.places _ c.loop-lane.lane c.position_at.result (omega (arith, c.loop-lane.auto.places)) inv.found c.position_at.ensures;
     }

@@ -8,6 +8,3 @@ invariant-loop-lane g l = record {
   same : IsSameOutside l.first l.end l.fn.places l.places;
   found : (k : ℕ) → l.first ≤ k → k < l.lane → IsPosition (g.K.KeyList.listed l.keys) (slice_index l.questions k) (slice_index l.places k);
 }
-
-abbrev pub ghosts-position_from : goal.ghosts-position_from
-ghosts-position_from g a = record { name = a.blank.name; parts = a.blank.parts }
