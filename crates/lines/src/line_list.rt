@@ -28,33 +28,33 @@ impl<'a> KeyList for FirstXs<'a> {
     }
 }
 
-/// How many of the lines begin at or before `q`, searched from a hint away; of lines that don't
-/// rise, some place that brackets the number after it.
+/// How many of the lines begin at or before `q`, if from so many to so many are said to; searched
+/// anew where they don't. Of lines that don't rise, some place that brackets the number after it.
 #[inline(always)]
-pub fn lines_begun(lines: &[u64], hint: usize, q: u64) -> usize
+pub fn lines_begun(lines: &[u64], from: usize, to: usize, q: u64) -> usize
     ensures { IsBracket (first_xs lines.now) (q + 1) result }
 {
     if q == u64::MAX {
         return lines.len() / 3;
     }
-    position_at(FirstXs { lines }, begun_near(lines, hint, q), q + 1)
+    position_at(FirstXs { lines }, begun_between(lines, from, to, q), q + 1)
 }
 
-/// So many lines are looked at where a hint leads.
-const NEAR: usize = 4;
-
-/// How many lines begin at or before `q`, if those before the hint do, and no more than `NEAR`
-/// others. No clause says so.
+/// How many lines begin at or before `q`, if from so many to so many do. No clause says that they
+/// do.
 #[inline(always)]
-fn begun_near(lines: &[u64], hint: usize, q: u64) -> usize {
-    let count = lines.len() / 3;
-    if count < NEAR {
-        return hint;
-    }
-    let from = hint.min(count - NEAR);
-    let mut begun = from;
-    for i in 0..NEAR {
-        begun = begun.wrapping_add(usize::from(lines[3 * (from + i)] <= q));
+fn begun_between(lines: &[u64], from: usize, to: usize, q: u64) -> usize {
+    let to = to.min(lines.len() / 3);
+    let mut begun = from.min(to);
+    let mut left = to - begun;
+    while left > 0 {
+        let half = left / 2;
+        if lines[3 * (begun + half)] <= q {
+            begun += half + 1;
+            left -= half + 1;
+        } else {
+            left = half;
+        }
     }
     begun
 }

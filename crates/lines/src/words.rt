@@ -28,7 +28,8 @@ pub fn told(words: &[u64], n: usize, q: u64) -> usize
     let Some(lines) = whole_lines(words) else {
         return 0;
     };
-    let begun = lines_begun(lines, hint(words, q), q);
+    let (from, to) = step_of(words, q);
+    let begun = lines_begun(lines, from, to, q);
     place_told(lines, words[1], n, q, begun)
 }
 
@@ -51,16 +52,23 @@ fn whole_lines(words: &[u64]) -> Option<&[u64]>
     Some(&words[from..to])
 }
 
-/// How many lines begin before the step that `q` is in, as the table says: near to those that begin
-/// at or before `q`. No clause says that it is.
+/// How many lines begin before the step that `q` is in, and before the next one, as the table says.
+/// No clause says that they do.
 #[inline(always)]
-fn hint(words: &[u64], q: u64) -> usize
+fn step_of(words: &[u64], q: u64) -> (usize, usize)
     requires { HEAD_WORDS + slice_index words.now 3 ≤ length words.now }
 {
     let table = words[3];
     if table == 0 {
-        return 0;
+        return (0, 0);
     }
     let step = q.saturating_sub(words[5]) >> (words[4] % 64) as u32;
-    words[HEAD_WORDS + step.min(table - 1) as usize] as usize
+    if step >= table - 1 {
+        return (
+            words[HEAD_WORDS + table as usize - 1] as usize,
+            words[2] as usize,
+        );
+    }
+    let at = HEAD_WORDS + step as usize;
+    (words[at] as usize, words[at + 1] as usize)
 }

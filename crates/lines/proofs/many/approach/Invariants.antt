@@ -1,4 +1,4 @@
-use Rattle.std.proofs.Common.{◌<◌, ◌≤◌, ◌^◌, length}
+use Rattle.std.proofs.Common.{◌<◌, ◌≤◌, ◌^◌}
 use Rattle.lines.specs.Lookups.{IsSameOutside}
 use Rattle.lines.proofs.many.approach.Given as goal
 
