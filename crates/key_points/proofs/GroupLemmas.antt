@@ -118,14 +118,14 @@ module _ (keys : List ℕ) (at end : ℕ) (order : IsNonDecreasing keys) (start 
   distinct_of-group = subst (λ (n : ℕ). distinct_of (take n keys) ≡ distinct_of (take at keys) ++ slice_index keys at ∷ []) (omega (arith, group.some)) (distinct_of-part (end - at - 1) (omega (arith, group.some)))
 
   -- the group's points: the key where it begins, and where it is closed the next number where it ends
-  points-alone : is_closed keys (slice_index keys at) ≡ false → with_closing keys (slice_index keys at) ≡ slice_index keys at ∷ []
+  pub points-alone : is_closed keys (slice_index keys at) ≡ false → with_closing keys (slice_index keys at) ≡ slice_index keys at ∷ []
   points-alone open_ended = rw open_ended refl
 
-  points-closed : is_closed keys (slice_index keys at) ≡ true →
+  pub points-closed : is_closed keys (slice_index keys at) ≡ true →
       with_closing keys (slice_index keys at) ≡ slice_index keys at ∷ (slice_index keys at + 1) ∷ []
   points-closed closed = rw closed refl
 
-  xs-more : (points : List ℕ) → with_closing keys (slice_index keys at) ≡ points →
+  pub xs-more : (points : List ℕ) → with_closing keys (slice_index keys at) ≡ points →
       flat_map (with_closing keys) (distinct_of (take end keys)) ≡ flat_map (with_closing keys) (distinct_of (take at keys)) ++ points
   xs-more points is =
       ap (flat_map (with_closing keys)) distinct_of-group

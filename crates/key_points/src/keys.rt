@@ -1,34 +1,34 @@
-// The keys of a file, with the points that they stand for.
+// The keys of a file.
 ghost use Rattle.std.specs.Prelude.{◌≡◌, ◌+◌, ◌<◌, ◌≤◌, ◌^◌, length};
-ghost use Rattle.std.specs.Prelude.{slice_index, vec_len, IfOk, Err, ℕ, IsTrue, ◌↔◌};
+ghost use Rattle.std.specs.Prelude.{slice_index, vec_len, IfOk, IfErr, Err, ℕ, IsTrue, ◌↔◌};
 ghost use Rattle.std.specs.List.Sorted.{IsNonDecreasing, IsStrictlyIncreasing};
-ghost use Rattle.key_points.specs.KeyPoints.{distinct_of, first_of, xs_of, ys_of};
-ghost use Rattle.key_points.specs.Falls.{IsFirstFall};
+ghost use Rattle.key_points.specs.KeyPoints.{distinct_of, first_of, xs_of};
+ghost use Rattle.key_points.specs.Falls.{IsFirstFall, IsRefusedFor};
 ghost use Rattle.key_points.specs.declared.fault.KeysFault.TheVariants.{Falls, TooMany};
 
-use crate::alone::{count_distinct, places_of};
+use crate::alone::count_distinct;
 use crate::fault::KeysFault;
 use crate::order::judge;
-use crate::parts::{Parts, parts_of, start_of_group};
+use crate::parts::{count_points, start_of_group};
+use crate::points::KeyPoints;
 use budget::NoMemory;
 use std::alloc::Global;
 use std::marker::Model;
 
-/// The keys of a file, which may repeat, with the points that level 0 stands on. Seen as the list
-/// of the keys.
+/// The keys of a file, which may repeat. Seen as the list of the keys.
 ///
 /// Each distinct key is a point at its first position in the file. A key that stands more than once
 /// has a closing point behind it, one to its right at the position after its last one, unless the
 /// next number is a key or past 64 bits.
 ///
 /// 1. The keys never fall, and are fewer than 2^32.
-/// 2. Where no key repeats, the keys are the x of the points, and stand once.
+/// 2. The keys alone are kept, 8 bytes each, with how many are distinct and how many points they
+///    have. The points are made where they are asked for ([`Keys::points`]).
 #[derive(Drop)]
 pub struct Keys {
     file: Vec<u64>,
     distinct: u32,
-    xs: Vec<u64>,
-    ys: Vec<u32>,
+    points: u32,
 }
 
 impl Model for Keys {
@@ -39,62 +39,53 @@ impl Model for Keys {
 
     ghost view = { λ keys. keys.file.items };
 
-    ghost invariant = { λ keys. AreOfKeys keys.file.items keys.distinct keys.xs.items
-        keys.ys.items };
+    ghost invariant = { λ keys. AreOfKeys keys.file.items keys.distinct keys.points };
 }
 
 impl Keys {
-    /// The keys of a file, with their points.
+    /// The keys of a file.
     ///
-    /// Where no key repeats, the keys are kept once, and beside them a height of 4 bytes a key,
-    /// which is all memory that is taken.
-    ///
-    /// # Errors
-    ///
-    /// `NoMemory` alone. Then the keys are given up.
-    pub fn of(alloc: Global, sorted: Vec<u64>) -> Result<Keys, NoMemory>
+    /// They are gone through once for those that repeat, and where some do once more for their
+    /// points. Cannot fail and takes no memory.
+    pub fn of(sorted: Vec<u64>) -> Keys
         requires never_falls { IsNonDecreasing sorted.items }
         requires few { vec_len sorted < 2 ^ 32 }
-        ensures { IfOk result (λ keys. keys ≡ sorted.items) }
+        ensures { result ≡ sorted.items }
     {
-        let count = count_distinct(&sorted);
-        if count == sorted.len() {
-            return Keys::alone(alloc, sorted);
-        }
-        let Parts { xs, ys } = parts_of(alloc, &sorted, count)?;
-        Ok(Keys {
+        let distinct = count_distinct(&sorted);
+        let points = count_points(&sorted, distinct);
+        Keys {
             file: sorted,
-            distinct: count as u32,
-            xs,
-            ys,
-        })
+            distinct: distinct as u32,
+            points: points as u32,
+        }
     }
 
     /// The keys of a file in which each key is below the next one: so they aren't gone through for
-    /// repeats.
-    ///
-    /// # Errors
-    ///
-    /// `NoMemory` alone. Then the keys are given up.
-    pub fn of_distinct(alloc: Global, rising: Vec<u64>) -> Result<Keys, NoMemory>
+    /// repeats. Cannot fail and takes no memory.
+    pub fn of_distinct(rising: Vec<u64>) -> Keys
         requires rises { IsStrictlyIncreasing rising.items }
         requires few { vec_len rising < 2 ^ 32 }
-        ensures { IfOk result (λ keys. keys ≡ rising.items) }
+        ensures { result ≡ rising.items }
     {
-        Keys::alone(alloc, rising)
+        let count = rising.len() as u32;
+        Keys {
+            file: rising,
+            distinct: count,
+            points: count,
+        }
     }
 
     /// The keys of a file, for a caller that hasn't shown that they are such: they are gone through
-    /// once more, for a key that is below the one before it.
+    /// once more, for a key that is below the one before it. Takes no memory.
     ///
     /// # Errors
     ///
     /// - `TooMany` where there are 2^32 keys or more. It is judged first.
     /// - `Falls` where a key is below the one before it, with the first place.
-    /// - `NoMemory` where memory wasn't found.
     ///
     /// After any the keys are given up.
-    pub fn tested(alloc: Global, keys: Vec<u64>) -> Result<Keys, KeysFault>
+    pub fn tested(keys: Vec<u64>) -> Result<Keys, KeysFault>
         ensures keys { IfOk result (λ tested. tested ≡ keys.items) }
         ensures too_many { 2 ^ 32 ≤ vec_len keys → result ≡ Err (TooMany (vec_len keys)) }
         ensures too_many_only { (count : ℕ) → result ≡ Err (TooMany count) →
@@ -103,25 +94,10 @@ impl Keys {
             result ≡ Err (Falls place) }
         ensures falls_only { (place : ℕ) → result ≡ Err (Falls place) →
             IsFirstFall keys.items place }
+        ensures refused { IfErr result (IsRefusedFor keys.items) }
     {
         judge(&keys)?;
-        Ok(Keys::of(alloc, keys)?)
-    }
-
-    /// The keys of a file in which none repeats.
-    fn alone(alloc: Global, sorted: Vec<u64>) -> Result<Keys, NoMemory>
-        requires never_falls { IsNonDecreasing sorted.items }
-        requires alone { distinct_of sorted.items ≡ sorted.items }
-        requires few { vec_len sorted < 2 ^ 32 }
-        ensures { IfOk result (λ keys. keys ≡ sorted.items) }
-    {
-        let ys = places_of(alloc, &sorted)?;
-        Ok(Keys {
-            distinct: sorted.len() as u32,
-            file: sorted,
-            xs: Vec::new(alloc),
-            ys,
-        })
+        Ok(Keys::of(keys))
     }
 
     /// The keys of the file, in order.
@@ -181,21 +157,22 @@ impl Keys {
         start_of_group(&self.file, j)
     }
 
-    /// The x of the points, which rise.
-    pub fn xs(&self) -> &[u64]
-        ensures { result.now ≡ xs_of self.now }
+    /// How many points the keys have. It is known: no key is read.
+    pub fn point_count(&self) -> u32
+        ensures { result ≡ length (xs_of self.now) }
     {
-        if self.distinct as usize == self.file.len() {
-            &self.file
-        } else {
-            &self.xs
-        }
+        self.points
     }
 
-    /// The y of the points: for each x how many keys of the file are below it. They never fall.
-    pub fn ys(&self) -> &[u32]
-        ensures { result.now ≡ ys_of self.now }
+    /// The points of the keys, which are made: 4 bytes a key where none repeats, and at most 12
+    /// where one does.
+    ///
+    /// # Errors
+    ///
+    /// `NoMemory` alone.
+    pub fn points(&self, alloc: Global) -> Result<KeyPoints<'_>, NoMemory>
+        ensures { IfOk result (λ points. points ≡ self.now) }
     {
-        &self.ys
+        KeyPoints::counted(alloc, &self.file, self.distinct as usize)
     }
 }

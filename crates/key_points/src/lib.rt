@@ -4,9 +4,9 @@
 //! closing point behind them. Of the keys 5, 5, 5, 9 the distinct ones are 5 and 9, and the points
 //! are (5, 0), (6, 3) and (9, 3).
 //!
-//! Main clauses: those of [`Keys::of`], [`Keys::of_distinct`], [`Keys::tested`] and [`judge`], and
-//! those of [`Keys::distinct`], [`Keys::first`], [`Keys::xs`] and [`Keys::ys`]. The words of the
-//! clauses are in `specs/`.
+//! Main clauses: those of [`Keys::of`], [`Keys::of_distinct`], [`Keys::tested`] and [`judge`],
+//! those of [`Keys::distinct`], [`Keys::first`] and [`Keys::point_count`], and `points` of
+//! [`KeyPoints::xs`] and [`KeyPoints::ys`]. The words of the clauses are in `specs/`.
 #![tactic(auto)]
 
 mod alone;
@@ -14,9 +14,9 @@ mod fault;
 mod keys;
 mod order;
 mod parts;
+mod points;
 
-pub use alone::{count_distinct, places_of};
 pub use fault::KeysFault;
 pub use keys::Keys;
 pub use order::{is_sorted, judge};
-pub use parts::{Parts, parts_of};
+pub use points::KeyPoints;

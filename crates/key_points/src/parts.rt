@@ -1,4 +1,4 @@
-// The points of keys that repeat.
+// The points of keys that repeat, and how many they are.
 ghost use Rattle.std.specs.Prelude.{◌≡◌, ◌+◌, ◌<◌, ◌≤◌, ◌^◌, ℕ};
 ghost use Rattle.std.specs.Prelude.{◌-◌, length, min, slice_index, vec_len, vec_capacity};
 ghost use Rattle.std.specs.Prelude.{IfOk, IsTrue};
@@ -43,6 +43,26 @@ pub fn parts_of(alloc: Global, file: &[u64], count: usize) -> Result<Parts, NoMe
         at = end;
     }
     Ok(parts)
+}
+
+/// How many points sorted keys have, where `count` of the keys are distinct: as many where all are,
+/// and else they are counted group by group. Takes no memory.
+pub fn count_points(file: &[u64], count: usize) -> usize
+    requires never_falls { IsNonDecreasing file.now }
+    requires counted { count ≡ length (distinct_of file.now) }
+    ensures { result ≡ length (xs_of file.now) }
+{
+    if count == file.len() {
+        return count;
+    }
+    let mut points = 0;
+    let mut at = 0;
+    while at < file.len() {
+        let end = end_of(file, at);
+        points += if is_closed_group(file, at, end) { 2 } else { 1 };
+        at = end;
+    }
+    points
 }
 
 /// Where the `j`-th distinct key, counted from 0, stands first, and the number of keys where there

@@ -34,7 +34,7 @@ pub IsEntry-down : (keys : List ℕ) (eps eps_rec : ℕ) (levels : List Level) (
 IsEntry-down keys eps eps_rec levels top count most level stored above inside is counted share few =
     let total = segments_of-count levels in
     let down : top - 1 + 1 ≡ top = omega arith in
-    let kept = (stored.first.kept top level above (omega arith)).0 in
+    let kept = stored.first.kept top level above (omega arith) in
     let list : length level.xs.items ≡ length (xs_at keys (segments_of levels) (top - 1 + 1)) =
     ap (λ (l : Level). length l.xs.items) is ∙ ap length kept ∙ ap (λ (k : ℕ). length (xs_at keys (segments_of levels) k)) (sym down) in
     record {

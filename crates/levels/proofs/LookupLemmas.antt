@@ -20,7 +20,7 @@ use Rattle.piece_join.proofs.RelaxedLemmas.{runs-from_laid}
 use Rattle.key_points.specs.KeyPoints.{xs_of}
 use Rattle.exact_cross.specs.IndexLevels.{level_at, eps_at}
 use Rattle.levels.specs.Indexes.{xs_at, ys_at, points_at, IsLaidIndex}
-use Rattle.key_points.proofs.CallerLemmas.{xs-first, next_of_point, close_of_point}
+use Rattle.key_points.proofs.CallerLemmas.{xs-first, ys-at, next_of_point, close_of_point}
 use Rattle.levels.specs.Lookups.{HasRun, extent_at, IsWindowAt}
 use Rattle.levels.proofs.SegmentLemmas.{first_x_at, run_at, HasRun-at, IsRun, end_at, predecessor_in_run}
 use Rattle.levels.proofs.LevelLemmas.{xs_at-base, ys_at-base, xs_at-above, ys_at-above, xs_at-length, AscendsAt, ascends_at, heights_few, some_at}
@@ -156,6 +156,11 @@ module _ (keys : List ℕ) (eps eps_rec : ℕ) (levels : List (List Segment)) (o
       ap (λ (k : ℕ). slice_index (ys_at keys levels k) j) (sym shift) ∙ ap (λ (ys : List ℕ). slice_index ys j) (ys_at-above keys levels i)
       ∙ slice_index-places (length (level_at levels i)) j (omega (arith, xs_at-length keys levels i, ap (λ (k : ℕ). length (xs_at keys levels k)) shift))
 
+  -- at level 0 a point's height is the lower bound of its x
+  pub lb_at_base : (i j : ℕ) → i ≡ 0 → j < length (xs_at keys levels i) → lb keys (slice_index (xs_at keys levels i) j) ≡ slice_index (ys_at keys levels i) j
+  lb_at_base zero j base inside = rw (xs_at-base keys levels, ys_at-base keys levels) (sym (ys-at keys j (omega (arith, inside, ap length (xs_at-base keys levels)))))
+  lb_at_base (suc i) j base inside = absurd (omega arith)
+
   -- above level 0 the place is its height, and no point leaves a gap
   pub close_above : (i q place e : ℕ) → 0 < i → e ≤ length (xs_at keys levels i) → place < e → IsClose (points_at keys levels i) e q place
   close_above i q place e above within inside = elim (cases_lt (place + 1) e) [
@@ -203,30 +208,18 @@ module _ (keys : List ℕ) (eps eps_rec : ℕ) (levels : List (List Segment)) (o
     | inr lowest ↦ omega (arith, is, extent_at-base keys levels i (omega arith), heights_few keys levels i (ascends i within) j inside)
   ]
 
-  -- the run that a list of segments has at this place
-  pub found_line : length keys < 2 ^ 32 → (i run q : ℕ) (segments : List Segment) (xs : List ℕ) (e : ℕ) → eps_at eps eps_rec i ≤ 1048576 → i < length levels →
-      IsPredecessor (xs_at keys levels (i + 1)) q run → segments ≡ level_at levels i → xs ≡ xs_at keys levels i →
-      ((d : Segment) → run + 1 < length segments → e ≡ (slice_index_or segments (run + 1) d).start) → (length segments ≡ run + 1 → e ≡ length xs) →
-      IsRunLine i run (slice_index_or segments run no_segment) e
-  found_line few i run q segments xs e bounded inside found own list next last =
-      let count : length segments ≡ length (level_at levels i) = ap length own in
-      run_line few i run no_segment (slice_index_or segments run no_segment) e bounded inside (omega (arith, found.inside, xs_at-length keys levels i))
-      (ap (λ (s : List Segment). slice_index_or s run no_segment) own)
-      (λ d more. next d (omega (arith, count, more)) ∙ ap (λ (s : List Segment). (slice_index_or s (run + 1) d).start) own)
-      (λ final. last (omega (arith, count, final)) ∙ ap length list)
-
   -- its line, by the bound and the heights at hand
-  pub line_with : (i run : ℕ) (segment : Segment) (e bound : ℕ) (ys : List ℕ) → IsRunLine i run segment e → bound ≡ eps_at eps eps_rec i → ys ≡ ys_at keys levels i →
-      IsLineOf (points_at keys levels i) bound segment.line (slice_index ys segment.start) (slice_index ys (e - 1)) segment.start e
-  line_with i run segment e bound ys at bound_is ys_are =
-      subst (λ (b : ℕ). IsLineOf (points_at keys levels i) b segment.line (slice_index ys segment.start) (slice_index ys (e - 1)) segment.start e) (sym bound_is)
-      (subst (λ (ys : List ℕ). IsLineOf (points_at keys levels i) (eps_at eps eps_rec i) segment.line (slice_index ys segment.start) (slice_index ys (e - 1)) segment.start e) (sym ys_are) at.line)
+  pub line_with : (i run : ℕ) (segment : Segment) (e bound lowest highest : ℕ) → IsRunLine i run segment e → bound ≡ eps_at eps eps_rec i →
+      lowest ≡ slice_index (ys_at keys levels i) segment.start → highest ≡ slice_index (ys_at keys levels i) (e - 1) →
+      IsLineOf (points_at keys levels i) bound segment.line lowest highest segment.start e
+  line_with i run segment e bound lowest highest at bound_is lowest_is highest_is = rw (bound_is, lowest_is, highest_is) at.line
 
   -- its window is that of the level
-  pub window_at : (i run q place : ℕ) (segment : Segment) (e bound len low high : ℕ) (ys : List ℕ) → IsRunLine i run segment e → IsPredecessor (xs_at keys levels (i + 1)) q run →
-      IsPredecessor (xs_at keys levels i) q place → bound ≡ eps_at eps eps_rec i → ys ≡ ys_at keys levels i → len ≡ extent_at keys levels i →
-      IsWindow segment.line (slice_index ys segment.start) (slice_index ys (e - 1)) bound q len low high → IsWindowAt keys eps eps_rec levels i q low high
-  window_at i run q place segment e bound len low high ys at found last bound_is ys_are len_is window =
+  pub window_at : (i run q place : ℕ) (segment : Segment) (e bound lowest highest len low high : ℕ) → IsRunLine i run segment e → IsPredecessor (xs_at keys levels (i + 1)) q run →
+      IsPredecessor (xs_at keys levels i) q place → bound ≡ eps_at eps eps_rec i → lowest ≡ slice_index (ys_at keys levels i) segment.start →
+      highest ≡ slice_index (ys_at keys levels i) (e - 1) → len ≡ extent_at keys levels i →
+      IsWindow segment.line lowest highest bound q len low high → IsWindowAt keys eps eps_rec levels i q low high
+  window_at i run q place segment e bound lowest highest len low high at found last bound_is lowest_is highest_is len_is window =
       let has = at.has q place found last in
       record {
         place = place;
@@ -236,5 +229,5 @@ module _ (keys : List ℕ) (eps eps_rec : ℕ) (levels : List (List Segment)) (o
         run = at.stands;
         from_start = has.0;
         to_end = has.1;
-        window = rw (← bound_is, ← ys_are, ← len_is) window;
+        window = rw (← bound_is, ← lowest_is, ← highest_is, ← len_is) window;
       }

@@ -1,5 +1,5 @@
 -- The window of a run's model holds what is looked for, as that of its line does.
-use Rattle.std.proofs.Common.{inl, inr, ℕ, ◌+◌, ◌-◌, ◌*◌, ◌/◌, ◌^◌, ◌<◌, ◌≤◌, List, [], ◌∷◌, length, slice_index, slice_index_or, ℤ, pos, ◌+ℤ◌, ◌-ℤ◌, refl, ap, arith}
+use Rattle.std.proofs.Common.{◌≡◌, inl, inr, ℕ, ◌+◌, ◌-◌, ◌*◌, ◌/◌, ◌^◌, ◌<◌, ◌≤◌, List, [], ◌∷◌, length, slice_index, slice_index_or, ℤ, pos, ◌+ℤ◌, ◌-ℤ◌, refl, ap, arith}
 use Rattle.std.specs.Prelude.{min}
 use Rattle.std.proofs.lemmas.Int.{ints, clamps}
 use Rattle.std.proofs.lemmas.Bool.{cases_lt}
@@ -54,6 +54,14 @@ module _ (keys : List ℕ) (eps eps_rec : ℕ) (levels : List (List Segment)) (o
 
   pub run_there : (i run q : ℕ) → IsPredecessor (xs_at keys levels (i + 1)) q run → run < length (level_at levels i)
   run_there i run q found = omega (arith, found.inside, xs_at-length keys levels i)
+
+  -- the line of a run that is there
+  pub line_there : length keys < 2 ^ 32 → (i run : ℕ) (d : Segment) (segments : List Segment) → eps_at eps eps_rec i ≤ 1048576 → i < length levels → run < length (level_at levels i) → segments ≡ level_at levels i →
+      IsRunLine keys eps eps_rec levels order index i run (slice_index_or segments run d) (end_at (level_at levels i) run (length (xs_at keys levels i)))
+  line_there few i run d segments bounded inside there own =
+      let ends = run_ends i run d inside there in
+      run_line keys eps eps_rec levels order index few i run d (slice_index_or segments run d) (end_at (level_at levels i) run (length (xs_at keys levels i))) bounded inside there
+      (ap (λ (s : List Segment). slice_index_or s run d) own) ends.next ends.last
 
   -- what the window of a model needs and holds
   pub record HasWindow (i q : ℕ) (model : RunModel) : Type 0 where

@@ -3,6 +3,9 @@
 -- Main results: `AreLevels-base`: level 0 by itself, `AreLevels-push`: one more level, `AreStored-in`: all levels, where the last
 -- one has one run; `fewer_above`: the level above the last one has fewer runs, where the last one has more than one.
 use Rattle.std.proofs.Common.{◌≡◌, ◌≢◌, inl, inr, ℕ, zero, suc, ◌+◌, ◌-◌, ◌^◌, ◌<◌, ◌≤◌, List, [], ◌∷◌, ◌++◌, length, slice_index_or, refl, sym, ap, ◌∙◌, subst, arith, add-one}
+use Rattle.std.specs.declared.result.Result.{Result}
+use Rattle.std.specs.declared.result.Result.TheVariants.{Ok, Err}
+use Rattle.std.specs.Prelude.{IfOk}
 use Rattle.std.proofs.lemmas.Bool.{cases_lt, cases_eq}
 use Rattle.std.proofs.lemmas.Bool.Decides.{nat_tests}
 use Rattle.std.proofs.lemmas.List.{length-map, length-append, get_or-map, get_or_append_left, map-append}
@@ -22,7 +25,7 @@ use Rattle.exact_cross.specs.IndexLevels.{first_xs, level_at, eps_at}
 use Rattle.levels.specs.Indexes.{xs_at, ys_at, points_at, IsLevel, IsLaidLevel, places_below}
 use Rattle.levels.specs.Stored.{segments_of, AreLevels, AreStored}
 use Rattle.levels.proofs.SegmentLemmas.{runs_within, fewer_runs, run_at}
-use Rattle.levels.proofs.LevelLemmas.{xs_at-base, ys_at-base, xs_at-above, ys_at-above, AscendsAt, ascends_at, some_at, xs_at-same, ys_at-same, xs_at-length, IsLevel-in, IsLaidLevel-in, AreModels-in}
+use Rattle.levels.proofs.LevelLemmas.{xs_at-base, ys_at-base, xs_at-above, ys_at-above, AscendsAt, ascends_at, some_at, xs_at-same, xs_at-length, IsLevel-in, IsLaidLevel-in, AreModels-in}
 
 pub segments_of-count : (levels : List Level) → length (segments_of levels) ≡ length levels
 segments_of-count levels = length-map levels (λ (level : Level). level.segments.items)
@@ -38,6 +41,11 @@ level_at-below levels more i inside = sym (get_or_append_left levels (more ∷ [
 
 pub level_at-last : (levels : List (List Segment)) (more : List Segment) (i : ℕ) → i ≡ length levels → more ≡ level_at (levels ++ more ∷ []) i
 level_at-last levels more i last = sym (ap (level_at (levels ++ more ∷ [])) last ∙ get_or-append_seam levels more [] [])
+
+-- of levels that were made two things are known
+pub IfOk-both : {T E : Type 0} (r : Result T E) (P Q : T → Type 0) → IfOk r P → IfOk r Q → IfOk r (λ x. P x × Q x)
+IfOk-both (Ok x) P Q p q = (p, q)
+IfOk-both (Err y) P Q p q = tt
 
 -- ---- one more level
 
@@ -76,9 +84,8 @@ pub AreLevels-push : (keys : List ℕ) (eps eps_rec : ℕ) (levels : List Level)
     (length (xs_at keys (segments_of levels) (length levels))) level.segments.items) →
     AreModels (points_at keys (segments_of levels) (length levels)) (eps_at eps eps_rec (length levels)) (length (xs_at keys (segments_of levels) (length levels))) level.segments.items level.models.items →
     (0 < length levels → level.xs.items ≡ xs_at keys (segments_of levels) (length levels)) →
-    (0 < length levels → level.ys.items ≡ ys_at keys (segments_of levels) (length levels)) →
     AreLevels keys eps eps_rec (levels ++ level ∷ [])
-AreLevels-push keys eps eps_rec levels level so_far unfinished here above own_models xs ys = record {
+AreLevels-push keys eps eps_rec levels level so_far unfinished here above own_models xs = record {
   never_falls = so_far.never_falls;
   few = so_far.few;
   bounded = so_far.bounded;
@@ -136,23 +143,16 @@ AreLevels-push keys eps eps_rec levels level so_far unfinished here above own_mo
     ]
 
     kept : (i : ℕ) (d : Level) → 0 < i → i < length levels + 1 →
-        ((slice_index_or (levels ++ level ∷ []) i d).xs.items ≡ xs_at keys (segments_of levels ++ level.segments.items ∷ []) i)
-        × ((slice_index_or (levels ++ level ∷ []) i d).ys.items ≡ ys_at keys (segments_of levels ++ level.segments.items ∷ []) i)
+        (slice_index_or (levels ++ level ∷ []) i d).xs.items ≡ xs_at keys (segments_of levels ++ level.segments.items ∷ []) i
     kept i d upper inside = elim (cases_lt i (length levels)) [
       | inl before ↦
           let is = get_or_append_left levels (level ∷ []) d i before in
-          let own = so_far.kept i d upper before in (
-            ap (λ (l : Level). l.xs.items) is ∙ own.0 ∙ xs_at-same keys (segments_of levels) (segments_of levels ++ level.segments.items ∷ []) i (same i (omega arith)),
-            ap (λ (l : Level). l.ys.items) is ∙ own.1 ∙ ys_at-same keys (segments_of levels) (segments_of levels ++ level.segments.items ∷ []) i (same i (omega arith)),
-          )
+          ap (λ (l : Level). l.xs.items) is ∙ so_far.kept i d upper before ∙ xs_at-same keys (segments_of levels) (segments_of levels ++ level.segments.items ∷ []) i (same i (omega arith))
       | inr from ↦
           let last : i ≡ length levels = omega arith in
-          let is : slice_index_or (levels ++ level ∷ []) i d ≡ level = ap (λ (k : ℕ). slice_index_or (levels ++ level ∷ []) k d) last ∙ get_or-append_seam levels level [] d in (
-            ap (λ (l : Level). l.xs.items) is ∙ xs (omega arith) ∙ ap (xs_at keys (segments_of levels)) (sym last)
-                ∙ xs_at-same keys (segments_of levels) (segments_of levels ++ level.segments.items ∷ []) i (same i (omega arith)),
-            ap (λ (l : Level). l.ys.items) is ∙ ys (omega arith) ∙ ap (ys_at keys (segments_of levels)) (sym last)
-                ∙ ys_at-same keys (segments_of levels) (segments_of levels ++ level.segments.items ∷ []) i (same i (omega arith)),
-          )
+          let is : slice_index_or (levels ++ level ∷ []) i d ≡ level = ap (λ (k : ℕ). slice_index_or (levels ++ level ∷ []) k d) last ∙ get_or-append_seam levels level [] d in
+          ap (λ (l : Level). l.xs.items) is ∙ xs (omega arith) ∙ ap (xs_at keys (segments_of levels)) (sym last)
+          ∙ xs_at-same keys (segments_of levels) (segments_of levels ++ level.segments.items ∷ []) i (same i (omega arith))
     ]
 
 pub level_at-pushed : (levels : List Level) (level : Level) (i : ℕ) → i ≡ length levels → level_at (segments_of (levels ++ level ∷ [])) i ≡ level.segments.items
@@ -293,7 +293,7 @@ pub AreLevels-base : (keys : List ℕ) (eps eps_rec : ℕ) (level : Level) → I
 AreLevels-base keys eps eps_rec level order few bounded bounded_rec segments models =
     AreLevels-push keys eps eps_rec [] level none (λ i last. absurd (omega arith)) (base_level keys eps eps_rec [] level.segments.items refl segments) (λ some. absurd (omega arith))
     (level_models keys eps eps_rec [] (xs_of keys) (ys_of keys) eps level.segments.items level.models.items (base_xs keys [] (xs_of keys) refl refl) (base_ys keys [] (ys_of keys) refl refl)
-    (eps_at-base eps eps_rec 0 refl) models) (λ some. absurd (omega arith)) (λ some. absurd (omega arith))
+    (eps_at-base eps eps_rec 0 refl) models) (λ some. absurd (omega arith))
   where
     none : AreLevels keys eps eps_rec []
     none = record {

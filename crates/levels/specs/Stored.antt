@@ -4,19 +4,14 @@ use Rattle.std.specs.List.Sorted.{IsNonDecreasing}
 use Rattle.exact_cross.specs.declared.segment.Segment.{Segment}
 use Rattle.levels.specs.declared.level.Level.{Level}
 use Rattle.exact_cross.specs.IndexLevels.{level_at, eps_at}
-use Rattle.levels.specs.Indexes.{IsLaidIndex, IsLaidLevel, xs_at, ys_at, points_at}
+use Rattle.levels.specs.Indexes.{IsLaidIndex, IsLaidLevel, xs_at, points_at}
 use Rattle.levels.specs.Models.{AreModels}
 
 -- the segments of each level
 abbrev pub segments_of : List Level → List (List Segment)
 segments_of levels = map (λ level. level.segments.items) levels
 
--- above level 0 the lists of x and y are kept with the segments
-abbrev pub IsKept : List ℕ → List Level → ℕ → Level → Type 0
-IsKept keys levels i level =
-    (level.xs.items ≡ xs_at keys (segments_of levels) i) × (level.ys.items ≡ ys_at keys (segments_of levels) i)
-
--- the first levels over sorted keys: each covers its points, those above level 0 by their segmentation, and those below the last have more runs than one; each run has its model
+-- the first levels over sorted keys: each covers its points, those above level 0 by their segmentation, and those below the last have more runs than one; each run has its model, and above level 0 the list of x is kept
 pub record AreLevels (keys : List ℕ) (eps eps_rec : ℕ) (levels : List Level) : Type 0 where
   pub never_falls : IsNonDecreasing keys
   pub few : length keys < 2 ^ 32
@@ -26,7 +21,7 @@ pub record AreLevels (keys : List ℕ) (eps eps_rec : ℕ) (levels : List Level)
   pub others : (i : ℕ) → i + 1 < length levels → length (level_at (segments_of levels) i) ≢ 1
   pub models : (i : ℕ) (d : Level) → i < length levels →
       AreModels (points_at keys (segments_of levels) i) (eps_at eps eps_rec i) (length (xs_at keys (segments_of levels) i)) (level_at (segments_of levels) i) (slice_index_or levels i d).models.items
-  pub kept : (i : ℕ) (d : Level) → 0 < i → i < length levels → IsKept keys levels i (slice_index_or levels i d)
+  pub kept : (i : ℕ) (d : Level) → 0 < i → i < length levels → (slice_index_or levels i d).xs.items ≡ xs_at keys (segments_of levels) i
 
 -- all levels
 pub record AreStored (keys : List ℕ) (eps eps_rec : ℕ) (levels : List Level) : Type 0 where

@@ -15,18 +15,18 @@ ghost use Rattle.piece_join.specs.Relaxed.{IsRelaxed};
 ghost use Rattle.exact_cross.specs.IndexLevels.{first_xs, level_at};
 ghost use Rattle.levels.specs.Indexes.{IsIndex, IsRelaxedIndex, IsLaidIndex};
 ghost use Rattle.exact_cross.specs.IndexLevels.{eps_at};
-ghost use Rattle.levels.specs.Indexes.{xs_at, ys_at, points_at, places_below};
+ghost use Rattle.levels.specs.Indexes.{xs_at, points_at, places_below};
 ghost use Rattle.levels.specs.Models.{AreModels, IsEndOf, IsModelOf};
 ghost use Rattle.levels.specs.Stored.{AreLevels, AreStored, segments_of};
 
-use crate::index::{Index, list_at};
+use crate::index::{Index, firsts_at};
 use crate::level::{Level, Runs};
 use crate::lookup::end_of_run;
 use crate::model::RunModel;
 use budget::{NoMemory, Steps};
 use edge::Gate;
 use exact_cross::{MAX_EPSILON, Segment};
-use key_points::Keys;
+use key_points::{KeyPoints, Keys};
 use piece_join::{relaxed, segment_in_pieces, uneven_cuts};
 use segmenter::segment_counted;
 use std::alloc::Global;
@@ -86,8 +86,7 @@ impl Index {
         ensures eps_rec { IfOk result (λ index. index.eps_rec ≡ eps_rec) }
         ensures index { IfOk result (λ index. IsIndex keys eps eps_rec index.levels) }
     {
-        let (xs, _) = lists_of(&keys);
-        let cuts = uneven_cuts(alloc, xs.len() as u32, workers)?;
+        let cuts = uneven_cuts(alloc, keys.point_count(), workers)?;
         Index::build(rt, alloc, keys, eps, eps_rec, &cuts, workers, gate)
     }
 
@@ -119,8 +118,7 @@ impl Index {
         ensures cost { IfOk result (λ index. steps.new ≤ steps.old
             + 12 * places_below keys index.levels (length index.levels)) }
     {
-        let segments = level_0_here(alloc, &keys, eps, steps)?;
-        let stored = levels_over(alloc, &keys, segments, eps, eps_rec, steps)?;
+        let stored = levels_here(alloc, &keys, eps, eps_rec, steps)?;
         Index::from_levels(alloc, keys, eps, eps_rec, stored)
     }
 
@@ -161,8 +159,8 @@ impl Index {
         ensures eps_rec { IfOk result (λ index. index.eps_rec ≡ eps_rec) }
         ensures index { IfOk result (λ index. IsIndex keys eps eps_rec index.levels) }
     {
-        let segments = level_0_in_pieces(rt, alloc, &keys, eps, cuts, workers, gate)?;
-        Index::over::<Brand>(alloc, keys, segments, eps, eps_rec, Blank::new(1))
+        let stored = levels_in_pieces(rt, alloc, &keys, eps, eps_rec, cuts, workers, gate)?;
+        Index::from_levels(alloc, keys, eps, eps_rec, stored)
     }
 
     /// A relaxed index of keys: level 0 is built piece by piece by several workers as by
@@ -205,8 +203,8 @@ impl Index {
             (points_of (xs_of keys) (ys_of keys)) eps 0 (length (xs_of keys))
             (starts_of (level_at index.levels 0))) }
     {
-        let segments = level_0_side_by_side(rt, alloc, &keys, eps, cuts, workers, gate)?;
-        Index::over::<Brand>(alloc, keys, segments, eps, eps_rec, Blank::new(1))
+        let stored = levels_side_by_side(rt, alloc, &keys, eps, eps_rec, cuts, workers, gate)?;
+        Index::from_levels(alloc, keys, eps, eps_rec, stored)
     }
 
     /// The index of keys, its steps counted from a new ledger.
@@ -230,118 +228,185 @@ impl Index {
         let mut steps = Steps::<L>::new(blank);
         Index::build_here(alloc, keys, eps, eps_rec, &mut steps)
     }
+}
 
-    /// The index over the segments of level 0, its steps counted from a new ledger.
-    fn over<L: Ledger>(
-        alloc: Global,
-        keys: Keys,
-        segments: Vec<Segment>,
-        eps: u32,
-        eps_rec: u32,
-        blank: Blank,
-    ) -> Result<Index, NoMemory>
-        requires bounded { eps ≤ MAX_EPSILON }
-        requires bounded_rec { eps_rec ≤ MAX_EPSILON }
-        requires segments { IsLaid (points_of (xs_of keys) (ys_of keys)) eps 0
-            (length (xs_of keys)) segments.items }
-        requires name { blank.name ≡ L.name }
-        requires parts { blank.parts ≡ L.parts }
-        requires one { blank.parts ≡ 1 }
-        ensures keys { IfOk result (λ index. index.keys ≡ keys) }
-        ensures eps { IfOk result (λ index. index.eps ≡ eps) }
-        ensures eps_rec { IfOk result (λ index. index.eps_rec ≡ eps_rec) }
-        ensures levels { IfOk result (λ index. IsLaidIndex keys eps eps_rec index.levels ×
-            (0 < length index.levels → level_at index.levels 0 ≡ segments.items)) }
-    {
-        let mut steps = Steps::<L>::new(blank);
-        let stored = levels_over(alloc, &keys, segments, eps, eps_rec, &mut steps)?;
-        Index::from_levels(alloc, keys, eps, eps_rec, stored)
-    }
+/// All levels of keys, made on the calling thread. Their points are dropped then.
+fn levels_here<L: Ledger>(
+    alloc: Global,
+    keys: &Keys,
+    eps: u32,
+    eps_rec: u32,
+    steps: &mut Steps<L>,
+) -> Result<Vec<Level>, NoMemory>
+    requires bounded { eps ≤ MAX_EPSILON }
+    requires bounded_rec { eps_rec ≤ MAX_EPSILON }
+    ensures stored { IfOk result (λ levels. AreStored keys.now eps eps_rec levels.items) }
+    ensures index { IfOk result
+        (λ levels. IsIndex keys.now eps eps_rec (segments_of levels.items)) }
+    ensures cost { IfOk result (λ levels. steps.new ≤ steps.old
+        + 12 * places_below keys.now (segments_of levels.items) (vec_len levels)) }
+{
+    let points = keys.points(alloc)?;
+    let segments = level_0_here(alloc, &points, eps, steps)?;
+    levels_over(alloc, &points, segments, eps, eps_rec, steps)
 }
 
 /// The segments of level 0, made on the calling thread.
 fn level_0_here<L: Ledger>(
     alloc: Global,
-    keys: &Keys,
+    points: &KeyPoints,
     eps: u32,
     steps: &mut Steps<L>,
 ) -> Result<Vec<Segment>, NoMemory>
     requires bounded { eps ≤ MAX_EPSILON }
     ensures segments { IfOk result (λ segments. IsSegmentation
-        (points_of (xs_of keys.now) (ys_of keys.now)) eps 0 (length (xs_of keys.now))
+        (points_of (xs_of points.now) (ys_of points.now)) eps 0 (length (xs_of points.now))
         segments.items) }
-    ensures cost { steps.new ≤ steps.old + 12 * length (xs_of keys.now) }
+    ensures cost { steps.new ≤ steps.old + 12 * length (xs_of points.now) }
 {
-    let (xs, ys) = lists_of(keys);
+    let (xs, ys) = (points.xs(), points.ys());
     segment_counted(alloc, xs, ys, eps, 0, xs.len() as u32, steps)
+}
+
+/// All levels of keys, level 0 made piece by piece. The points are dropped then.
+fn levels_in_pieces<R: Threads + Sync, G: Gate>(
+    rt: &R,
+    alloc: Global,
+    keys: &Keys,
+    eps: u32,
+    eps_rec: u32,
+    cuts: &[u32],
+    workers: u32,
+    gate: &G,
+) -> Result<Vec<Level>, NoMemory>
+    requires bounded { eps ≤ MAX_EPSILON }
+    requires bounded_rec { eps_rec ≤ MAX_EPSILON }
+    requires cuts { AreCuts (length (xs_of keys.now)) cuts.now }
+    requires few_cuts { length cuts.now ≤ 65535 }
+    requires staffed { 1 ≤ workers }
+    requires few_workers { workers ≤ 64 }
+    ensures stored { IfOk result (λ levels. AreStored keys.now eps eps_rec levels.items) }
+    ensures index { IfOk result
+        (λ levels. IsIndex keys.now eps eps_rec (segments_of levels.items)) }
+{
+    let points = keys.points(alloc)?;
+    let segments = level_0_in_pieces(rt, alloc, &points, eps, cuts, workers, gate)?;
+    levels_uncounted::<Brand>(alloc, &points, segments, eps, eps_rec, Blank::new(1))
 }
 
 /// The segments of level 0, made piece by piece.
 fn level_0_in_pieces<R: Threads + Sync, G: Gate>(
     rt: &R,
     alloc: Global,
-    keys: &Keys,
+    points: &KeyPoints,
     eps: u32,
     cuts: &[u32],
     workers: u32,
     gate: &G,
 ) -> Result<Vec<Segment>, NoMemory>
     requires bounded { eps ≤ MAX_EPSILON }
-    requires cuts { AreCuts (length (xs_of keys.now)) cuts.now }
+    requires cuts { AreCuts (length (xs_of points.now)) cuts.now }
     requires few_cuts { length cuts.now ≤ 65535 }
     requires staffed { 1 ≤ workers }
     requires few_workers { workers ≤ 64 }
     ensures { IfOk result (λ segments. IsSegmentation
-        (points_of (xs_of keys.now) (ys_of keys.now)) eps 0 (length (xs_of keys.now))
+        (points_of (xs_of points.now) (ys_of points.now)) eps 0 (length (xs_of points.now))
         segments.items) }
 {
-    let (xs, ys) = lists_of(keys);
-    segment_in_pieces(rt, alloc, xs, ys, eps, cuts, workers, gate)
+    segment_in_pieces(
+        rt,
+        alloc,
+        points.xs(),
+        points.ys(),
+        eps,
+        cuts,
+        workers,
+        gate,
+    )
+}
+
+/// All levels of keys, level 0 made piece by piece and put side by side. The points are dropped
+/// then.
+fn levels_side_by_side<R: Threads + Sync, G: Gate>(
+    rt: &R,
+    alloc: Global,
+    keys: &Keys,
+    eps: u32,
+    eps_rec: u32,
+    cuts: &[u32],
+    workers: u32,
+    gate: &G,
+) -> Result<Vec<Level>, NoMemory>
+    requires bounded { eps ≤ MAX_EPSILON }
+    requires bounded_rec { eps_rec ≤ MAX_EPSILON }
+    requires cuts { AreCuts (length (xs_of keys.now)) cuts.now }
+    requires few_cuts { length cuts.now ≤ 65535 }
+    requires staffed { 1 ≤ workers }
+    requires few_workers { workers ≤ 64 }
+    ensures stored { IfOk result (λ levels. AreStored keys.now eps eps_rec levels.items) }
+    ensures relaxed { IfOk result (λ levels.
+        IsRelaxedIndex keys.now eps eps_rec cuts.now (segments_of levels.items)) }
+    ensures slack { IfOk result (λ levels. 0 < length keys.now →
+        uncut (level_at (segments_of levels.items) 0) ≡ length cuts.now + 1) }
+{
+    let points = keys.points(alloc)?;
+    let segments = level_0_side_by_side(rt, alloc, &points, eps, cuts, workers, gate)?;
+    levels_uncounted::<Brand>(alloc, &points, segments, eps, eps_rec, Blank::new(1))
 }
 
 /// The segments of level 0, made piece by piece and put side by side.
 fn level_0_side_by_side<R: Threads + Sync, G: Gate>(
     rt: &R,
     alloc: Global,
-    keys: &Keys,
+    points: &KeyPoints,
     eps: u32,
     cuts: &[u32],
     workers: u32,
     gate: &G,
 ) -> Result<Vec<Segment>, NoMemory>
     requires bounded { eps ≤ MAX_EPSILON }
-    requires cuts { AreCuts (length (xs_of keys.now)) cuts.now }
+    requires cuts { AreCuts (length (xs_of points.now)) cuts.now }
     requires few_cuts { length cuts.now ≤ 65535 }
     requires staffed { 1 ≤ workers }
     requires few_workers { workers ≤ 64 }
     ensures relaxed { IfOk result (λ segments. IsRelaxed
-        (points_of (xs_of keys.now) (ys_of keys.now)) eps 0 (length (xs_of keys.now)) cuts.now
-        segments.items) }
-    ensures slack { IfOk result (λ segments. 0 < length (xs_of keys.now) →
+        (points_of (xs_of points.now) (ys_of points.now)) eps 0 (length (xs_of points.now))
+        cuts.now segments.items) }
+    ensures slack { IfOk result (λ segments. 0 < length (xs_of points.now) →
         uncut segments.items ≡ length cuts.now + 1) }
 {
-    let (xs, ys) = lists_of(keys);
+    let (xs, ys) = (points.xs(), points.ys());
     relaxed(rt, alloc, xs, ys, eps, cuts, workers, gate)
 }
 
-/// The x and the y of level 0.
-fn lists_of(keys: &Keys) -> (&[u64], &[u32])
-    ensures xs { result.0.now ≡ xs_of keys.now }
-    ensures ys { result.1.now ≡ ys_of keys.now }
-    ensures same_length { length result.1.now ≡ length result.0.now }
-    ensures rising { IsStrictlyIncreasing result.0.now }
-    ensures never_falls { IsNonDecreasing result.1.now }
-    ensures few { length result.0.now < 2 ^ 32 }
+/// All levels over the segments of level 0, the steps counted from a new ledger.
+fn levels_uncounted<L: Ledger>(
+    alloc: Global,
+    points: &KeyPoints,
+    segments: Vec<Segment>,
+    eps: u32,
+    eps_rec: u32,
+    blank: Blank,
+) -> Result<Vec<Level>, NoMemory>
+    requires bounded { eps ≤ MAX_EPSILON }
+    requires bounded_rec { eps_rec ≤ MAX_EPSILON }
+    requires segments { IsLaid (points_of (xs_of points.now) (ys_of points.now)) eps 0
+        (length (xs_of points.now)) segments.items }
+    requires name { blank.name ≡ L.name }
+    requires parts { blank.parts ≡ L.parts }
+    requires one { blank.parts ≡ 1 }
+    ensures stored { IfOk result (λ levels. AreStored points.now eps eps_rec levels.items) }
+    ensures base { IfOk result (λ levels. 0 < vec_len levels →
+        level_at (segments_of levels.items) 0 ≡ segments.items) }
 {
-    // Its clauses say that the keys never fall, and that they are few.
-    let _ = keys.file();
-    (keys.xs(), keys.ys())
+    let mut steps = Steps::<L>::new(blank);
+    levels_over(alloc, points, segments, eps, eps_rec, &mut steps)
 }
 
 /// All levels, over the segments of level 0.
 fn levels_over<L: Ledger>(
     alloc: Global,
-    keys: &Keys,
+    points: &KeyPoints,
     segments: Vec<Segment>,
     eps: u32,
     eps_rec: u32,
@@ -349,23 +414,23 @@ fn levels_over<L: Ledger>(
 ) -> Result<Vec<Level>, NoMemory>
     requires bounded { eps ≤ MAX_EPSILON }
     requires bounded_rec { eps_rec ≤ MAX_EPSILON }
-    requires segments { IsLaid (points_of (xs_of keys.now) (ys_of keys.now)) eps 0
-        (length (xs_of keys.now)) segments.items }
-    ensures stored { IfOk result (λ levels. AreStored keys.now eps eps_rec levels.items) }
+    requires segments { IsLaid (points_of (xs_of points.now) (ys_of points.now)) eps 0
+        (length (xs_of points.now)) segments.items }
+    ensures stored { IfOk result (λ levels. AreStored points.now eps eps_rec levels.items) }
     ensures base { IfOk result (λ levels. 0 < vec_len levels →
         level_at (segments_of levels.items) 0 ≡ segments.items) }
     // The steps that level 0 takes are left to the caller.
-    ensures cost { IfOk result (λ levels. steps.new + 12 * length (xs_of keys.now) ≤ steps.old
-        + 12 * places_below keys.now (segments_of levels.items) (vec_len levels)) }
+    ensures cost { IfOk result (λ levels. steps.new + 12 * length (xs_of points.now) ≤ steps.old
+        + 12 * places_below points.now (segments_of levels.items) (vec_len levels)) }
 {
     let mut levels = Vec::new(alloc);
-    if keys.file().is_empty() {
+    if points.keys().is_empty() {
         return Ok(levels);
     }
     let mut runs = segments.len();
-    levels.push(level_0(alloc, keys, segments, eps)?)?;
+    levels.push(level_0(alloc, points, segments, eps)?)?;
     while runs != 1 {
-        let level = level_above(alloc, keys, &levels, eps, eps_rec, steps)?;
+        let level = level_above(alloc, points, &levels, eps, eps_rec, steps)?;
         runs = level.segments.len();
         levels.push(level)?;
     }
@@ -373,56 +438,57 @@ fn levels_over<L: Ledger>(
 }
 
 /// Level 0 of its segments.
-fn level_0(alloc: Global, keys: &Keys, segments: Vec<Segment>, eps: u32) -> Result<Level, NoMemory>
+fn level_0(
+    alloc: Global,
+    points: &KeyPoints,
+    segments: Vec<Segment>,
+    eps: u32,
+) -> Result<Level, NoMemory>
     requires bounded { eps ≤ MAX_EPSILON }
-    requires segments { IsLaid (points_of (xs_of keys.now) (ys_of keys.now)) eps 0
-        (length (xs_of keys.now)) segments.items }
+    requires segments { IsLaid (points_of (xs_of points.now) (ys_of points.now)) eps 0
+        (length (xs_of points.now)) segments.items }
     ensures segments { IfOk result (λ level. level.segments ≡ segments) }
     ensures models { IfOk result (λ level. AreModels
-        (points_of (xs_of keys.now) (ys_of keys.now)) eps (length (xs_of keys.now))
+        (points_of (xs_of points.now) (ys_of points.now)) eps (length (xs_of points.now))
         segments.items level.models.items) }
 {
-    let (xs, ys) = lists_of(keys);
-    let models = models_over(alloc, xs, ys, &segments, eps)?;
+    let models = models_over(alloc, points.xs(), points.ys(), &segments, eps)?;
     Ok(Level {
         segments,
         models,
         xs: Vec::new(alloc),
-        ys: Vec::new(alloc),
     })
 }
 
 /// The level above those so far.
 fn level_above<L: Ledger>(
     alloc: Global,
-    keys: &Keys,
+    points: &KeyPoints,
     levels: &[Level],
     eps: u32,
     eps_rec: u32,
     steps: &mut Steps<L>,
 ) -> Result<Level, NoMemory>
-    requires levels { AreLevels keys.now eps eps_rec levels.now }
+    requires levels { AreLevels points.now eps eps_rec levels.now }
     requires some { 0 < length levels.now }
     ensures segments { IfOk result (λ level. IsSegmentation
-        (points_at keys.now (segments_of levels.now) (length levels.now))
+        (points_at points.now (segments_of levels.now) (length levels.now))
         (eps_at eps eps_rec (length levels.now)) 0
-        (length (xs_at keys.now (segments_of levels.now) (length levels.now)))
+        (length (xs_at points.now (segments_of levels.now) (length levels.now)))
         level.segments.items) }
     ensures models { IfOk result (λ level. AreModels
-        (points_at keys.now (segments_of levels.now) (length levels.now))
+        (points_at points.now (segments_of levels.now) (length levels.now))
         (eps_at eps eps_rec (length levels.now))
-        (length (xs_at keys.now (segments_of levels.now) (length levels.now)))
+        (length (xs_at points.now (segments_of levels.now) (length levels.now)))
         level.segments.items level.models.items) }
     ensures xs { IfOk result (λ level.
-        level.xs.items ≡ xs_at keys.now (segments_of levels.now) (length levels.now)) }
-    ensures ys { IfOk result (λ level.
-        level.ys.items ≡ ys_at keys.now (segments_of levels.now) (length levels.now)) }
+        level.xs.items ≡ xs_at points.now (segments_of levels.now) (length levels.now)) }
     ensures cost { IfOk result (λ level. steps.new ≤ steps.old
-        + 12 * length (xs_at keys.now (segments_of levels.now) (length levels.now))) }
+        + 12 * length (xs_at points.now (segments_of levels.now) (length levels.now))) }
 {
     let below = levels.len() - 1;
     let level = &levels[below];
-    let xs = first_xs_of(alloc, list_at(keys, levels, below), &level.segments)?;
+    let xs = first_xs_of(alloc, list_at(points, levels, below), &level.segments)?;
     let ys = places_of(alloc, xs.as_slice())?;
     let runs = runs_over(alloc, xs.as_slice(), ys.as_slice(), eps_rec, steps)?;
     let Runs { segments, models } = runs;
@@ -430,8 +496,19 @@ fn level_above<L: Ledger>(
         segments,
         models,
         xs,
-        ys,
     })
+}
+
+/// The x of level `i` of the levels so far.
+fn list_at<'a>(points: &'a KeyPoints, levels: &'a [Level], i: usize) -> &'a [u64]
+    requires inside { i < length levels.now }
+    requires levels { (eps : ℕ) × (eps_rec : ℕ) × AreLevels points.now eps eps_rec levels.now }
+    ensures { result.now ≡ xs_at points.now (segments_of levels.now) i }
+{
+    if i == 0 {
+        return points.xs();
+    }
+    firsts_at(levels, i)
 }
 
 /// The segmentation of all points of two lists, with the models of its runs.
@@ -515,7 +592,7 @@ fn first_xs_of(alloc: Global, xs: &[u64], segments: &[Segment]) -> Result<Vec<u6
 }
 
 /// The places 0, 1, .. of a list.
-fn places_of(alloc: Global, xs: &[u64]) -> Result<Vec<u32>, NoMemory>
+pub fn places_of(alloc: Global, xs: &[u64]) -> Result<Vec<u32>, NoMemory>
     requires { length xs.now < 2 ^ 32 }
     ensures { IfOk result (λ list. list.items ≡ places (length xs.now)) }
 {

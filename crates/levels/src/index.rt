@@ -18,6 +18,7 @@ ghost use Rattle.levels.specs.Stored.{AreLevels, AreStored, segments_of};
 ghost use Rattle.levels.specs.Entries.{share_of};
 ghost use Rattle.radix_table.specs.Tables.{IsBetween, IsLedTo, IsTableOf};
 
+use crate::build::places_of;
 use crate::entry::{entry_of, share};
 use crate::level::Level;
 use crate::model::RunModel;
@@ -37,8 +38,10 @@ use std::marker::Model;
 /// 2. Each level above level 0 has the fewest segments that lines within its bound can do with. So
 ///    has level 0 of the one index of its keys and bounds ([`Index::build`]). That of a relaxed one
 ///    ([`Index::build_relaxed`]) has at most one more for each cut. A lookup is the same in both.
-/// 3. The keys are kept once: level 0 uses the lists of [`Keys`].
-/// 4. Each run has a model, 48 bytes, by which a lookup predicts places without a division.
+/// 3. What a lookup doesn't read isn't kept. Of the keys that is all but the keys themselves: their
+///    points are made while level 0 is built, and dropped.
+/// 4. A run takes 72 bytes for its segment and 48 for its model, by which a lookup predicts places
+///    without a division, and 8 for its first x, where there is a level above.
 /// 5. A table leads to the few runs of level 0 that a question can be in, where that takes no more
 ///    steps than the levels above may. It has at most 32 bytes a run and 8 more.
 ///
@@ -181,25 +184,61 @@ impl Index {
         &level.segments
     }
 
-    /// The x of level `i`: at level 0 those of the points of the keys, above the first x of the
-    /// runs below. They rise.
-    pub fn list(&self, i: u32) -> &[u64]
+    /// How many points level `i` has: at level 0 those of the keys, and above one for each run
+    /// below. Cannot fail and takes no memory.
+    pub fn point_count(&self, i: u32) -> u32
         requires { i < length self.now.levels }
-        ensures { result.now ≡ xs_at self.now.keys self.now.levels i }
+        ensures { result ≡ length (xs_at self.now.keys self.now.levels i) }
     {
-        list_at(&self.keys, &self.stored, i as usize)
+        if i == 0 {
+            self.keys.point_count()
+        } else {
+            self.firsts(i).len() as u32
+        }
+    }
+
+    /// The x of level `i`: at level 0 those of the points of the keys, above the first x of the
+    /// runs below. They rise. The list is made, and at level 0 the points before it.
+    ///
+    /// # Errors
+    ///
+    /// `NoMemory` alone.
+    pub fn list(&self, alloc: Global, i: u32) -> Result<Vec<u64>, NoMemory>
+        requires { i < length self.now.levels }
+        ensures { IfOk result (λ list. list.items ≡ xs_at self.now.keys self.now.levels i) }
+    {
+        if i == 0 {
+            let points = self.keys.points(alloc)?;
+            return Ok(Vec::from_slice(alloc, points.xs())?);
+        }
+        Ok(Vec::from_slice(alloc, self.firsts(i))?)
     }
 
     /// The y of level `i`: at level 0 the positions of its x in the file, above the places 0, 1, ..
-    pub fn ranks(&self, i: u32) -> &[u32]
+    /// The list is made, and at level 0 the points before it.
+    ///
+    /// # Errors
+    ///
+    /// `NoMemory` alone.
+    pub fn ranks(&self, alloc: Global, i: u32) -> Result<Vec<u32>, NoMemory>
         requires { i < length self.now.levels }
-        ensures { result.now ≡ ys_at self.now.keys self.now.levels i }
+        ensures { IfOk result (λ ranks. ranks.items ≡ ys_at self.now.keys self.now.levels i) }
     {
         if i == 0 {
-            return self.keys.ys();
+            let points = self.keys.points(alloc)?;
+            return Ok(Vec::from_slice(alloc, points.ys())?);
         }
-        let level = &self.stored[i as usize];
-        &level.ys
+        places_of(alloc, self.firsts(i))
+    }
+
+    /// The x of level `i`, above level 0: the first x of the runs below. They rise.
+    #[inline(always)]
+    pub(crate) fn firsts(&self, i: u32) -> &[u64]
+        requires above { 0 < i }
+        requires inside { i < length self.now.levels }
+        ensures { result.now ≡ xs_at self.now.keys self.now.levels i }
+    {
+        firsts_at(&self.stored, i as usize)
     }
 
     /// The error bound of level `i`.
@@ -227,7 +266,7 @@ impl Index {
         &level.models[run as usize]
     }
 
-    /// The keys, with their points.
+    /// The keys.
     pub fn keys(&self) -> &Keys
         ensures { result.now ≡ self.now.keys }
     {
@@ -250,22 +289,17 @@ fn table_of(
     if levels.len() < 2 {
         return Ok(RadixTable::empty(alloc));
     }
-    RadixTable::over(
-        alloc,
-        list_at(keys, levels, 1),
-        share(eps_rec, levels.len()),
-    )
+    RadixTable::over(alloc, firsts_at(levels, 1), share(eps_rec, levels.len()))
 }
 
-/// The x of level `i` of the levels so far.
-pub fn list_at<'a>(keys: &'a Keys, levels: &'a [Level], i: usize) -> &'a [u64]
+/// The x that a level above level 0 keeps.
+#[inline(always)]
+pub fn firsts_at(levels: &[Level], i: usize) -> &[u64]
+    requires above { 0 < i }
     requires inside { i < length levels.now }
-    requires levels { (eps : ℕ) × (eps_rec : ℕ) × AreLevels keys.now eps eps_rec levels.now }
-    ensures { result.now ≡ xs_at keys.now (segments_of levels.now) i }
+    ensures { (keys : List ℕ) (eps eps_rec : ℕ) → AreLevels keys eps eps_rec levels.now →
+        result.now ≡ xs_at keys (segments_of levels.now) i }
 {
-    if i == 0 {
-        return keys.xs();
-    }
     let level = &levels[i];
     &level.xs
 }

@@ -3,14 +3,18 @@
 use crate::model::RunModel;
 use exact_cross::Segment;
 
-/// The segments of a level with the models of their runs, and above level 0 the level's points: the
-/// first x of the runs below, and their places.
+// What the docs say that a run takes.
+const _: () = prove!(size_of::<Segment>() == 72);
+
+const _: () = prove!(size_of::<RunModel>() == 48);
+
+/// The segments of a level with the models of their runs, and above level 0 the x of its points: the
+/// first x of the runs below.
 #[derive(Drop)]
 pub struct Level {
     pub segments: Vec<Segment>,
     pub models: Vec<RunModel>,
     pub xs: Vec<u64>,
-    pub ys: Vec<u32>,
 }
 
 /// The segments over a list of points, with the models of their runs.

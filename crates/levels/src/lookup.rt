@@ -78,7 +78,7 @@ impl Index {
     {
         if self.levels() > 1 {
             if let Some((low, high)) = self.runs_near(q) {
-                return predecessor_in(self.list(1), low, high, q, steps);
+                return predecessor_in(self.firsts(1), low, high, q, steps);
             }
         }
         self.run_by_levels(q, steps)
@@ -121,7 +121,7 @@ impl Index {
         if entry + 1 == levels {
             return 0;
         }
-        let list = self.list(entry + 1);
+        let list = self.firsts(entry + 1);
         predecessor_in(list, 0, list.len() as u32 - 1, q, steps)
     }
 
@@ -143,7 +143,7 @@ impl Index {
         ensures cost { TakesAtMost (2 * (2 * self.now.eps_rec + 3)) steps.old steps.new }
     {
         let (low, high) = self.window_by_model(level, run, q);
-        predecessor_in(self.list(level), low, high, q, steps)
+        predecessor_in(self.firsts(level), low, high, q, steps)
     }
 
     /// A window of `q` in a run of a level, by the run's model. It holds what that of the run's
@@ -182,21 +182,36 @@ impl Index {
             level) }
         ensures holds { HoldsAnswers self.now.keys self.now.levels level q result.0 result.1 }
     {
+        let (low, high) = self.heights_of(level, run);
         let segments = self.level(level);
-        let xs = self.list(level);
-        let ys = self.ranks(level);
         let segment = &segments[run as usize];
-        let end = end_of_run(segments, run as usize, xs.len());
         let eps = self.eps_of(level);
         let len = self.extent_of(level);
-        window(
-            &segment.line,
-            ys[segment.start as usize],
-            ys[end - 1],
-            eps,
-            q,
-            len,
-        )
+        window(&segment.line, low, high, eps, q, len)
+    }
+
+    /// The y of the first and of the last point of a run. At level 0 the first one is the position
+    /// of the run's first x, which is searched; the last one stands in the run's model.
+    fn heights_of(&self, level: u32, run: u32) -> (u32, u32)
+        requires never_falls { IsNonDecreasing self.now.keys }
+        requires few { length self.now.keys < 2 ^ 32 }
+        requires index { IsLaidIndex self.now.keys self.now.eps self.now.eps_rec self.now.levels }
+        requires inside { level < length self.now.levels }
+        requires run { run < length (level_at self.now.levels level) }
+        ensures { (e : ℕ) (d : Segment) → IsEndOf (level_at self.now.levels level)
+            (length (xs_at self.now.keys self.now.levels level)) run e →
+            (result.0 ≡ slice_index (ys_at self.now.keys self.now.levels level)
+            (slice_index_or (level_at self.now.levels level) run d).start) ×
+            (result.1 ≡ slice_index (ys_at self.now.keys self.now.levels level) (e - 1)) }
+    {
+        let model = self.model_of(level, run);
+        let high = (model.high - u64::from(self.eps_of(level))) as u32;
+        if level == 0 {
+            return (self.position(model.first), high);
+        }
+        let segments = self.level(level);
+        let segment = &segments[run as usize];
+        (segment.start, high)
     }
 
     /// The greatest place of the windows of a level.
@@ -208,7 +223,7 @@ impl Index {
         if level == 0 {
             self.keys().len()
         } else {
-            self.list(level).len() as u32
+            self.firsts(level).len() as u32
         }
     }
 }

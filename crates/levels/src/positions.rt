@@ -134,7 +134,7 @@ impl Index {
         requires near { AreNear (xs_at self.now.keys self.now.levels 1) qs.now lows.now count }
         ensures { AreRuns (xs_at self.now.keys self.now.levels 1) qs.now runs.new }
     {
-        let list = self.list(1);
+        let list = self.firsts(1);
         let last = list.len() as u32 - count;
         for lane in 0..LANES {
             runs[lane] = lows[lane].min(last);
@@ -173,7 +173,7 @@ impl Index {
         requires runs { AreRuns (xs_at self.now.keys self.now.levels (level + 1)) qs.now runs.old }
         ensures { AreRuns (xs_at self.now.keys self.now.levels level) qs.now runs.new }
     {
-        let list = self.list(level);
+        let list = self.firsts(level);
         let count = (2 * self.eps_of(level) + 3).min(list.len() as u32);
         for lane in 0..LANES {
             runs[lane] = self.start_among(level, runs[lane], qs[lane], count);
@@ -195,7 +195,7 @@ impl Index {
         ensures { IsAmong (xs_at self.now.keys self.now.levels level) q result count }
     {
         let (low, _) = self.window_by_model(level, run, q);
-        low.min(self.list(level).len() as u32 - count)
+        low.min(self.firsts(level).len() as u32 - count)
     }
 
     /// From runs of level 0 to the positions in the file.

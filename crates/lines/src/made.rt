@@ -15,7 +15,7 @@ ghost use Rattle.lines.specs.Made.{start_at, TellsPoints};
 use crate::table::head_of;
 use budget::NoMemory;
 use exact_cross::{Line, MAX_EPSILON, Segment};
-use key_points::{KeysFault, count_distinct, judge, parts_of, places_of};
+use key_points::{KeyPoints, KeysFault, judge};
 use segmenter::segment;
 use std::alloc::Global;
 
@@ -58,13 +58,8 @@ fn words_of(alloc: Global, keys: &[u64], eps: u32) -> Result<Vec<u64>, NoMemory>
     ensures { IfOk result (λ words. AreLinesOver (points_of (xs_of keys.now) (ys_of keys.now)) eps
         words.items) }
 {
-    let count = count_distinct(keys);
-    if count == keys.len() {
-        let ys = places_of(alloc, keys)?;
-        return words_over(alloc, keys, &ys, eps);
-    }
-    let points = parts_of(alloc, keys, count)?;
-    words_over(alloc, &points.xs, &points.ys, eps)
+    let points = KeyPoints::of(alloc, keys)?;
+    words_over(alloc, points.xs(), points.ys(), eps)
 }
 
 /// The words of the lines of points.

@@ -6,12 +6,12 @@ use Rattle.levels.proofs.build.level_above.Goals as goal
 
 pub first_xs_of-requires : goal.first_xs_of-requires
 first_xs_of-requires g c =
-    starts_inside c.args.keys.now c.args.eps c.args.eps_rec c.args.levels.now (length c.args.levels.now - 1) c.index-levels-below.result c.list_at.result.now c.deref.result.now
+    starts_inside c.args.points.now c.args.eps c.args.eps_rec c.args.levels.now (length c.args.levels.now - 1) c.index-levels-below.result c.list_at.result.now c.deref.result.now
     c.requires.levels (omega (arith, c.requires.some)) c.index-levels-below.is c.deref.ensures.value c.list_at.ensures
 
 pub places_of-requires : goal.places_of-requires
 places_of-requires g c =
-    let keys = c.args.keys.now in
+    let keys = c.args.points.now in
     let levels = c.args.levels.now in
     let last : length levels - 1 + 1 ≡ length levels = omega (arith, c.requires.some) in
     let xs_are = above_xs keys levels (length levels - 1) c.index-levels-below.result c.list_at.result.now c.in_ok-xs.xs.items c.deref.result.now last
@@ -21,7 +21,7 @@ places_of-requires g c =
 
 pub runs_over-requires-clause-same_length : goal.runs_over-requires-clause-same_length
 runs_over-requires-clause-same_length g c =
-    let keys = c.args.keys.now in
+    let keys = c.args.points.now in
     let levels = c.args.levels.now in
     let last : length levels - 1 + 1 ≡ length levels = omega (arith, c.requires.some) in
     let xs_are = above_xs keys levels (length levels - 1) c.index-levels-below.result c.list_at.result.now c.in_ok-xs.xs.items c.deref.result.now last
@@ -32,7 +32,7 @@ runs_over-requires-clause-same_length g c =
 
 pub runs_over-requires-clause-rising : goal.runs_over-requires-clause-rising
 runs_over-requires-clause-rising g c =
-    let keys = c.args.keys.now in
+    let keys = c.args.points.now in
     let levels = c.args.levels.now in
     let last : length levels - 1 + 1 ≡ length levels = omega (arith, c.requires.some) in
     let xs_are = above_xs keys levels (length levels - 1) c.index-levels-below.result c.list_at.result.now c.in_ok-xs.xs.items c.deref.result.now last
@@ -43,7 +43,7 @@ runs_over-requires-clause-rising g c =
 
 pub runs_over-requires-clause-never_falls : goal.runs_over-requires-clause-never_falls
 runs_over-requires-clause-never_falls g c =
-    let keys = c.args.keys.now in
+    let keys = c.args.points.now in
     let levels = c.args.levels.now in
     let last : length levels - 1 + 1 ≡ length levels = omega (arith, c.requires.some) in
     let xs_are = above_xs keys levels (length levels - 1) c.index-levels-below.result c.list_at.result.now c.in_ok-xs.xs.items c.deref.result.now last
@@ -54,7 +54,7 @@ runs_over-requires-clause-never_falls g c =
 
 pub runs_over-requires-clause-few : goal.runs_over-requires-clause-few
 runs_over-requires-clause-few g c =
-    let keys = c.args.keys.now in
+    let keys = c.args.points.now in
     let levels = c.args.levels.now in
     let last : length levels - 1 + 1 ≡ length levels = omega (arith, c.requires.some) in
     let xs_are = above_xs keys levels (length levels - 1) c.index-levels-below.result c.list_at.result.now c.in_ok-xs.xs.items c.deref.result.now last
@@ -65,7 +65,7 @@ runs_over-requires-clause-few g c =
 
 pub returns-clause-segments : goal.returns-clause-segments
 returns-clause-segments g c =
-    let keys = c.args.keys.now in
+    let keys = c.args.points.now in
     let levels = c.args.levels.now in
     let last : length levels - 1 + 1 ≡ length levels = omega (arith, c.requires.some) in
     let xs_are = above_xs keys levels (length levels - 1) c.index-levels-below.result c.list_at.result.now c.in_ok-xs.xs.items c.deref.result.now last
@@ -76,7 +76,7 @@ returns-clause-segments g c =
 
 pub returns-clause-models : goal.returns-clause-models
 returns-clause-models g c =
-    let keys = c.args.keys.now in
+    let keys = c.args.points.now in
     let levels = c.args.levels.now in
     let last : length levels - 1 + 1 ≡ length levels = omega (arith, c.requires.some) in
     let xs_are = above_xs keys levels (length levels - 1) c.index-levels-below.result c.list_at.result.now c.in_ok-xs.xs.items c.deref.result.now last
@@ -88,26 +88,16 @@ returns-clause-models g c =
 
 pub returns-clause-xs : goal.returns-clause-xs
 returns-clause-xs g c =
-    let keys = c.args.keys.now in
+    let keys = c.args.points.now in
     let levels = c.args.levels.now in
     let last : length levels - 1 + 1 ≡ length levels = omega (arith, c.requires.some) in
     let xs_are = above_xs keys levels (length levels - 1) c.index-levels-below.result c.list_at.result.now c.in_ok-xs.xs.items c.deref.result.now last
     c.index-levels-below.is c.deref.ensures.value c.list_at.ensures c.in_ok-xs.ensures in
     xs_are
 
-pub returns-clause-ys : goal.returns-clause-ys
-returns-clause-ys g c =
-    let keys = c.args.keys.now in
-    let levels = c.args.levels.now in
-    let last : length levels - 1 + 1 ≡ length levels = omega (arith, c.requires.some) in
-    let xs_are = above_xs keys levels (length levels - 1) c.index-levels-below.result c.list_at.result.now c.in_ok-xs.xs.items c.deref.result.now last
-    c.index-levels-below.is c.deref.ensures.value c.list_at.ensures c.in_ok-xs.ensures in
-    let ys_are = above_ys keys levels (length levels - 1) c.in_ok-xs.xs.items c.in_ok-ys.ys.items last xs_are (rw c.as_slice.ensures.value at c.in_ok-ys.ensures) in
-    ys_are
-
 pub returns-clause-cost : goal.returns-clause-cost
 returns-clause-cost g c =
-    let keys = c.args.keys.now in
+    let keys = c.args.points.now in
     let levels = c.args.levels.now in
     let last : length levels - 1 + 1 ≡ length levels = omega (arith, c.requires.some) in
     let xs_are = above_xs keys levels (length levels - 1) c.index-levels-below.result c.list_at.result.now c.in_ok-xs.xs.items c.deref.result.now last

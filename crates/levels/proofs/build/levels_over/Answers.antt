@@ -13,12 +13,12 @@ use Rattle.levels.proofs.build.levels_over.Goals as goal
 
 pub loop-runs-init : goal.loop-runs-init
 loop-runs-init g c =
-    let keys = c.args.keys.now in
+    let keys = c.args.points.now in
     let level = c.in_ok-level_0.field-0 in
     let own : level.segments.items ≡ c.args.segments.items = ap (λ (segments : Vec Segment Global). segments.items) c.in_ok-level_0.ensures.segments in
-    let some : 0 < length keys = grind (arith, nat_tests, c.is_empty.ensures, c.if-is_empty.false, ap length c.file.ensures.keys) in
-    let order = rw c.file.ensures.keys at c.file.ensures.never_falls in
-    let few = rw c.file.ensures.keys at c.file.ensures.few in
+    let some : 0 < length keys = grind (arith, nat_tests, c.is_empty.ensures, c.if-is_empty.false, ap length c.keys.ensures.keys) in
+    let order = rw c.keys.ensures.keys at c.keys.ensures.never_falls in
+    let few = rw c.keys.ensures.keys at c.keys.ensures.few in
     let is : c.push.new.self.items ≡ level ∷ [] = rw c.new-levels.ensures.items at c.in_ok-push.ensures.items in
     let all = AreLevels-base keys c.args.eps c.args.eps_rec level order few c.requires.bounded c.requires.bounded_rec (rw own c.requires.segments) (rw own c.in_ok-level_0.ensures.models) in
     rw is (record {
@@ -34,13 +34,13 @@ pub loop-runs-smaller : goal.loop-runs-smaller
 loop-runs-smaller g c =
     let inv = c.loop-runs.invariant in
     let own = rw c.deref.ensures.value at c.in_ok-level.ensures in
-    let fewer = fewer_above c.args.keys.now c.args.eps c.args.eps_rec c.loop-runs.levels.items c.loop-runs.runs c.in_ok-level.level.segments.items inv.levels inv.some inv.above inv.last
+    let fewer = fewer_above c.args.points.now c.args.eps c.args.eps_rec c.loop-runs.levels.items c.loop-runs.runs c.in_ok-level.level.segments.items inv.levels inv.some inv.above inv.last
     (λ one. c.loop-runs-test.true one) own.segments in
     omega (arith, fewer, c.in_ok-level.level.segments.ok.0)
 
 pub loop-runs-preserved : goal.loop-runs-preserved
 loop-runs-preserved g c =
-    let keys = c.args.keys.now in
+    let keys = c.args.points.now in
     let levels = c.loop-runs.levels.items in
     let level = c.in_ok-level.level in
     let inv = c.loop-runs.invariant in
@@ -48,7 +48,7 @@ loop-runs-preserved g c =
     let to = length (xs_at keys (segments_of levels) (length levels)) in
     let laid = IsLaid-from_piece (points_at keys (segments_of levels) (length levels)) (eps_at c.args.eps c.args.eps_rec (length levels)) 0 to level.segments.items (omega arith) own.segments in
     let all = AreLevels-push keys c.args.eps c.args.eps_rec levels level inv.levels (λ i last one. c.loop-runs-test.true (sym (inv.last i last) ∙ one)) laid (λ some. own.segments) own.models
-    (λ some. own.xs) (λ some. own.ys) in
+    (λ some. own.xs) in
     let count : length (levels ++ level ∷ []) ≡ length levels + 1 = length-append levels (level ∷ []) in
     let places : places_below keys (segments_of (levels ++ level ∷ [])) (length (levels ++ level ∷ []))
     ≡ places_below keys (segments_of levels) (length levels) + length (xs_at keys (segments_of levels) (length levels)) =
@@ -65,4 +65,4 @@ loop-runs-preserved g c =
 pub returns-clause-stored : goal.returns-clause-stored
 returns-clause-stored g c =
     let inv = c.loop-runs.invariant in
-    AreStored-in c.args.keys.now c.args.eps c.args.eps_rec c.loop-runs.levels.items inv.levels inv.some inv.above (λ i last. inv.last i last ∙ omega (arith, c.loop-runs-test.false))
+    AreStored-in c.args.points.now c.args.eps c.args.eps_rec c.loop-runs.levels.items inv.levels inv.some inv.above (λ i last. inv.last i last ∙ omega (arith, c.loop-runs-test.false))

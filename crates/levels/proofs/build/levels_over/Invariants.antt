@@ -8,12 +8,12 @@ use Rattle.levels.proofs.build.levels_over.Given as goal
 
 abbrev pub invariant-loop-runs : goal.invariant-loop-runs
 invariant-loop-runs g l = record {
-  levels : AreLevels l.keys l.eps l.eps_rec l.levels.items;
-  some : 0 < length l.keys;
+  levels : AreLevels l.points l.eps l.eps_rec l.levels.items;
+  some : 0 < length l.points;
   above : 0 < length l.levels.items;
   last : (i : ℕ) → i + 1 ≡ length l.levels.items → length (level_at (segments_of l.levels.items) i) ≡ l.runs;
   base : level_at (segments_of l.levels.items) 0 ≡ l.fn.segments.items;
-  cost : l.steps + 12 * length (xs_of l.keys) ≤ l.fn.steps + 12 * places_below l.keys (segments_of l.levels.items) (length l.levels.items);
+  cost : l.steps + 12 * length (xs_of l.points) ≤ l.fn.steps + 12 * places_below l.points (segments_of l.levels.items) (length l.levels.items);
 }
 
 abbrev pub decreases-loop-runs : goal.decreases-loop-runs

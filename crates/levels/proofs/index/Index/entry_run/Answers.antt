@@ -17,24 +17,24 @@ pub overflow_cast-list : goal.overflow_cast-list
 overflow_cast-list g c =
     let value = c.args.self.now in
     let here = ascends value.keys value.eps value.eps_rec value.levels c.requires.never_falls c.requires.index (c.args.entry + 1) (omega (arith, c.requires.entry.inside c.requires.some)) in
-    omega (arith, ap length c.list-list.ensures, here.few, c.requires.few)
+    omega (arith, ap length c.firsts-list.ensures, here.few, c.requires.few)
 
 pub overflow_sub-list : goal.overflow_sub-list
 overflow_sub-list g c =
     let value = c.args.self.now in
     let found = predecessor_at value.keys value.eps value.eps_rec value.levels c.requires.never_falls c.requires.index (c.args.entry + 1) c.args.q (omega (arith, c.requires.entry.inside c.requires.some))
     (some_keys value.keys value.levels c.requires.index.none c.requires.some) c.requires.from_first in
-    omega (arith, ap length c.list-list.ensures, found.1.inside)
+    omega (arith, ap length c.firsts-list.ensures, found.1.inside)
 
 pub predecessor_in-requires-clause-order : goal.predecessor_in-requires-clause-order
 predecessor_in-requires-clause-order g c =
     let value = c.args.self.now in
     let here = ascends value.keys value.eps value.eps_rec value.levels c.requires.never_falls c.requires.index (c.args.entry + 1) (omega (arith, c.requires.entry.inside c.requires.some)) in
-    subst IsNonDecreasing (sym c.list-list.ensures) (IsNonDecreasing-from_rising (xs_at value.keys value.levels (c.args.entry + 1)) here.rises)
+    subst IsNonDecreasing (sym c.firsts-list.ensures) (IsNonDecreasing-from_rising (xs_at value.keys value.levels (c.args.entry + 1)) here.rises)
 
 pub predecessor_in-requires-clause-answer : goal.predecessor_in-requires-clause-answer
 predecessor_in-requires-clause-answer g c =
     let value = c.args.self.now in
     let found = predecessor_at value.keys value.eps value.eps_rec value.levels c.requires.never_falls c.requires.index (c.args.entry + 1) c.args.q (omega (arith, c.requires.entry.inside c.requires.some))
     (some_keys value.keys value.levels c.requires.index.none c.requires.some) c.requires.from_first in
-    (found.0, subst (λ (xs : List ℕ). IsPredecessor xs c.args.q found.0) (sym c.list-list.ensures) found.1, omega arith, omega (arith, ap length c.list-list.ensures, found.1.inside))
+    (found.0, subst (λ (xs : List ℕ). IsPredecessor xs c.args.q found.0) (sym c.firsts-list.ensures) found.1, omega arith, omega (arith, ap length c.firsts-list.ensures, found.1.inside))

@@ -1,0 +1,9 @@
+-- The y of keys that never fall don't fall either.
+use Rattle.std.proofs.Common.{sym, ◌∙◌, subst}
+use Rattle.std.specs.List.Sorted.{IsNonDecreasing}
+use Rattle.key_points.proofs.PointOrder.{ys-never_fall}
+use Rattle.key_points.proofs.points.KeyPoints.ys.Goals as goal
+
+pub returns-clause-never_falls : goal.returns-clause-never_falls
+returns-clause-never_falls c =
+    subst IsNonDecreasing (sym (c.deref.ensures.value ∙ c.self.invariant.0.heights)) (ys-never_fall c.self.inside.keys.now c.self.invariant.0.never_falls)
