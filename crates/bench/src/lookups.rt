@@ -86,7 +86,7 @@ fn index_of<R: AllocGlobal + Files + Print + Clock>(rt: &R, name: &str, eps: u32
     let keys = keys_of(rt, name)?;
     let reading = start.elapsed(rt)?.as_secs_f64();
     let start = Instant::now(rt)?;
-    let keys = Keys::of(rt.alloc(), keys)?;
+    let keys = Keys::of(keys);
     let index = Index::of(rt.alloc(), keys, eps, 4)?;
     let building = start.elapsed(rt)?.as_secs_f64();
     println!(rt; "read {reading}\nbuild {building}")?;

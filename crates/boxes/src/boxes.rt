@@ -66,7 +66,7 @@ impl Boxes {
         ensures index { IfOk result (λ boxes. IsIndex boxes.codes 64 4 boxes.index.levels) }
     {
         let codes = sorted_codes(rt, alloc, d, points)?;
-        let keys = Keys::of(alloc, codes)?;
+        let keys = Keys::of(codes);
         let index = Index::of(alloc, keys, EPS, EPS_REC)?;
         Ok(Boxes { d, index })
     }

@@ -110,8 +110,7 @@ fn write_level<S: Sink>(
 {
     fill_level_line(line, index, bounds, None, i);
     hand_over(out, line.as_bytes())?;
-    let len = index.list(i).len() as u32;
-    write_runs(out, line, index.level(i), len)
+    write_runs(out, line, index.level(i), index.point_count(i))
 }
 
 // Writes a text line for each run, the last of which ends at `to`.

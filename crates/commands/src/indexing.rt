@@ -31,7 +31,7 @@ pub fn index_of<R: Threads + Sync, G: Gate>(
     ensures index { IfOk result
         (λ index. IsIndex sorted.keys.items bounds.eps bounds.eps_rec index.levels) }
 {
-    let keys = Keys::of(alloc, sorted.keys)?;
+    let keys = Keys::of(sorted.keys);
     Index::by_workers(
         rt,
         alloc,
@@ -85,7 +85,7 @@ pub fn fill_level_line(
     line.push(b"level");
     line.push_number(i);
     line.push(b" list");
-    line.push_number(index.list(i).len());
+    line.push_number(index.point_count(i));
     line.push(b" eps");
     line.push_number(if i == 0 { bounds.eps } else { bounds.eps_rec });
     line.push(b" runs");

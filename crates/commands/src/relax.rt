@@ -73,9 +73,8 @@ fn relaxed_of<R: Threads + Sync, G: Gate>(
     ensures { IfOk result (λ made. IsRelaxedOf sorted.keys.items (bounds_of bounds) pieces.count
         made.1 made.0) }
 {
-    let keys = Keys::of(alloc, sorted.keys)?;
-    let points = keys.xs().len() as u32;
-    let cuts = even_cuts(alloc, points, pieces.count)?;
+    let keys = Keys::of(sorted.keys);
+    let cuts = even_cuts(alloc, keys.point_count(), pieces.count)?;
     let index = Index::build_relaxed(
         rt,
         alloc,

@@ -12,7 +12,7 @@ use std::process::Abort;
 pub fn keys_of<R: Abort + AllocGlobal>(rt: &R, keys: &[u64]) -> Result<Keys, NoMemory> {
     assert!(rt; is_sorted(keys));
     assert!(rt; keys.len() < 1000);
-    Keys::of(rt.alloc(), Vec::from_slice(rt.alloc(), keys)?)
+    Ok(Keys::of(Vec::from_slice(rt.alloc(), keys)?))
 }
 
 /// The index of these keys, with the bound 0 above level 0.

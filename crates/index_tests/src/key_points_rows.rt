@@ -55,9 +55,11 @@ fn has_file(keys: &Keys, row: &Row) -> bool {
     keys.file() == file && keys.len() as usize == file.len() && keys.is_empty() == file.is_empty()
 }
 
-/// Whether they have the row's points.
-fn has_points(keys: &Keys, row: &Row) -> bool {
-    keys.xs() == row.xs && keys.ys() == row.ys
+/// Whether they have the row's points, and as many.
+fn has_points(alloc: Global, keys: &Keys, row: &Row) -> Result<bool, NoMemory> {
+    let points = keys.points(alloc)?;
+    let same = points.xs() == row.xs && points.ys() == row.ys;
+    Ok(same && keys.point_count() as usize == row.xs.len())
 }
 
 /// Whether each distinct key begins where the row says.
@@ -78,8 +80,9 @@ fn has_firsts(alloc: Global, keys: &Keys, row: &Row) -> Result<bool, NoMemory> {
 /// Whether the keys of a row have its file, its points and its firsts.
 fn compared<R: Abort + AllocGlobal>(rt: &R, row: &Row) -> Result<(bool, bool, bool), NoMemory> {
     let keys = keys_of(rt, row.keys)?;
+    let points = has_points(rt.alloc(), &keys, row)?;
     let firsts = has_firsts(rt.alloc(), &keys, row)?;
-    Ok((has_file(&keys, row), has_points(&keys, row), firsts))
+    Ok((has_file(&keys, row), points, firsts))
 }
 
 #[test]

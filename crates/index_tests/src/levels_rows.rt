@@ -170,7 +170,7 @@ fn built_in_pieces<R: Threads + Abort + AllocGlobal + Sync>(
 ) -> Result<Index, NoMemory> {
     assert!(rt; 1 <= workers && workers <= 64);
     let keys = keys_of(rt, keys)?;
-    assert!(rt; 0 < cut && (cut as usize) < keys.xs().len());
+    assert!(rt; 0 < cut && cut < keys.point_count());
     Index::build(rt, rt.alloc(), keys, 0, 0, &[cut], workers, &OpenGate)
 }
 
@@ -284,10 +284,8 @@ fn cuts_of<R: Abort + AllocGlobal>(rt: &R, keys: &Keys, pieces: u32) -> Result<V
     ensures cuts { IfOk result (λ cuts. AreCuts (length (xs_of keys.now)) cuts.items) }
     ensures few { IfOk result (λ cuts. vec_len cuts < 64) }
 {
-    let points = keys.xs().len();
-    assert!(rt; points < 2000);
     assert!(rt; 1 <= pieces && pieces <= 64);
-    even_cuts(rt.alloc(), points as u32, pieces)
+    even_cuts(rt.alloc(), keys.point_count(), pieces)
 }
 
 /// The relaxed index of these keys, built by workers, with both bounds 0.
@@ -304,13 +302,13 @@ fn relaxed_of<R: Threads + Abort + AllocGlobal + Sync>(
 }
 
 /// The slack that level 0 shows, which is 0 where there is none.
-fn slack_of(rt: &impl Abort, index: &Index) -> Option<u32> {
+fn slack_of<R: Abort + AllocGlobal>(rt: &R, index: &Index) -> Result<Option<u32>, NoMemory> {
     if index.levels() == 0 {
-        return Some(0);
+        return Ok(Some(0));
     }
-    let (xs, ys) = (index.list(0), index.ranks(0));
-    expect_points(rt, xs, ys);
-    slack(xs, ys, 0, index.level(0))
+    let (xs, ys) = (index.list(rt.alloc(), 0)?, index.ranks(rt.alloc(), 0)?);
+    expect_points(rt, &xs, &ys);
+    Ok(slack(&xs, &ys, 0, index.level(0)))
 }
 
 /// Whether workers build an index with the row's runs and position, and its slack.
@@ -322,7 +320,8 @@ fn compared_relaxed<R: Threads + Abort + AllocGlobal + Sync>(
     let index = relaxed_of(rt, row.keys, row.pieces, workers)?;
     let (q, position) = row.found;
     let found = index.position(q) == position;
-    Ok((has_runs(&index, row.runs), found, slack_of(rt, &index)))
+    let slack = slack_of(rt, &index)?;
+    Ok((has_runs(&index, row.runs), found, slack))
 }
 
 fn expect_relaxed<R: Threads + Abort + AllocGlobal + Sync>(
@@ -412,10 +411,18 @@ static REPEATED_POINTS: [(u32, &[u64], &[u32]); 2] = [
     (1, &[5, 9], &[0, 1]),
 ];
 
-/// Whether a level has these points.
-fn has_level(index: &Index, points: &(u32, &[u64], &[u32])) -> bool {
+/// Whether a level has these points, and as many.
+fn has_level(
+    alloc: Global,
+    index: &Index,
+    points: &(u32, &[u64], &[u32]),
+) -> Result<bool, NoMemory> {
     let (level, xs, ys) = *points;
-    level < index.levels() && index.list(level) == xs && index.ranks(level) == ys
+    if level >= index.levels() || index.point_count(level) as usize != xs.len() {
+        return Ok(false);
+    }
+    let (list, ranks) = (index.list(alloc, level)?, index.ranks(alloc, level)?);
+    Ok(list.as_slice() == xs && ranks.as_slice() == ys)
 }
 
 /// Compares the points of a level of the index of these keys.
@@ -424,7 +431,7 @@ fn expect_level<R: Abort + AllocGlobal>(
     keys: &[u64],
     points: &(u32, &[u64], &[u32]),
 ) -> Result<(), NoMemory> {
-    let same = has_level(&index_of(rt, keys, 0)?, points);
+    let same = has_level(rt.alloc(), &index_of(rt, keys, 0)?, points)?;
     expect_of(rt, "points", keys, same);
     Ok(())
 }

@@ -58,7 +58,7 @@ fn index_of(alloc: Global, keys: &[u64], eps: u32, eps_rec: u32) -> Result<Box<K
     requires { CanBeIndexed keys.now eps eps_rec }
     ensures { IfOk result (λ kept. IsIndexOf keys.now eps eps_rec kept.value) }
 {
-    let keys = Keys::of(alloc, Vec::from_slice(alloc, keys)?)?;
+    let keys = Keys::of(Vec::from_slice(alloc, keys)?);
     let index = Index::of(alloc, keys, eps, eps_rec)?;
     let kept = KeptIndex::of(alloc, index)?;
     Ok(Box::new(alloc, kept)?)

@@ -105,8 +105,7 @@ pub fn index_in_pieces<R: Threads + Sync, G: Gate>(
     ensures eps_rec { IfOk result (λ index. index.eps_rec ≡ EPS_REC) }
     ensures index { IfOk result (λ index. IsIndex keys EPS EPS_REC index.levels) }
 {
-    let _ = keys.file();
-    let points = keys.xs().len() as u32;
+    let points = keys.point_count();
     let pieces = (points / PIECE).clamp(1, workers);
     let cuts = even_cuts(alloc, points, pieces)?;
     Index::build(rt, alloc, keys, EPS, EPS_REC, &cuts, workers, gate)

@@ -115,7 +115,7 @@ pub fn keys_with_filter(alloc: Global, entries: &[Entry]) -> Result<(Keys, Filte
         keys.push_reserved(entry.key);
         set(&mut words, hash(entry.key));
     }
-    Ok((Keys::of_distinct(alloc, keys)?, Filter { words }))
+    Ok((Keys::of_distinct(keys), Filter { words }))
 }
 
 /// The hash of a key.

@@ -16,7 +16,7 @@ use zorder::Region;
 #[test]
 fn levels_example(rt: HostRuntime) -> Result<(), Fail> {
     let list = vec![in rt.alloc(); 1, 4, 9, 9, 16]?;
-    let keys = Keys::tested(rt.alloc(), list)?;
+    let keys = Keys::tested(list)?;
     let index = Index::of(rt.alloc(), keys, 64, 4)?;
     assert_eq!(rt; index.position(9), 2);
     assert_eq!(rt; index.position(10), 4);

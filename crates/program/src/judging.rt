@@ -8,7 +8,7 @@ use crate::refusal::{Refusal, Stopped};
 use commands::{SortedKeys, Task};
 use edge::Shelf;
 use index_file::{Saved, check, read_index};
-use levels::Keys;
+use key_points::KeyPoints;
 use std::alloc::Global;
 
 /// The saved index of the file of this name.
@@ -42,8 +42,8 @@ pub fn judged(alloc: Global, sorted: SortedKeys, saved: &Saved) -> Result<Task, 
     ensures { (faults : ℕ) → Answers (judges sorted.keys.items saved.now) task_of faults faults
         result }
 {
-    let keys = Keys::of(alloc, sorted.keys)?;
-    match check(alloc, keys.xs(), keys.ys(), saved) {
+    let points = KeyPoints::of(alloc, &sorted.keys)?;
+    match check(alloc, points.xs(), points.ys(), saved) {
         Ok(()) => Ok(Task::Check {
             levels: saved.levels(),
             runs: saved.run_count(),

@@ -1,7 +1,6 @@
 use Rattle.std.proofs.Common.{◌∷◌, [], length, ◌∙◌, ap, ap₂, subst, arith, ℕ, List, None}
 use Rattle.std.specs.Prelude.{OnOk, OnErr}
 use Rattle.written.specs.Writing.{Writes, BreaksOff}
-use Rattle.levels.proofs.CallerLemmas.{ascends}
 use Rattle.exact_cross.specs.IndexLevels.{level_at}
 use Rattle.levels.specs.Indexes.{xs_at}
 use Rattle.commands.specs.Tasks.{bounds_of}
@@ -17,19 +16,12 @@ returns-in_err-hand_over-clause-err g c =
     (head_broken g.S.Sink c.args.out.now c.hand_over.new.out c.as_bytes.result.now head _ (c.as_bytes.ensures ∙ c.fill_level_line.ensures)
     c.in_err-hand_over.ensures.err)
 
--- a level has at most as many places as there are keys
-pub overflow_cast-len : goal.overflow_cast-len
-overflow_cast-len g c =
-    let index = c.args.index.now in
-    let here = ascends index.keys c.args.bounds.eps c.args.bounds.eps_rec index.levels c.requires.never_falls c.requires.index c.args.i (omega (arith, c.requires.there)) in
-    omega (arith, here.few, c.requires.few, ap length c.list.ensures)
-
 pub returns-clause-ok : goal.returns-clause-ok
 returns-clause-ok g c =
     let index = c.args.index.now in
     let head = level_line_of index.keys (bounds_of c.args.bounds) None index.levels c.args.i in
     let runs = run_lines (level_at index.levels c.args.i) (length (xs_at index.keys index.levels c.args.i)) in
-    let runs_are = ap₂ run_lines c.level.ensures.segments (ap length c.list.ensures) in
+    let runs_are = ap₂ run_lines c.level.ensures.segments c.point_count.ensures in
     ok_behind g.S.Sink c.args.out.now c.hand_over.new.out c.write_runs.new.out (head ∷ []) runs c.write_runs.result
     (head_written g.S.Sink _ _ c.as_bytes.result.now head (c.as_bytes.ensures ∙ c.fill_level_line.ensures) c.in_ok-hand_over.ensures.ok)
     (subst (λ (r : List (List ℕ)). OnOk c.write_runs.result (Writes g.S.Sink c.hand_over.new.out c.write_runs.new.out r)) runs_are c.write_runs.ensures.ok)
@@ -39,7 +31,7 @@ returns-clause-err g c =
     let index = c.args.index.now in
     let head = level_line_of index.keys (bounds_of c.args.bounds) None index.levels c.args.i in
     let runs = run_lines (level_at index.levels c.args.i) (length (xs_at index.keys index.levels c.args.i)) in
-    let runs_are = ap₂ run_lines c.level.ensures.segments (ap length c.list.ensures) in
+    let runs_are = ap₂ run_lines c.level.ensures.segments c.point_count.ensures in
     err_behind g.S.Sink c.args.out.now c.hand_over.new.out c.write_runs.new.out (head ∷ []) runs c.write_runs.result
     (head_written g.S.Sink _ _ c.as_bytes.result.now head (c.as_bytes.ensures ∙ c.fill_level_line.ensures) c.in_ok-hand_over.ensures.ok)
     (subst (λ (r : List (List ℕ)). OnErr c.write_runs.result (BreaksOff g.S.Sink c.hand_over.new.out c.write_runs.new.out r)) runs_are c.write_runs.ensures.err)

@@ -3,24 +3,12 @@ use Rattle.exact_cross.specs.Points.{points_of}
 use Rattle.exact_cross.specs.Checked.{IsCoverWithin}
 use Rattle.exact_cross.specs.Segments.{starts_of}
 use Rattle.key_points.specs.KeyPoints.{xs_of, ys_of}
-use Rattle.key_points.proofs.CallerLemmas.{xs-few}
 use Rattle.piece_join.specs.Cuttings.{AreCutsAt, even_place}
 use Rattle.exact_cross.specs.IndexLevels.{level_at}
 use Rattle.levels.specs.Indexes.{PgmIndex, IsRelaxedIndex}
 use Rattle.commands.specs.Finders.{IsRelaxedOf}
 use Rattle.commands.specs.Tasks.{Bounds, bounds_of}
 use Rattle.commands.proofs.relax.relaxed_of.Goals as goal
-
--- there are no more points than keys
-pub overflow_cast-points : goal.overflow_cast-points
-overflow_cast-points g c =
-    omega (
-      arith,
-      xs-few c.args.sorted.keys.items c.args.sorted.never_falls,
-      c.args.sorted.few,
-      c.args.sorted.keys.ok.0,
-      ap length (c.xs.ensures ∙ ap xs_of c.in_ok-keys.ensures),
-    )
 
 abbrev IsWithin : (eps : ℕ) (index : PgmIndex) → List ℕ × List ℕ → Type 0
 IsWithin eps index t = 0 < length t.0 →
@@ -44,5 +32,5 @@ made keys own cuts used bounds pieces m slack index same same_cuts points count 
 pub returns : goal.returns
 returns g c =
     let built = c.in_ok-index.ensures in
-    made c.args.sorted.keys.items _ c.in_ok-cuts.cuts.items c.deref.result.now (bounds_of c.args.bounds) c.args.pieces.count _ c.len.result c.in_ok-index.index c.in_ok-keys.ensures
-    c.deref.ensures.value (ap length c.xs.ensures) (omega (arith, c.len.ensures)) built.keys built.eps built.eps_rec c.in_ok-cuts.ensures.places built.relaxed built.within
+    made c.args.sorted.keys.items _ c.in_ok-cuts.cuts.items c.deref.result.now (bounds_of c.args.bounds) c.args.pieces.count _ c.len.result c.in_ok-index.index c.of-keys.ensures
+    c.deref.ensures.value c.point_count.ensures (omega (arith, c.len.ensures)) built.keys built.eps built.eps_rec c.in_ok-cuts.ensures.places built.relaxed built.within
