@@ -1,173 +1,19 @@
 -- The heads of a walk.
-use Rattle.std.proofs.Common.{◌≡◌, ℕ, ◌+◌, ◌-◌, ◌*◌, ◌<◌, ◌≤◌, List, [], length, take, slice_index, slice_index_or, slice_set, Option, Some, None, IfSome, IsSome, sym, ap, ◌∙◌, subst, inl, inr, refl, arith}
-use Rattle.std.specs.List.{insert, slice_get}
-use Rattle.std.proofs.lemmas.Bool.{cases_eq, cases_lt, cases_order}
-use Rattle.std.proofs.lemmas.List.{get_or-take, get_or-set_other, get_or_default, get_or_past, length-take-le}
-use Rattle.std.proofs.lemmas.List.Edits.{length-insert, get_or-insert_below, get_or-insert_at, get_or-insert_above}
-use Rattle.std.proofs.lemmas.Option.{slice_get_within, get_or_from_slice_get, slice_get-get_or}
+use Rattle.std.proofs.Common.{◌≡◌, ℕ, ◌+◌, ◌%◌, ◌<◌, ◌≤◌, List, [], ◌∷◌, ◌++◌, length, slice_index, slice_index_or, slice_set, Option, Some, None, IfSome, IsNone, IsSome, sym, ap, ◌∙◌, subst, inl, inr, refl, arith}
+use Rattle.std.specs.Int.{bit_at}
+use Rattle.std.proofs.lemmas.Nat.{pow_pos}
+use Rattle.std.proofs.lemmas.Bool.{cases_eq, cases_lt}
+use Rattle.std.proofs.lemmas.List.{get_or_append_left, get_or_push, get_or-set_same, get_or-set_other, get_or_past, length-set, length_push}
 use Rattle.tombstones.specs.declared.entry.Entry.{Entry}
-use Rattle.tombstones.specs.Entries.{entry_at}
+use Rattle.tombstones.specs.Entries.{IsAscending, entry_at}
 use Rattle.window_search.specs.Searches.{lb}
-use Rattle.map_level.specs.Levels.{level_keys, IsBelow}
-use Rattle.log_levels.specs.Shapes.{Held, level_of}
-use Rattle.log_levels.specs.Kept.{AreApart, AreBehind, AreHeads, AreInTurn, IsLeastLeft, StandsAt, distance_of, first_key}
-
--- what stands in a list behind the place where one was put
-put-above : (heads : List (ℕ × ℕ)) (place k : ℕ) (head d : ℕ × ℕ) → place < k → place ≤ length heads → slice_index_or (insert heads place head) k d ≡ slice_index_or heads (k - 1) d
-put-above heads place k head d less within =
-    let same : k ≡ k - 1 + 1 = omega (arith, less) in
-    ap (λ i. slice_index_or (insert heads place head) i d) same ∙ get_or-insert_above heads place head d (k - 1) (omega (arith, less)) within
-
--- one that is put between those that come later and those that come before it
-pub turn-put : (heads : List (ℕ × ℕ)) (place : ℕ) (head : ℕ × ℕ) → AreInTurn heads → place ≤ length heads → ((k : ℕ) (d : ℕ × ℕ) → k < place → distance_of head < distance_of (slice_index_or heads k d))
-    → ((k : ℕ) (d : ℕ × ℕ) → place ≤ k → k < length heads → distance_of (slice_index_or heads k d) < distance_of head) → AreInTurn (insert heads place head)
-turn-put heads place head turn within before behind j k d less inside =
-    let size = length-insert heads place head within in
-    elim (cases_order k place) [
-      | inl at ↦
-          omega (
-            arith,
-            ap distance_of (ap (λ i. slice_index_or (insert heads place head) i d) at ∙ get_or-insert_at heads place head d within),
-            ap distance_of (get_or-insert_below heads place head d j (omega arith) within),
-            before j d (omega arith),
-          )
-      | inr (inl below) ↦
-          omega (
-            arith,
-            ap distance_of (get_or-insert_below heads place head d k below within),
-            ap distance_of (get_or-insert_below heads place head d j (omega arith) within),
-            turn j k d less (omega arith),
-          )
-      | inr (inr above) ↦ elim (cases_order j place) [
-        | inl at ↦
-            omega (
-              arith,
-              ap distance_of (put-above heads place k head d above within),
-              ap distance_of (ap (λ i. slice_index_or (insert heads place head) i d) at ∙ get_or-insert_at heads place head d within),
-              behind (k - 1) d (omega arith) (omega arith),
-            )
-        | inr (inl below) ↦
-            omega (
-              arith,
-              ap distance_of (put-above heads place k head d above within),
-              ap distance_of (get_or-insert_below heads place head d j below within),
-              turn j (k - 1) d (omega arith) (omega arith),
-            )
-        | inr (inr past) ↦
-            omega (
-              arith,
-              ap distance_of (put-above heads place k head d above within),
-              ap distance_of (put-above heads place j head d past within),
-              turn (j - 1) (k - 1) d (omega arith) (omega arith),
-            )
-      ]
-    ]
-
--- of two levels none is as far off as the other
-apart-distance : (one other : ℕ × ℕ) → one.1 < 26 → other.1 < 26 → (one.1 ≡ other.1 → ⊥) → distance_of other ≤ distance_of one → distance_of other < distance_of one
-apart-distance one other low below apart le = elim (cases_order one.1 other.1) [
-  | inl same ↦ absurd (apart same)
-  | inr (inl less) ↦ omega (arith, low, below, le, less)
-  | inr (inr greater) ↦ omega (arith, low, below, le, greater)
-]
-
--- all before a place come later, where the one before it does
-pub turn-before : (heads : List (ℕ × ℕ)) (place : ℕ) (head : ℕ × ℕ) → AreInTurn heads → AreApart heads head.1 → head.1 < 26 → place ≤ length heads
-    → (0 < place → distance_of head ≤ distance_of (slice_index_or heads (place - 1) (0, 0))) → (k : ℕ) (d : ℕ × ℕ) → k < place → distance_of head < distance_of (slice_index_or heads k d)
-turn-before heads place head turn apart low within last k d less =
-    let inside : place - 1 < length heads = omega (arith, within, less) in
-    let (below, other) = apart (place - 1) d inside in
-    let read : slice_index_or heads (place - 1) (0, 0) ≡ slice_index_or heads (place - 1) d = get_or_default heads (place - 1) (0, 0) d inside in
-    let at : distance_of head < distance_of (slice_index_or heads (place - 1) d) =
-    apart-distance (slice_index_or heads (place - 1) d) head below low other (omega (arith, last (omega (arith, less)), ap distance_of read)) in
-    elim (cases_lt k (place - 1)) [
-      | inl before ↦ omega (arith, at, turn k (place - 1) d before inside)
-      | inr past ↦
-          let same : k ≡ place - 1 = omega (arith, past, less) in
-          omega (arith, at, ap distance_of (ap (λ m. slice_index_or heads m d) same))
-    ]
-
--- what holds of each, and of the one that is put
-every-put : (P : ℕ × ℕ → Type 0) (heads : List (ℕ × ℕ)) (place : ℕ) (head : ℕ × ℕ) → place ≤ length heads → ((k : ℕ) (d : ℕ × ℕ) → k < length heads → P (slice_index_or heads k d)) → P head
-    → (k : ℕ) (d : ℕ × ℕ) → k < length (insert heads place head) → P (slice_index_or (insert heads place head) k d)
-every-put P heads place head within all new k d inside =
-    let size = length-insert heads place head within in
-    elim (cases_order k place) [
-      | inl at ↦ subst P (sym (ap (λ i. slice_index_or (insert heads place head) i d) at ∙ get_or-insert_at heads place head d within)) new
-      | inr (inl below) ↦ subst P (sym (get_or-insert_below heads place head d k below within)) (all k d (omega arith))
-      | inr (inr above) ↦ subst P (sym (put-above heads place k head d above within)) (all (k - 1) d (omega arith))
-    ]
-
--- none is lost
-still-put : (Q : ℕ × ℕ → Type 0) (heads : List (ℕ × ℕ)) (place : ℕ) (head : ℕ × ℕ) → place ≤ length heads
-    → ((k : ℕ) (d : ℕ × ℕ) → k < length (insert heads place head) → Q (slice_index_or (insert heads place head) k d)) → (k : ℕ) (d : ℕ × ℕ) → k < length heads → Q (slice_index_or heads k d)
-still-put Q heads place head within all k d inside =
-    let size = length-insert heads place head within in
-    elim (cases_lt k place) [
-      | inl below ↦ subst Q (get_or-insert_below heads place head d k below within) (all k d (omega arith))
-      | inr above ↦ subst Q (get_or-insert_above heads place head d k above within) (all (k + 1) d (omega arith))
-    ]
-
--- no level, no head
-pub heads-begin : (held : Held) (places : List ℕ) → AreHeads held places 0 0 []
-heads-begin held places = record {
-  low = omega arith;
-  few = omega arith;
-  room = λ less. absurd (omega arith);
-  turn = λ j k d less inside. absurd (omega arith);
-  stand = λ k d inside. absurd (omega arith);
-  each = λ j from key level less. absurd (omega arith);
-}
-
--- those of one level more, but for it
-pub heads-next : (held : Held) (places : List ℕ) (n : ℕ) (heads : List (ℕ × ℕ)) → n < 26 → AreHeads held places n n heads → AreHeads held places (n + 1) n heads
-heads-next held places n heads low are = record {
-  low = omega arith;
-  few = omega (arith, are.few);
-  room = λ less. omega (arith, are.few);
-  turn = are.turn;
-  stand = λ k d inside. let (below, (other, at)) = are.stand k d inside in (omega (arith, below), (other, at));
-  each = λ j from key level less other is at le behind. are.each j from key level (omega (arith, less, other)) other is at le behind;
-}
-
--- that level has no key at its place
-pub heads-none : (held : Held) (places : List ℕ) (n i : ℕ) (heads : List (ℕ × ℕ)) → i < n → AreHeads held places n i heads
-    → ((from key : ℕ) (level : List Entry) → level_of held i ≡ Some level → slice_index places i ≡ lb (level_keys level) from → from ≤ key → entry_at level key ≡ None) → AreHeads held places n n heads
-heads-none held places n i heads inside are none = record {
-  low = are.low;
-  few = are.few;
-  room = λ less. absurd (omega arith);
-  turn = are.turn;
-  stand = λ k d fits. let (below, (other, at)) = are.stand k d fits in (below, (λ same. absurd (omega (arith, below, same)), at));
-  each = λ j from key level less other is at le behind. elim (cases_eq j i) [
-    | inl same ↦ none from key level (ap (level_of held) (sym same) ∙ is) (ap (slice_index places) (sym same) ∙ at) le
-    | inr apart ↦ are.each j from key level less apart is at le behind
-  ];
-}
-
--- it has one, which is put
-pub heads-put : (held : Held) (places : List ℕ) (n i place key : ℕ) (heads : List (ℕ × ℕ)) → i < n → AreHeads held places n i heads → place ≤ length heads → AreInTurn (insert heads place (key, i))
-    → StandsAt held places key i
-    → ((from other : ℕ) (level : List Entry) → level_of held i ≡ Some level → slice_index places i ≡ lb (level_keys level) from → from ≤ other → other < key → entry_at level other ≡ None)
-    → AreHeads held places n n (insert heads place (key, i))
-heads-put held places n i place key heads inside are within turn stands none =
-    let size = length-insert heads place (key, i) within in
-    record {
-      low = are.low;
-      few = omega (arith, size, are.room inside);
-      room = λ less. absurd (omega arith);
-      turn = turn;
-      stand = every-put (λ head. (head.1 < n) × ((head.1 ≡ n → ⊥) × StandsAt held places head.0 head.1)) heads place (key, i) within
-          (λ k d fits. let (below, (other, at)) = are.stand k d fits in (below, (λ same. absurd (omega (arith, below, same)), at)))
-          (inside, (λ same. absurd (omega (arith, inside, same)), stands));
-      each = λ j from other level less apart is at le behind. elim (cases_eq j i) [
-        | inl same ↦
-            let here : slice_index_or (insert heads place (key, i)) place (0, 0) ≡ (key, i) = get_or-insert_at heads place (key, i) (0, 0) within in
-            let below : other < (slice_index_or (insert heads place (key, i)) place (0, 0)).0 = behind place (0, 0) (omega (arith, size, within)) (ap (λ (h : ℕ × ℕ). h.1) here ∙ sym same) in
-            none from other level (ap (level_of held) (sym same) ∙ is) (ap (slice_index places) (sym same) ∙ at) le (omega (arith, below, ap (λ (h : ℕ × ℕ). h.0) here))
-        | inr other_level ↦ are.each j from other level less other_level is at le (still-put (λ head. head.1 ≡ j → other < head.0) heads place (key, i) within behind)
-      ];
-    }
+use Rattle.map_level.specs.Levels.{level_keys}
+use Rattle.map_level.proofs.LevelLemmas.{missing-between}
+use Rattle.log_levels.specs.declared.heads.First.{First}
+use Rattle.log_levels.specs.Shapes.{Held, level_of, from_bit}
+use Rattle.log_levels.proofs.BitLemmas.{quotient-small}
+use Rattle.log_levels.proofs.OccupiedLemmas.{bit-behind, bit-still}
+use Rattle.log_levels.specs.Kept.{AreBehind, AreHeads, IsFirst, IsLeastLeft, StandsAt}
 
 -- only a level that there is may be occupied
 pub level-inside : (held : Held) (i : ℕ) (level : List Entry) → level_of held i ≡ Some level → i < length held.levels
@@ -176,126 +22,184 @@ level-inside held i level is = elim (cases_lt i (length held.levels)) [
   | inr past ↦ let apart : None ≡ Some level = sym (get_or_past held.levels i None past) ∙ is in cc
 ]
 
--- a level has one key at its place
-one-key : (held : Held) (places : List ℕ) (one other i : ℕ) → StandsAt held places one i → StandsAt held places other i → one ≡ other
-one-key held places one other i at there = go (level_of held i) refl at.taken
-  where
-    go : (stored : Option (List Entry)) → level_of held i ≡ stored → IsSome stored → one ≡ other
-    go None is some = cc
-    go (Some level) is some = sym (at.stands level is).1 ∙ (there.stands level is).1
-
--- the one that comes first is taken
-pub heads-popped : (held : Held) (places : List ℕ) (n key i : ℕ) (heads : List (ℕ × ℕ)) → AreHeads held places n n heads → Some (key, i) ≡ slice_get heads (length heads - 1)
-    → (i < n) × (StandsAt held places key i × AreHeads held places n i (take (length heads - 1) heads))
-heads-popped held places n key i heads are top =
-    let last = length heads - 1 in
-    let inside : last < length heads = slice_get_within heads last (key, i) (sym top) in
-    let at : slice_index_or heads last (0, 0) ≡ (key, i) = get_or_from_slice_get heads last (key, i) (0, 0) (sym top) in
-    let size : length (take last heads) ≡ last = length-take-le last heads (omega (arith, inside)) in
-    let (less, (whole, stands)) = are.stand last (0, 0) inside in
-    let low : i < n = omega (arith, less, ap (λ (h : ℕ × ℕ). h.1) at) in
-    let here : StandsAt held places key i = subst (λ (h : ℕ × ℕ). StandsAt held places h.0 h.1) at stands in (
-      low,
-      (
-        here,
-        record {
-          low = are.low;
-          few = omega (arith, size, inside, are.few);
-          room = λ _. omega (arith, size, inside, are.few);
-          turn = λ j k d before fits.
-              omega (arith, ap distance_of (get_or-take last heads j d (omega (arith, before, fits, size))), ap distance_of (get_or-take last heads k d (omega (arith, fits, size))), are.turn j k d before (omega (arith, fits, size, inside)));
-          stand = λ k d fits.
-              let read : slice_index_or (take last heads) k d ≡ slice_index_or heads k d = get_or-take last heads k d (omega (arith, fits, size)) in
-              let (below, (other, there)) = are.stand k d (omega (arith, fits, size, inside)) in
-              subst (λ (h : ℕ × ℕ). (h.1 < n) × ((h.1 ≡ i → ⊥) × StandsAt held places h.0 h.1)) (sym read) (
-                below,
-                (
-                  λ same.
-                      let one : (slice_index_or heads k d).0 ≡ key = one-key held places (slice_index_or heads k d).0 key i (subst (StandsAt held places (slice_index_or heads k d).0) same there) here in
-                      let top_is : slice_index_or heads last d ≡ (key, i) = get_or_from_slice_get heads last (key, i) d (sym top) in
-                      absurd (omega (arith, one, same, ap distance_of top_is, are.turn k last d (omega (arith, fits, size)) inside)),
-                  there,
-                ),
-              );
-          each = λ j from other level below apart is place le behind. are.each j from other level below (λ same. absurd (omega (arith, below, same))) is place le (λ k d fits level_is.
-              elim (cases_lt k last) [
-                | inl before ↦
-                    let read : slice_index_or (take last heads) k d ≡ slice_index_or heads k d = get_or-take last heads k d before in
-                    omega (arith, behind k d (omega (arith, before, size)) (ap (λ (h : ℕ × ℕ). h.1) read ∙ level_is), ap (λ (h : ℕ × ℕ). h.0) read)
-                | inr past ↦
-                    let same : k ≡ last = omega (arith, past, fits) in
-                    let top_is : slice_index_or heads k d ≡ (key, i) = ap (λ m. slice_index_or heads m d) same ∙ get_or_from_slice_get heads last (key, i) d (sym top) in
-                    absurd (apart (sym level_is ∙ ap (λ (h : ℕ × ℕ). h.1) top_is))
-              ]);
-        },
-      ),
-    )
-
--- the place of the level that has none moves on
-pub heads-moved : (held : Held) (places : List ℕ) (n i place : ℕ) (heads : List (ℕ × ℕ)) → AreHeads held places n i heads → AreHeads held (slice_set places i place) n i heads
-heads-moved held places n i place heads are = record {
-  low = are.low;
-  few = are.few;
-  room = are.room;
-  turn = are.turn;
-  stand = λ k d fits.
-      let (below, (other, at)) = are.stand k d fits in
-      let same : slice_index (slice_set places i place) (slice_index_or heads k d).1 ≡ slice_index places (slice_index_or heads k d).1 = get_or-set_other places i (slice_index_or heads k d).1 place 0 other in (
-        below,
-        (
-          other,
-          record {
-            inside = at.inside;
-            taken = at.taken;
-            stands = λ level is. subst (λ p. (p < length level) × (slice_index (level_keys level) p ≡ (slice_index_or heads k d).0)) (sym same) (at.stands level is);
-          },
-        ),
-      );
-  each = λ j from key level less other is at le behind. are.each j from key level less other is (sym (get_or-set_other places i j place 0 other) ∙ at) le behind;
+-- a free level has no head
+pub heads-begin : (held : Held) (places : List ℕ) (rest : ℕ) → length held.levels ≤ 26 → ((i : ℕ) → i < length held.levels → bit_at rest i ≡ 0 → level_of held i ≡ None) → AreHeads held places rest []
+heads-begin held places rest low free = record {
+  low = low;
+  few = λ j set. omega arith;
+  below = λ k j d inside. absurd (omega arith);
+  rise = λ j k d less inside. absurd (omega arith);
+  stand = λ k d inside. absurd (omega arith);
+  each = λ j from key level clear is at le behind. let apart : None ≡ Some level = sym (free j (level-inside held j level is) clear) ∙ is in cc;
 }
 
--- those of other levels are apart from a level that has none
-pub heads-apart : (held : Held) (places : List ℕ) (n i : ℕ) (heads : List (ℕ × ℕ)) → AreHeads held places n i heads → AreApart heads i
-heads-apart held places n i heads are k d fits = let (below, (other, at)) = are.stand k d fits in (omega (arith, below, are.low), other)
+-- the level has no key at its place
+pub heads-none : (held : Held) (places : List ℕ) (rest i : ℕ) (heads : List (ℕ × ℕ)) → from_bit i rest ≡ rest → AreHeads held places rest heads
+    → ((from key : ℕ) (level : List Entry) → level_of held i ≡ Some level → slice_index places i ≡ lb (level_keys level) from → from ≤ key → entry_at level key ≡ None) → AreHeads held places (from_bit (i + 1) rest) heads
+heads-none held places rest i heads lowest are none = record {
+  low = are.low;
+  few = λ j set. are.few j (bit-still rest i j set).1;
+  below = λ k j d inside set. are.below k j d inside (bit-still rest i j set).1;
+  rise = are.rise;
+  stand = are.stand;
+  each = λ j from key level clear is at le behind. elim (bit-behind rest i j lowest clear) [
+    | inl earlier ↦ are.each j from key level earlier is at le behind
+    | inr same ↦ none from key level (ap (level_of held) (sym same) ∙ is) (ap (slice_index places) (sym same) ∙ at) le
+  ];
+}
 
--- the one that comes first has the least key that is left, and of the newest level that has it
-pub least-head : (held : Held) (places : List ℕ) (low : ℕ) (heads : List (ℕ × ℕ)) (found : Option (ℕ × ℕ)) → AreHeads held places (length held.levels) (length held.levels) heads → AreBehind held places low
-    → found ≡ slice_get heads (length heads - 1) → IsLeastLeft held places low found
-least-head held places low heads None are behind is = record {
+-- what holds of each, and of the one that comes behind
+every-pushed : (P : ℕ × ℕ → Type 0) (heads : List (ℕ × ℕ)) (head : ℕ × ℕ) → ((k : ℕ) (d : ℕ × ℕ) → k < length heads → P (slice_index_or heads k d)) → P head
+    → (k : ℕ) (d : ℕ × ℕ) → k < length (heads ++ head ∷ []) → P (slice_index_or (heads ++ head ∷ []) k d)
+every-pushed P heads head all new k d inside = elim (cases_lt k (length heads)) [
+  | inl before ↦ subst P (sym (get_or_append_left heads (head ∷ []) d k before)) (all k d before)
+  | inr past ↦
+      let same : length heads ≡ k = omega (arith, past, inside, length_push heads head) in
+      subst P (sym (get_or_push heads head d k same)) new
+]
+
+-- it has one, which comes behind the others
+pub heads-pushed : (held : Held) (places : List ℕ) (rest i key : ℕ) (heads : List (ℕ × ℕ)) → from_bit i rest ≡ rest → bit_at rest i ≡ 1 → AreHeads held places rest heads → StandsAt held places key i
+    → ((from other : ℕ) (level : List Entry) → level_of held i ≡ Some level → slice_index places i ≡ lb (level_keys level) from → from ≤ other → other < key → entry_at level other ≡ None)
+    → AreHeads held places (from_bit (i + 1) rest) (heads ++ (key, i) ∷ [])
+heads-pushed held places rest i key heads lowest one are stands none =
+    let size = length_push heads (key, i) in
+    record {
+      low = are.low;
+      few = λ j set. omega (arith, size, are.few i one, (bit-still rest i j set).0);
+      below = λ k j d inside set.
+          let (above, still) = bit-still rest i j set in
+          every-pushed (λ head. head.1 < j) heads (key, i) (λ m e fits. are.below m j e fits still) above k d inside;
+      rise = λ j k d less inside.
+          let fits : j < length heads = omega (arith, less, inside, size) in
+          let read : slice_index_or (heads ++ (key, i) ∷ []) j d ≡ slice_index_or heads j d = get_or_append_left heads ((key, i) ∷ []) d j fits in
+          elim (cases_lt k (length heads)) [
+            | inl before ↦
+                let other : slice_index_or (heads ++ (key, i) ∷ []) k d ≡ slice_index_or heads k d = get_or_append_left heads ((key, i) ∷ []) d k before in
+                omega (arith, ap (λ (h : ℕ × ℕ). h.1) read, ap (λ (h : ℕ × ℕ). h.1) other, are.rise j k d less before)
+            | inr past ↦
+                let same : length heads ≡ k = omega (arith, past, inside, size) in
+                omega (arith, ap (λ (h : ℕ × ℕ). h.1) read, ap (λ (h : ℕ × ℕ). h.1) (get_or_push heads (key, i) d k same), are.below j i d fits one)
+          ];
+      stand = every-pushed (λ head. StandsAt held places head.0 head.1) heads (key, i) are.stand stands;
+      each = λ j from other level clear is at le behind. elim (bit-behind rest i j lowest clear) [
+        | inl earlier ↦
+            are.each j from other level earlier is at le (λ k d fits of_level.
+            let read : slice_index_or (heads ++ (key, i) ∷ []) k d ≡ slice_index_or heads k d = get_or_append_left heads ((key, i) ∷ []) d k fits in
+            omega (arith, behind k d (omega (arith, size, fits)) (ap (λ (h : ℕ × ℕ). h.1) read ∙ of_level), ap (λ (h : ℕ × ℕ). h.0) read))
+        | inr same ↦
+            let read = get_or_push heads (key, i) (0, 0) (length heads) refl in
+            let below = behind (length heads) (0, 0) (omega (arith, size)) (ap (λ (h : ℕ × ℕ). h.1) read ∙ sym same) in
+            none from other level (ap (level_of held) (sym same) ∙ is) (ap (slice_index places) (sym same) ∙ at) le (omega (arith, below, ap (λ (h : ℕ × ℕ). h.0) read))
+      ];
+    }
+
+-- the head that comes first is that of a level with the key at its place
+pub first-stands : (held : Held) (places : List ℕ) (rest : ℕ) (heads : List (ℕ × ℕ)) (first : First) → AreHeads held places rest heads → IsFirst heads first → StandsAt held places first.key first.level
+first-stands held places rest heads first are is = subst (λ (head : ℕ × ℕ). StandsAt held places head.0 head.1) (is.is (0, 0)) (are.stand first.place (0, 0) is.inside)
+
+-- another is of another level
+first-apart : (held : Held) (places : List ℕ) (rest : ℕ) (heads : List (ℕ × ℕ)) (first : First) (k : ℕ) (d : ℕ × ℕ) → AreHeads held places rest heads → IsFirst heads first → k < length heads → (k ≡ first.place → ⊥)
+    → (slice_index_or heads k d).1 ≡ first.level → ⊥
+first-apart held places rest heads first k d are is fits other same = elim (cases_lt k first.place) [
+  | inl before ↦ omega (arith, are.rise k first.place d before is.inside, same, ap (λ (h : ℕ × ℕ). h.1) (is.is d))
+  | inr past ↦ omega (arith, are.rise first.place k d (omega (arith, past, other)) fits, same, ap (λ (h : ℕ × ℕ). h.1) (is.is d))
+]
+
+-- a key more, of the same level
+level-kept : (heads : List (ℕ × ℕ)) (first : First) (next : ℕ) → IsFirst heads first → (k : ℕ) (d : ℕ × ℕ) → (slice_index_or (slice_set heads first.place (next, first.level)) k d).1 ≡ (slice_index_or heads k d).1
+level-kept heads first next is k d = elim (cases_eq k first.place) [
+  | inl at ↦
+      ap (λ m. (slice_index_or (slice_set heads first.place (next, first.level)) m d).1) at ∙ ap (λ (h : ℕ × ℕ). h.1) (get_or-set_same heads first.place (next, first.level) d is.inside)
+      ∙ sym (ap (λ (h : ℕ × ℕ). h.1) (is.is d)) ∙ ap (λ m. (slice_index_or heads m d).1) (sym at)
+  | inr other ↦ ap (λ (h : ℕ × ℕ). h.1) (get_or-set_other heads first.place k (next, first.level) d other)
+]
+
+-- its level moves on to the next key
+pub heads-moved : (held : Held) (places : List ℕ) (rest next : ℕ) (heads : List (ℕ × ℕ)) (first : First) (level : List Entry) → AreHeads held places rest heads → IsFirst heads first → length places ≡ 26
+    → level_of held first.level ≡ Some level → IsAscending level → slice_index places first.level + 1 < length level → slice_index (level_keys level) (slice_index places first.level + 1) ≡ next
+    → AreHeads held (slice_set places first.level (slice_index places first.level + 1)) rest (slice_set heads first.place (next, first.level))
+heads-moved held places rest next heads first level are is count level_is ascending inside next_is =
+    let here = first-stands held places rest heads first are is in
+    let ahead : List ℕ = slice_set places first.level (slice_index places first.level + 1) in
+    let after : List (ℕ × ℕ) = slice_set heads first.place (next, first.level) in
+    let size : length after ≡ length heads = length-set heads first.place (next, first.level) in
+    let moved : slice_index ahead first.level ≡ slice_index places first.level + 1 = get_or-set_same places first.level (slice_index places first.level + 1) 0 (omega (arith, here.inside, are.low, count)) in
+    let same_level : (k : ℕ) (d : ℕ × ℕ) → (slice_index_or after k d).1 ≡ (slice_index_or heads k d).1 = level-kept heads first next is in
+    record {
+      low = are.low;
+      few = λ j set. omega (arith, are.few j set, size);
+      below = λ k j d fits set. omega (arith, same_level k d, are.below k j d (omega (arith, fits, size)) set);
+      rise = λ j k d less fits. omega (arith, same_level j d, same_level k d, are.rise j k d less (omega (arith, fits, size)));
+      stand = λ k d fits. elim (cases_eq k first.place) [
+        | inl at ↦
+            subst (λ (head : ℕ × ℕ). StandsAt held ahead head.0 head.1) (sym (ap (λ m. slice_index_or after m d) at ∙ get_or-set_same heads first.place (next, first.level) d is.inside)) (record {
+              inside = here.inside;
+              taken = here.taken;
+              stands = λ other other_is.
+                  let both : Some level ≡ Some other = sym level_is ∙ other_is in
+                  let one : level ≡ other = cc in
+                  subst (λ (list : List Entry). (slice_index ahead first.level < length list) × (slice_index (level_keys list) (slice_index ahead first.level) ≡ next)) one
+                  (subst (λ p. (p < length level) × (slice_index (level_keys level) p ≡ next)) (sym moved) (inside, next_is));
+            })
+        | inr other ↦
+            let old : k < length heads = omega (arith, fits, size) in
+            let there = are.stand k d old in
+            subst (λ (head : ℕ × ℕ). StandsAt held ahead head.0 head.1) (sym (get_or-set_other heads first.place k (next, first.level) d other)) (record {
+              inside = there.inside;
+              taken = there.taken;
+              stands = λ list list_is. subst (λ p. (p < length list) × (slice_index (level_keys list) p ≡ (slice_index_or heads k d).0))
+                  (sym (get_or-set_other places first.level (slice_index_or heads k d).1 (slice_index places first.level + 1) 0 (first-apart held places rest heads first k d are is old other))) (there.stands list list_is);
+            })
+      ];
+      each = λ j from key list clear list_is at le behind. elim (cases_eq j first.level) [
+        | inl same ↦
+            let both : Some level ≡ Some list = sym level_is ∙ ap (level_of held) (sym same) ∙ list_is in
+            let one : level ≡ list = cc in
+            let place : slice_index places first.level + 1 ≡ lb (level_keys level) from = sym moved ∙ ap (slice_index ahead) (sym same) ∙ at ∙ ap (λ (l : List Entry). lb (level_keys l) from) (sym one) in
+            let read = get_or-set_same heads first.place (next, first.level) (0, 0) is.inside in
+            let before : key < next = omega (arith, behind first.place (0, 0) (omega (arith, is.inside, size)) (ap (λ (h : ℕ × ℕ). h.1) read ∙ sym same), ap (λ (h : ℕ × ℕ). h.0) read) in
+            ap (λ (l : List Entry). entry_at l key) (sym one) ∙ missing-between level from key ascending le (λ some. omega (arith, before, next_is, ap (slice_index (level_keys level)) place))
+        | inr other ↦
+            are.each j from key list clear list_is (sym (get_or-set_other places first.level j (slice_index places first.level + 1) 0 other) ∙ at) le (λ k d fits of_level. elim (cases_eq k first.place) [
+              | inl here_is ↦ absurd (other (sym of_level ∙ ap (λ m. (slice_index_or heads m d).1) here_is ∙ ap (λ (h : ℕ × ℕ). h.1) (is.is d)))
+              | inr elsewhere ↦
+                  let read : slice_index_or after k d ≡ slice_index_or heads k d = get_or-set_other heads first.place k (next, first.level) d elsewhere in
+                  omega (arith, behind k d (omega (arith, fits, size)) (ap (λ (h : ℕ × ℕ). h.1) read ∙ of_level), ap (λ (h : ℕ × ℕ). h.0) read)
+            ])
+      ];
+    }
+
+bit-none : (j : ℕ) → bit_at 0 j ≡ 0
+bit-none j = ap (λ q. q % 2) (quotient-small j 0 (pow_pos j))
+
+-- it has the least key that is left, and of the newest level that has it
+pub least-head : (held : Held) (places : List ℕ) (low : ℕ) (heads : List (ℕ × ℕ)) (found : Option First) → AreHeads held places 0 heads → AreBehind held places low → (IsNone found → heads ≡ [])
+    → IfSome found (IsFirst heads) → IsLeastLeft held places low found
+least-head held places low heads None are behind none is = record {
   before = λ key j level above below inside level_is.
       let (from, (le, place)) = behind.each j level inside level_is in
-      are.each j from key level inside (λ same. absurd (omega (arith, inside, same))) level_is place (omega (arith, le, above)) (λ k d fits level_at. absurd (none-is k fits));
+      are.each j from key level (bit-none j) level_is place (omega (arith, le, above)) (λ k d fits of_level. absurd (omega (arith, fits, ap (λ (l : List (ℕ × ℕ)). length l) (none refl))));
   newer = tt;
   at = tt;
 }
-  where
-    none-is : (k : ℕ) → k < length heads → ⊥
-    none-is k fits =
-        let apart : None ≡ Some (slice_index_or heads (length heads - 1) (0, 0)) = is ∙ slice_get-get_or heads (length heads - 1) (0, 0) (omega (arith, fits)) in
-        cc
-least-head held places low heads (Some (key, i)) are behind is =
-    let (less, (stands, rest)) = heads-popped held places (length held.levels) key i heads are is in
+least-head held places low heads (Some first) are behind none is =
+    let stands = first-stands held places 0 heads first are is in
     record {
-      before = λ other j level above below inside level_is. missing other j level above inside level_is (λ k d fits level_at. omega (arith, nearest k d fits, below, level_at, inside, are.low));
-      newer = λ j level above less_level level_is. missing key j level above (omega (arith, less, less_level)) level_is (λ k d fits level_at. omega (arith, nearest k d fits, level_at, less_level));
+      before = λ key j level above less inside level_is. missing key j level above inside level_is (λ k d fits of_level. omega (arith, is.least k d fits, less));
+      newer = λ j level above less level_is. missing first.key j level above (omega (arith, less, stands.inside)) level_is (λ k d fits of_level.
+          elim (cases_lt k first.place) [
+            | inl before ↦ is.newest k d before
+            | inr past ↦ elim (cases_eq k first.place) [
+              | inl at ↦ absurd (omega (arith, less, of_level, ap (λ m. (slice_index_or heads m d).1) at, ap (λ (h : ℕ × ℕ). h.1) (is.is d)))
+              | inr other ↦ absurd (omega (arith, less, of_level, ap (λ (h : ℕ × ℕ). h.1) (is.is d), are.rise first.place k d (omega (arith, past, other)) fits))
+            ]
+          ]);
       at = stands;
     }
   where
-    inside-last : length heads - 1 < length heads
-    inside-last = slice_get_within heads (length heads - 1) (key, i) (sym is)
-
-    nearest : (k : ℕ) (d : ℕ × ℕ) → k < length heads → key * 32 + i ≤ distance_of (slice_index_or heads k d)
-    nearest k d fits =
-        let top : slice_index_or heads (length heads - 1) d ≡ (key, i) = get_or_from_slice_get heads (length heads - 1) (key, i) d (sym is) in
-        elim (cases_lt k (length heads - 1)) [
-          | inl before ↦ omega (arith, ap distance_of top, are.turn k (length heads - 1) d before inside-last)
-          | inr past ↦
-              let same : k ≡ length heads - 1 = omega (arith, past, fits) in
-              omega (arith, ap distance_of (ap (λ m. slice_index_or heads m d) same ∙ top))
-        ]
-
     missing : (other j : ℕ) (level : List Entry) → low ≤ other → j < length held.levels → level_of held j ≡ Some level
         → ((k : ℕ) (d : ℕ × ℕ) → k < length heads → (slice_index_or heads k d).1 ≡ j → other < (slice_index_or heads k d).0) → entry_at level other ≡ None
     missing other j level above inside level_is all =
         let (from, (le, place)) = behind.each j level inside level_is in
-        are.each j from other level inside (λ same. absurd (omega (arith, inside, same))) level_is place (omega (arith, le, above)) all
+        are.each j from other level (bit-none j) level_is place (omega (arith, le, above)) all

@@ -3,6 +3,7 @@ use Rattle.std.proofs.Common.{◌≡◌, ℕ, ◌+◌, ◌-◌, ◌/◌, ◌^◌
 use Rattle.std.proofs.lemmas.Bool.{cases_lt, cases_eq, eq-eqb, ne_eqb}
 use Rattle.tombstones.specs.declared.entry.Entry.{Entry}
 use Rattle.tombstones.specs.Entries.{IsAscending, entry_at}
+use Rattle.log_levels.specs.declared.heads.First.{First}
 use Rattle.log_levels.specs.declared.update.Update.{Update}
 use Rattle.log_levels.specs.declared.update.Update.TheVariants.{Sweep}
 use Rattle.log_levels.proofs.UpdateLemmas.{entries_of-sweep}
@@ -175,7 +176,7 @@ first-taken entries entry from first was above up_to =
     unmet (Some e) (from_e, is, before) up_to key from_key below = before key from_key (omega arith)
 
 -- no entry is at a key before the first of the buffer and those of the levels
-pub absent-before : (held : Held) (buffered : Option Entry) (places : List ℕ) (low key : ℕ) (found : Option (ℕ × ℕ)) → IsFirstFrom held.buffer low buffered → IsLeastLeft held places low found → low ≤ key
+pub absent-before : (held : Held) (buffered : Option Entry) (places : List ℕ) (low key : ℕ) (found : Option First) → IsFirstFrom held.buffer low buffered → IsLeastLeft held places low found → low ≤ key
     → IfSome buffered (λ entry. key < entry.key) → IsBelow key (first_key found) → IsAbsent held key
 absent-before held buffered places low key found first least from before below = record {
   buffer = unmet buffered first before;
@@ -212,10 +213,10 @@ first-max buffer low key None was later = λ other above. was other (omega arith
 first-max buffer low key (Some entry) (from, is, before) later = (omega arith, is, λ other above less. before other (omega arith) less)
 
 -- behind the buffer's entry the level's come later
-pub later-than : (key : ℕ) (buffered : Option Entry) (found : Option (ℕ × ℕ)) (i : ℕ) → found ≡ Some (key, i) → IfSome buffered (λ entry. MatchOption found ⊥ (λ least. least.0 < entry.key)) → IfSome buffered (λ entry. key < entry.key)
-later-than key None found i is later = tt
-later-than key (Some entry) found i is later = subst (λ f. MatchOption f ⊥ (λ least. least.0 < entry.key)) is later
+pub later-than : (buffered : Option Entry) (found : Option First) (first : First) → found ≡ Some first → IfSome buffered (λ entry. MatchOption found ⊥ (λ (f : First). f.key < entry.key)) → IfSome buffered (λ entry. first.key < entry.key)
+later-than None found first is later = tt
+later-than (Some entry) found first is later = subst (λ o. MatchOption o ⊥ (λ (f : First). f.key < entry.key)) is later
 
-pub none-first : (buffered : Option Entry) (found : Option (ℕ × ℕ)) → found ≡ None → IfSome buffered (λ entry. MatchOption found ⊥ (λ least. least.0 < entry.key)) → buffered ≡ None
+pub none-first : (buffered : Option Entry) (found : Option First) → found ≡ None → IfSome buffered (λ entry. MatchOption found ⊥ (λ (f : First). f.key < entry.key)) → buffered ≡ None
 none-first None found is later = refl
-none-first (Some entry) found is later = absurd (subst (λ f. MatchOption f ⊥ (λ least. least.0 < entry.key)) is later)
+none-first (Some entry) found is later = absurd (subst (λ o. MatchOption o ⊥ (λ (f : First). f.key < entry.key)) is later)

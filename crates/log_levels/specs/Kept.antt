@@ -8,6 +8,7 @@ use Rattle.std.specs.declared.sync.Arc.{Arc}
 use Rattle.std.specs.Arc.{arc_value}
 use Rattle.tombstones.specs.declared.entry.Entry.{Entry}
 use Rattle.tombstones.specs.Entries.{IsAscending, entry_at, kept}
+use Rattle.log_levels.specs.declared.heads.First.{First}
 use Rattle.log_levels.specs.declared.fault.MapFault.{MapFault}
 use Rattle.log_levels.specs.declared.fault.MapFault.TheVariants.{Full, NoMemory}
 use Rattle.log_levels.specs.declared.fault.LoadFault.{LoadFault}
@@ -108,47 +109,42 @@ pub record StandsAt (held : Held) (places : List ℕ) (key i : ℕ) : Type 0 whe
   pub taken : IsSome (level_of held i)
   pub stands : (level : List Entry) → level_of held i ≡ Some level → (slice_index places i < length level) × (slice_index (level_keys level) (slice_index places i) ≡ key)
 
--- how far off a head is, which has a key and a level: by the key, and of one key by the level
-abbrev pub distance_of : ℕ × ℕ → ℕ
-distance_of head = head.0 * 32 + head.1
+-- a head comes first: its key is the least, and of that key its level the newest
+pub record IsFirst (heads : List (ℕ × ℕ)) (first : First) : Type 0 where
+  pub inside : first.place < length heads
+  pub is : (d : ℕ × ℕ) → slice_index_or heads first.place d ≡ (first.key, first.level)
+  pub least : (k : ℕ) (d : ℕ × ℕ) → k < length heads → first.key ≤ (slice_index_or heads k d).0
+  pub newest : (k : ℕ) (d : ℕ × ℕ) → k < first.place → first.key < (slice_index_or heads k d).0
 
--- heads by falling distance: the last one comes first
-abbrev pub AreInTurn : List (ℕ × ℕ) → Type 0
-AreInTurn heads = (j k : ℕ) (d : ℕ × ℕ) → j < k → k < length heads → distance_of (slice_index_or heads k d) < distance_of (slice_index_or heads j d)
-
--- no head is of the level, and each is of one below 26
-abbrev pub AreApart : List (ℕ × ℕ) → ℕ → Type 0
-AreApart heads level = (k : ℕ) (d : ℕ × ℕ) → k < length heads → ((slice_index_or heads k d).1 < 26) × ((slice_index_or heads k d).1 ≡ level → ⊥)
-
--- the heads of the first n levels, but for one: the keys at their places. Up to the heads of a level it has no key behind the place
-pub record AreHeads (held : Held) (places : List ℕ) (n but : ℕ) (heads : List (ℕ × ℕ)) : Type 0 where
-  pub low : n ≤ 26
-  pub few : length heads ≤ n
-  pub room : but < n → length heads < n
-  pub turn : AreInTurn heads
-  pub stand : (k : ℕ) (d : ℕ × ℕ) → k < length heads → ((slice_index_or heads k d).1 < n) × (((slice_index_or heads k d).1 ≡ but → ⊥) × StandsAt held places (slice_index_or heads k d).0 (slice_index_or heads k d).1)
-  pub each : (j from key : ℕ) (level : List Entry) → j < n → (j ≡ but → ⊥) → level_of held j ≡ Some level → slice_index places j ≡ lb (level_keys level) from → from ≤ key
+-- the heads of the levels whose bit in `rest` is 0, by rising level: the keys at their places. Up to the head of a level it has no key behind the place
+pub record AreHeads (held : Held) (places : List ℕ) (rest : ℕ) (heads : List (ℕ × ℕ)) : Type 0 where
+  pub low : length held.levels ≤ 26
+  pub few : (j : ℕ) → bit_at rest j ≡ 1 → length heads ≤ j
+  pub below : (k j : ℕ) (d : ℕ × ℕ) → k < length heads → bit_at rest j ≡ 1 → (slice_index_or heads k d).1 < j
+  pub rise : (j k : ℕ) (d : ℕ × ℕ) → j < k → k < length heads → (slice_index_or heads j d).1 < (slice_index_or heads k d).1
+  pub stand : (k : ℕ) (d : ℕ × ℕ) → k < length heads → StandsAt held places (slice_index_or heads k d).0 (slice_index_or heads k d).1
+  pub each : (j from key : ℕ) (level : List Entry) → bit_at rest j ≡ 0 → level_of held j ≡ Some level → slice_index places j ≡ lb (level_keys level) from → from ≤ key
       → ((k : ℕ) (d : ℕ × ℕ) → k < length heads → (slice_index_or heads k d).1 ≡ j → key < (slice_index_or heads k d).0) → entry_at level key ≡ None
 
 -- what is left of a map from a bound on
 pub record IsLeft (held : Held) (buffered : Option Entry) (places : List ℕ) (heads : List (ℕ × ℕ)) (low : ℕ) : Type 0 where
   pub buffer : IsFirstFrom held.buffer low buffered
   pub levels : AreBehind held places low
-  pub next : AreHeads held places (length held.levels) (length held.levels) heads
+  pub next : AreHeads held places 0 heads
 
 -- the key of what was found, if there is one
-abbrev pub first_key : Option (ℕ × ℕ) → Option ℕ
-first_key found = option_map (λ pair. pair.0) found
+abbrev pub first_key : Option First → Option ℕ
+first_key found = option_map (λ (first : First). first.key) found
 
 -- no level before this one has the key, unless it was passed
 abbrev pub AreNewer : Held → ℕ → ℕ → ℕ → Type 0
 AreNewer held low key i = (j : ℕ) (level : List Entry) → low ≤ key → j < i → level_of held j ≡ Some level → entry_at level key ≡ None
 
 -- the least key that a level has behind its place, with the newest of the levels that have it there
-pub record IsLeastLeft (held : Held) (places : List ℕ) (low : ℕ) (found : Option (ℕ × ℕ)) : Type 0 where
+pub record IsLeastLeft (held : Held) (places : List ℕ) (low : ℕ) (found : Option First) : Type 0 where
   pub before : (key j : ℕ) (level : List Entry) → low ≤ key → IsBelow key (first_key found) → j < length held.levels → level_of held j ≡ Some level → entry_at level key ≡ None
-  pub newer : IfSome found (λ pair. AreNewer held low pair.0 pair.1)
-  pub at : IfSome found (λ pair. StandsAt held places pair.0 pair.1)
+  pub newer : IfSome found (λ first. AreNewer held low first.key first.level)
+  pub at : IfSome found (λ first. StandsAt held places first.key first.level)
 
 -- how much a walk has left at most, in keys and in places
 abbrev pub left_of : List ℕ → ℕ → ℕ

@@ -1,51 +1,51 @@
-// The next keys of several levels, in order.
-ghost use Rattle.std.specs.Prelude.{◌≡◌, ◌-◌, ◌<◌, ◌≤◌, ℕ, length, IsTrue};
-ghost use Rattle.std.specs.Bool.{OnFalse};
-ghost use Rattle.std.specs.List.{insert, slice_get};
-ghost use Rattle.arrayvec.specs.ArrayVec.{array_vec_len};
-ghost use Rattle.log_levels.specs.Kept.{AreApart, AreInTurn, distance_of};
+// The next keys of several levels, and which comes first.
+ghost use Rattle.std.specs.Prelude.{◌≡◌, ◌<◌, [], length, slice_set, IfSome, IsNone};
+ghost use Rattle.log_levels.specs.Kept.{IsFirst};
 
 use arrayvec::ArrayVec;
 
-/// Keys, each with its level, by falling key, and of one key the newest level last: so the last one
-/// comes first.
+/// Keys, each with its level, by rising level. They aren't in the order of the keys: in a trial it
+/// took longer to keep them so than to look at all, since the processor can't foresee where a key
+/// goes.
 pub type Heads = ArrayVec<(u64, usize), 26>;
 
-/// The one that comes first, if there is one.
-#[inline(always)]
-pub fn first_head(heads: &Heads) -> Option<(u64, usize)>
-    ensures { result ≡ slice_get heads.now.items (length heads.now.items - 1) }
-{
-    heads.as_slice().last().copied()
+/// A head: its place among the others, its key and its level.
+#[derive(Clone, Copy)]
+pub struct First {
+    pub place: usize,
+    pub key: u64,
+    pub level: usize,
 }
 
-/// Puts a key where it comes in turn. Its level has none there.
-///
-/// It mostly comes soon, so its place is looked for from the end.
+/// The head that comes first, if there is one: with the least key, and of one key of the newest
+/// level.
 #[inline(always)]
-pub fn put_in_turn(heads: &mut Heads, head: (u64, usize))
-    requires room { array_vec_len heads.old < 26 }
-    requires turn { AreInTurn heads.old.items }
-    requires apart { AreApart heads.old.items head.1 }
-    requires low { head.1 < 26 }
-    ensures turn { AreInTurn heads.new.items }
-    ensures put { (place : ℕ) × (place ≤ length heads.old.items) ×
-        (heads.new.items ≡ insert heads.old.items place head) }
+pub fn first_head(heads: &Heads) -> Option<First>
+    ensures none { IsNone result → heads.now.items ≡ [] }
+    ensures first { IfSome result (λ first. IsFirst heads.now.items first) }
 {
-    let mut place = heads.len();
-    while place > 0 && comes_before(heads.as_slice()[place - 1], head) {
-        place -= 1;
+    let items = heads.as_slice();
+    if items.is_empty() {
+        return None;
     }
-    heads.insert(place, head);
+    let (mut key, _) = items[0];
+    let mut place = 0;
+    for k in 1..items.len() {
+        let (other, _) = items[k];
+        if other < key {
+            key = other;
+            place = k;
+        }
+    }
+    let (_, level) = items[place];
+    Some(First { place, key, level })
 }
 
-/// Whether a head comes before another.
+/// Puts a head in place of another.
 #[inline(always)]
-fn comes_before(one: (u64, usize), other: (u64, usize)) -> bool
-    requires one { one.1 < 26 }
-    requires other { other.1 < 26 }
-    ensures before { IsTrue result → distance_of one < distance_of other }
-    ensures behind { OnFalse result (distance_of other ≤ distance_of one) }
+pub fn put_head(heads: &mut Heads, place: usize, head: (u64, usize))
+    requires { place < length heads.old.items }
+    ensures { heads.new.items ≡ slice_set heads.old.items place head }
 {
-    one.0 < other.0 || (one.0 == other.0 && one.1 < other.1)
+    heads.as_mut_slice()[place] = head;
 }

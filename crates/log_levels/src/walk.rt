@@ -6,14 +6,16 @@ ghost use Rattle.std.specs.Bool.{OnFalse};
 ghost use Rattle.std.specs.Option.{option_copied};
 ghost use Rattle.tombstones.specs.declared.entry.Entry.{Entry};
 ghost use Rattle.map_level.specs.Levels.{last_at, level_keys, IsBelow, IsAbove};
-ghost use Rattle.log_levels.specs.Shapes.{IsCutOf, level_of};
+ghost use Rattle.std.specs.Int.{bit_at};
+ghost use Rattle.arrayvec.specs.ArrayVec.{array_vec_len};
+ghost use Rattle.log_levels.specs.Shapes.{IsCutOf, level_of, from_bit};
 ghost use Rattle.window_search.specs.Searches.{lb};
 ghost use Rattle.tombstones.specs.Entries.{entry_at};
-ghost use Rattle.log_levels.specs.Kept.{ArePlaces, AreBehind, AreHeads, IsLeft, StandsAt};
+ghost use Rattle.log_levels.specs.Kept.{ArePlaces, AreBehind, AreHeads, IsFirst, IsLeft};
 ghost use Rattle.log_levels.specs.Kept.{IsAbsent, IsFirstFrom, IsNextLive, first_key};
 ghost use Rattle.log_levels.specs.Kept.{left_of, value_of};
 
-use crate::heads::{Heads, first_head, put_in_turn};
+use crate::heads::{First, Heads, first_head, put_head};
 use crate::log_map::{LogMap, lowest_and_rest};
 use arrayvec::ArrayVec;
 use tombstones::Entry;
@@ -24,9 +26,9 @@ pub type Places = [usize; 26];
 /// What a walk has not passed: the next entry of the buffer, if there is one, and what lies behind
 /// a place in each level.
 ///
-/// The keys at these places are kept in order, so that a step costs a few comparisons and not one a
-/// level. Where several levels have a key, only the newest moves on with it. In the others the
-/// entry of a key that was passed is met later, and left out.
+/// The keys at these places lie side by side (`heads`), so that a step reads no level but the one
+/// whose entry it takes. Where several levels have a key, only the newest moves on with it. In the
+/// others the entry of a key that was passed is met later, and left out.
 #[derive(Drop)]
 pub struct Walk {
     buffered: Option<Entry>,
@@ -50,34 +52,39 @@ impl LogMap {
     }
 
     /// The keys at the places of the levels.
+    #[inline(never)]
     fn heads(&self, places: &Places) -> Heads
-        ensures { AreHeads self.now places.now (length self.now.levels)
-            (length self.now.levels) result.items }
+        ensures { AreHeads self.now places.now 0 result.items }
     {
-        let _ = self.occupied();
         let mut heads = ArrayVec::new();
-        for i in 0..self.stored.len() {
-            self.put_head(&mut heads, places, i);
+        let mut rest = self.occupied();
+        while rest != 0 {
+            let (i, behind) = lowest_and_rest(rest);
+            self.push_head(&mut heads, places, i);
+            rest = behind;
         }
         heads
     }
 
-    /// Puts the key at the place of level `i` among those of others, if there is one.
+    /// Puts the key at the place of level `i` behind those of lower levels, if there is one.
     #[inline(always)]
-    fn put_head(&self, heads: &mut Heads, places: &Places, i: usize)
-        requires { (n : ℕ) × (i < n) × AreHeads self.now places.now n i heads.old.items }
-        ensures { (n : ℕ) → i < n → AreHeads self.now places.now n i heads.old.items →
-            AreHeads self.now places.now n n heads.new.items }
+    fn push_head(&self, heads: &mut Heads, places: &Places, i: usize)
+        requires low { i < 26 }
+        requires room { array_vec_len heads.old < 26 }
+        ensures { (rest : ℕ) → from_bit i rest ≡ rest → bit_at rest i ≡ 1 →
+            AreHeads self.now places.now rest heads.old.items →
+            AreHeads self.now places.now (from_bit (i + 1) rest) heads.new.items }
     {
         if let Some(level) = self.level(i) {
             if let Some(key) = level.key_at(places[i]) {
-                put_in_turn(heads, (key, i));
+                heads.push((key, i));
             }
         }
     }
 
     /// The least key from `from` on that the map has, with its value, if there is one. The walk
     /// passes it.
+    #[inline(always)]
     pub(crate) fn next_pair(&self, walk: &mut Walk, from: u128) -> Option<(u64, u64)>
         requires left { IsLeft self.now walk.old.buffered walk.old.places walk.old.heads.items from }
         requires few { from ≤ 2 ^ 64 }
@@ -102,6 +109,7 @@ impl LogMap {
 
     /// Takes an entry with the least key that is left, of the buffer or else of the newest level
     /// that has it. Below `low` it is one that was left out, and else the last one of its key.
+    #[inline(always)]
     fn take_least(&self, walk: &mut Walk, low: u128) -> Option<Entry>
         requires left { IsLeft self.now walk.old.buffered walk.old.places walk.old.heads.items low }
         requires few { low ≤ 2 ^ 64 }
@@ -121,36 +129,43 @@ impl LogMap {
             walk.buffered = first_from(&self.buffer, u128::from(entry.key) + 1);
             return Some(entry);
         }
-        let (key, i) = found?;
-        let _ = walk.heads.pop();
-        Some(self.take_from_level(walk, key, i))
+        let first = found?;
+        Some(self.take_from_level(walk, first))
     }
 
-    /// Takes the entry at the place of a level, which has this key there, and puts the next one of
-    /// the level among those of the others.
+    /// Takes the entry of the head that comes first, and puts the next key of its level in place of
+    /// it.
+    ///
+    /// Where the level ends, which is seldom, all heads are made anew.
     #[inline(always)]
-    fn take_from_level(&self, walk: &mut Walk, key: u64, i: usize) -> Entry
-        requires at { StandsAt self.now walk.old.places key i }
-        requires inside { i < 26 }
-        requires heads { AreHeads self.now walk.old.places (length self.now.levels) i
-            walk.old.heads.items }
+    fn take_from_level(&self, walk: &mut Walk, first: First) -> Entry
+        requires first { IsFirst walk.old.heads.items first }
+        requires heads { AreHeads self.now walk.old.places 0 walk.old.heads.items }
         requires count { length walk.old.places ≡ 26 }
-        ensures key { result.key ≡ key }
-        ensures entry { (level : List Entry) → level_of self.now i ≡ Some level →
-            entry_at level key ≡ Some result }
+        ensures key { result.key ≡ first.key }
+        ensures entry { (level : List Entry) → level_of self.now first.level ≡ Some level →
+            entry_at level first.key ≡ Some result }
         ensures buffered { walk.new.buffered ≡ walk.old.buffered }
         ensures behind { (low : ℕ) → AreBehind self.now walk.old.places low →
-            AreBehind self.now walk.new.places (max low (key + 1)) }
-        ensures heads { AreHeads self.now walk.new.places (length self.now.levels)
-            (length self.now.levels) walk.new.heads.items }
+            AreBehind self.now walk.new.places (max low (first.key + 1)) }
+        ensures heads { AreHeads self.now walk.new.places 0 walk.new.heads.items }
         ensures fewer { (low : ℕ) → low ≤ 2 ^ 64 →
-            left_of walk.new.places (max low (key + 1)) < left_of walk.old.places low }
+            left_of walk.new.places (max low (first.key + 1)) < left_of walk.old.places low }
     {
-        let entries = self.occupied_level(i).entries();
-        let place = walk.places[i];
-        walk.places[i] = place + 1;
-        self.put_head(&mut walk.heads, &walk.places, i);
-        entries[place]
+        let entries = self.occupied_level(first.level).entries();
+        let place = walk.places[first.level];
+        let entry = entries[place];
+        walk.places[first.level] = place + 1;
+        if place + 1 < entries.len() {
+            put_head(
+                &mut walk.heads,
+                first.place,
+                (entries[place + 1].key, first.level),
+            );
+        } else {
+            walk.heads = self.heads(&walk.places);
+        }
+        entry
     }
 
     /// The places of a key.
@@ -216,6 +231,7 @@ impl LogMap {
 }
 
 /// The first entry from a key on: of the least key the last one.
+#[inline(never)]
 fn first_from(entries: &[Entry], from: u128) -> Option<Entry>
     ensures { IsFirstFrom entries.now from result }
 {
@@ -243,15 +259,21 @@ fn first_with(first: Option<Entry>, entry: Entry, from: u128) -> Option<Entry>
 
 /// The entry of the buffer, if it comes next: its key is at most that of a level.
 #[inline(always)]
-fn next_of(buffered: Option<Entry>, found: Option<(u64, usize)>) -> Option<Entry>
+fn next_of(buffered: Option<Entry>, found: Option<First>) -> Option<Entry>
     ensures next { IfSome result (λ entry. (buffered ≡ Some entry) ×
         ((other : ℕ) → other < entry.key → IsBelow other (first_key found))) }
     ensures none { IsNone result →
-        IfSome buffered (λ entry. MatchOption found ⊥ (λ least. least.0 < entry.key)) }
+        IfSome buffered (λ entry. MatchOption found ⊥ (λ first. first.key < entry.key)) }
 {
     let entry = buffered?;
     match found {
-        Some((least, _)) => { if least < entry.key { None } else { Some(entry) } }
+        Some(first) => {
+            if first.key < entry.key {
+                None
+            } else {
+                Some(entry)
+            }
+        }
         None => Some(entry),
     }
 }

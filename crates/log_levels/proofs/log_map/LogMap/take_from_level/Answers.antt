@@ -1,43 +1,88 @@
-use Rattle.std.proofs.Common.{◌≡◌, ◌+◌, ◌<◌, List, length, Some, subst, sym, ap, ◌∙◌, arith}
+use Rattle.std.proofs.Common.{◌≡◌, ◌+◌, ◌<◌, ℕ, List, length, slice_index, slice_index_or, slice_set, Some, subst, sym, ap, ◌∙◌, arith}
 use Rattle.tombstones.specs.declared.entry.Entry.{Entry}
-use Rattle.tombstones.specs.Entries.{IsAscending}
-use Rattle.map_level.proofs.LevelLemmas.{entry-found, key-read}
-use Rattle.std.specs.Prelude.{slice_index}
-use Rattle.log_levels.proofs.HeadLemmas.{heads-moved}
+use Rattle.tombstones.specs.Entries.{IsAscending, entry_at}
+use Rattle.map_level.proofs.LevelLemmas.{entry-found, key-read, no_entry}
+use Rattle.log_levels.specs.declared.heads.First.{First}
+use Rattle.log_levels.specs.Shapes.{Held, level_of}
+use Rattle.log_levels.specs.Kept.{AreHeads, StandsAt}
+use Rattle.log_levels.proofs.HeadLemmas.{first-stands, heads-moved}
 use Rattle.log_levels.proofs.WalkLemmas.{behind-passed, left-passed}
 use Rattle.log_levels.proofs.log_map.LogMap.take_from_level.Goals as goal
 
-pub returns-clause-entry : goal.returns-clause-entry
-returns-clause-entry c = λ level is.
-    let both : Some c.occupied_level.result.now ≡ Some level = sym c.occupied_level.ensures ∙ is in
-    let one : c.occupied_level.result.now ≡ level = cc in
-    let list : c.entries-entries.result.now ≡ level = c.entries-entries.ensures.entries ∙ one in
-    let (fits, has) = c.requires.at.stands level is in
-    let place = slice_index c.args.walk.now.places c.args.i in
-    let inside : place < length c.entries-entries.result.now = omega (arith, fits, ap (λ (l : List Entry). length l) list) in
-    sym (entry-found c.entries-entries.result.now level c.args.key place list (subst IsAscending one c.entries-entries.ensures.ascending) inside
-    (sym (key-read c.entries-entries.result.now level place list inside).1 ∙ has))
+-- the entry that is read has the key
+key-there : (held : Held) (places : List ℕ) (first : First) (list level : List Entry) → StandsAt held places first.key first.level → level_of held first.level ≡ Some level → list ≡ level
+    → (slice_index places first.level < length list) × ((slice_index_or list (slice_index places first.level) no_entry).key ≡ first.key)
+key-there held places first list level stands is same =
+    let (fits, has) = stands.stands level is in
+    let inside : slice_index places first.level < length list = omega (arith, fits, ap (λ (l : List Entry). length l) same) in
+    (inside, sym (key-read list level (slice_index places first.level) same inside).1 ∙ has)
 
-pub returns-clause-behind : goal.returns-clause-behind
-returns-clause-behind c = λ low behind.
-    behind-passed c.args.self.now c.args.walk.now.places low c.args.key c.args.i (λ level is.
-    let both : Some c.occupied_level.result.now ≡ Some level = sym c.occupied_level.ensures ∙ is in
-    let one : c.occupied_level.result.now ≡ level = cc in
-    subst IsAscending one c.entries-entries.ensures.ascending) c.requires.inside behind c.requires.at
+entry-there : (held : Held) (places : List ℕ) (first : First) (list level other : List Entry) → StandsAt held places first.key first.level → level_of held first.level ≡ Some level → list ≡ level → IsAscending level
+    → level_of held first.level ≡ Some other → entry_at other first.key ≡ Some (slice_index_or list (slice_index places first.level) no_entry)
+entry-there held places first list level other stands is same ascending other_is =
+    let both : Some level ≡ Some other = sym is ∙ other_is in
+    let one : level ≡ other = cc in
+    let (inside, has) = key-there held places first list level stands is same in
+    sym (entry-found list other first.key (slice_index places first.level) (same ∙ one) (subst IsAscending one ascending) inside has)
 
-pub returns-clause-fewer : goal.returns-clause-fewer
-returns-clause-fewer c = λ low few.
-    let (fits, has) = c.requires.at.stands c.occupied_level.result.now c.occupied_level.ensures in
-    left-passed c.args.self.now c.args.walk.now.places low c.args.key c.args.i c.requires.count c.requires.inside (omega (arith, fits, c.entries-entries.ensures.few)) few
+every-ascending : (held : Held) (i : ℕ) (level : List Entry) → level_of held i ≡ Some level → IsAscending level → (other : List Entry) → level_of held i ≡ Some other → IsAscending other
+every-ascending held i level is ascending other other_is =
+    let both : Some level ≡ Some other = sym is ∙ other_is in
+    let one : level ≡ other = cc in
+    subst IsAscending one ascending
 
-pub put_head-requires : goal.put_head-requires
-put_head-requires c = (
-  length c.args.self.now.levels,
-  c.requires.at.inside,
-  heads-moved c.args.self.now c.args.walk.now.places (length c.args.self.now.levels) c.args.i (slice_index c.args.walk.now.places c.args.i + 1) c.args.walk.now.heads.items c.requires.heads,
-)
+pub returns-then-place-entries-clause-key : goal.returns-then-place-entries-clause-key
+returns-then-place-entries-clause-key c =
+    let stands = first-stands c.args.self.now c.args.walk.now.places 0 c.args.walk.now.heads.items c.args.first c.requires.heads c.requires.first in
+    (key-there c.args.self.now c.args.walk.now.places c.args.first c.entries-entries.result.now c.occupied_level.result.now stands c.occupied_level.ensures c.entries-entries.ensures.entries).1
 
-pub returns-clause-heads : goal.returns-clause-heads
-returns-clause-heads c =
-    c.put_head.ensures (length c.args.self.now.levels) c.requires.at.inside
-    (heads-moved c.args.self.now c.args.walk.now.places (length c.args.self.now.levels) c.args.i (slice_index c.args.walk.now.places c.args.i + 1) c.args.walk.now.heads.items c.requires.heads)
+pub returns-else-place-entries-clause-key : goal.returns-else-place-entries-clause-key
+returns-else-place-entries-clause-key c =
+    let stands = first-stands c.args.self.now c.args.walk.now.places 0 c.args.walk.now.heads.items c.args.first c.requires.heads c.requires.first in
+    (key-there c.args.self.now c.args.walk.now.places c.args.first c.entries-entries.result.now c.occupied_level.result.now stands c.occupied_level.ensures c.entries-entries.ensures.entries).1
+
+pub returns-then-place-entries-clause-entry : goal.returns-then-place-entries-clause-entry
+returns-then-place-entries-clause-entry c = λ level is.
+    let stands = first-stands c.args.self.now c.args.walk.now.places 0 c.args.walk.now.heads.items c.args.first c.requires.heads c.requires.first in
+    entry-there c.args.self.now c.args.walk.now.places c.args.first c.entries-entries.result.now c.occupied_level.result.now level stands c.occupied_level.ensures c.entries-entries.ensures.entries
+    c.entries-entries.ensures.ascending is
+
+pub returns-else-place-entries-clause-entry : goal.returns-else-place-entries-clause-entry
+returns-else-place-entries-clause-entry c = λ level is.
+    let stands = first-stands c.args.self.now c.args.walk.now.places 0 c.args.walk.now.heads.items c.args.first c.requires.heads c.requires.first in
+    entry-there c.args.self.now c.args.walk.now.places c.args.first c.entries-entries.result.now c.occupied_level.result.now level stands c.occupied_level.ensures c.entries-entries.ensures.entries
+    c.entries-entries.ensures.ascending is
+
+pub returns-then-place-entries-clause-behind : goal.returns-then-place-entries-clause-behind
+returns-then-place-entries-clause-behind c = λ low behind.
+    let stands = first-stands c.args.self.now c.args.walk.now.places 0 c.args.walk.now.heads.items c.args.first c.requires.heads c.requires.first in
+    behind-passed c.args.self.now c.args.walk.now.places low c.args.first.key c.args.first.level
+    (every-ascending c.args.self.now c.args.first.level c.occupied_level.result.now c.occupied_level.ensures c.entries-entries.ensures.ascending) (omega (arith, stands.inside, c.requires.heads.low)) behind stands
+
+pub returns-else-place-entries-clause-behind : goal.returns-else-place-entries-clause-behind
+returns-else-place-entries-clause-behind c = λ low behind.
+    let stands = first-stands c.args.self.now c.args.walk.now.places 0 c.args.walk.now.heads.items c.args.first c.requires.heads c.requires.first in
+    behind-passed c.args.self.now c.args.walk.now.places low c.args.first.key c.args.first.level
+    (every-ascending c.args.self.now c.args.first.level c.occupied_level.result.now c.occupied_level.ensures c.entries-entries.ensures.ascending) (omega (arith, stands.inside, c.requires.heads.low)) behind stands
+
+pub returns-then-place-entries-clause-fewer : goal.returns-then-place-entries-clause-fewer
+returns-then-place-entries-clause-fewer c = λ low few.
+    let stands = first-stands c.args.self.now c.args.walk.now.places 0 c.args.walk.now.heads.items c.args.first c.requires.heads c.requires.first in
+    let (fits, has) = stands.stands c.occupied_level.result.now c.occupied_level.ensures in
+    left-passed c.args.self.now c.args.walk.now.places low c.args.first.key c.args.first.level c.requires.count (omega (arith, stands.inside, c.requires.heads.low)) (omega (arith, fits, c.entries-entries.ensures.few)) few
+
+pub returns-else-place-entries-clause-fewer : goal.returns-else-place-entries-clause-fewer
+returns-else-place-entries-clause-fewer c = λ low few.
+    let stands = first-stands c.args.self.now c.args.walk.now.places 0 c.args.walk.now.heads.items c.args.first c.requires.heads c.requires.first in
+    let (fits, has) = stands.stands c.occupied_level.result.now c.occupied_level.ensures in
+    left-passed c.args.self.now c.args.walk.now.places low c.args.first.key c.args.first.level c.requires.count (omega (arith, stands.inside, c.requires.heads.low)) (omega (arith, fits, c.entries-entries.ensures.few)) few
+
+pub returns-then-place-entries-clause-heads : goal.returns-then-place-entries-clause-heads
+returns-then-place-entries-clause-heads c =
+    let place = slice_index c.args.walk.now.places c.args.first.level in
+    let list = c.entries-entries.result.now in
+    let inside : place + 1 < length list = omega arith in
+    let (fits, read) = key-read list c.occupied_level.result.now (place + 1) c.entries-entries.ensures.entries inside in
+    subst (AreHeads c.args.self.now (slice_set c.args.walk.now.places c.args.first.level (place + 1)) 0) (sym c.put_head.ensures)
+    (heads-moved c.args.self.now c.args.walk.now.places 0 (slice_index_or list (place + 1) no_entry).key c.args.walk.now.heads.items c.args.first c.occupied_level.result.now c.requires.heads c.requires.first c.requires.count
+    c.occupied_level.ensures c.entries-entries.ensures.ascending fits read)
