@@ -20,9 +20,11 @@ draw building "Building, and a script of questions" "seconds" "1=build, 1 thread
 draw questions "Building, and a script of questions" "seconds" --table 2
 draw boxes "Boxes" "part of the C++ program's time, which is the line" 2 3 4 --line 1
 draw nearest "The nearest points" "microseconds a question" --parts "near" "k-d tree"
-draw map "The map" "nanoseconds an operation" 2 3 1
+draw map "The map" "nanoseconds an operation" 2 1
 draw readers "Readers beside a writer" "millions of looks a second" 1 2 4 5
 draw senders "Several senders" "millions of updates a second"
 draw saved "Saved indexes" "seconds" 1 2 3
 draw from_c "From C" "nanoseconds a question" 3 2 1 \
   "5.2=std::lower_bound, chained" "5.1=C++ PGM-index, chained" "5.0=kuldebiq_position, chained" 4
+
+python3 dev/plot.py bench/README.md > docs/pictures/bytes.svg
