@@ -2,7 +2,7 @@
 pub use Rattle.exact_cross.proofs.Cleared.{products_le-out, products_le-in, IsAtMost-out, IsAtMost-in, IsWithin-above, IsWithin-below, IsWithin-in}
 pub use Rattle.exact_cross.proofs.FloorLemmas.{IsFloorAt-in, IsFloorAt-out, IsFloorAt-unique, floor_not_below, floor_not_above}
 pub use Rattle.exact_cross.proofs.SlopeOrder.{IsAtMost-refl, IsAtMost-trans, IsAtMost-total}
-pub use Rattle.exact_cross.proofs.KeyPoints.{slice_index-rises, IsAscending-points_of, IsNonDecreasing-places, IsNonDecreasing-from_neighbours, length-places, slice_index-places, places-more}
+pub use Rattle.exact_cross.proofs.KeyPoints.{slice_index-rises, IsAscending-points_of, IsAscending-points_in, IsNonDecreasing-places, IsNonDecreasing-from_neighbours, length-places, slice_index-places, places-more}
 pub use Rattle.exact_cross.proofs.LineSlopes.{flat_at_most_steep}
 pub use Rattle.exact_cross.proofs.StoredLine.{some_line-one_place, some_line-from_pairs, line_of_pair-level, line_of_pair-rising, line_of_pair-positive, segment_line_fits, IsFitted-from_steep}
 pub use Rattle.exact_cross.proofs.RunLemmas.{SomeLineFits-part, run_end-first, run_end-push, CutsInto-push, starts_of-push, EachRun-push}

@@ -4,7 +4,9 @@ use Rattle.std.proofs.lemmas.List.{get_or_default}
 use Rattle.std.specs.List.Sorted.{IsStrictlyIncreasing, IsNonDecreasing}
 use Rattle.std.proofs.lemmas.List.FromFn.{get_or-range_with_len, length-range_with_len}
 use Rattle.std.specs.List.{range_with_len}
+use Rattle.exact_cross.specs.declared.points.PointList.{PointList}
 use Rattle.exact_cross.specs.Points.{IsAscending, points_of, places}
+use Rattle.exact_cross.specs.PointLists.{points_in}
 
 -- of two places the lower has the lesser x; up from `i`, a place at a time
 rises_along : (xs : List ℕ) (i gap j : ℕ) → IsStrictlyIncreasing xs → j ≡ i + suc gap → j < length xs → slice_index xs i < slice_index xs j
@@ -38,6 +40,10 @@ IsAscending-points_of xs ys same rises never_falls = record {
   x_rises = λ i j lower inside. slice_index-rises xs i j rises lower inside;
   y_never_falls = λ i j lower inside. never_falls i j 0 lower (omega arith);
 }
+
+-- the points in a list of them ascend
+pub IsAscending-points_in : (list : PointList) → IsAscending (points_in list)
+IsAscending-points_in list = IsAscending-points_of list.xs.now list.ys.now list.same_length list.rising list.never_falls
 
 -- the place at a place
 pub slice_index-places : (n j : ℕ) → j < n → slice_index (places n) j ≡ j

@@ -1,4 +1,5 @@
 pub mod Points
+pub mod PointLists
 pub mod Slopes
 pub mod Lines
 pub mod Floors

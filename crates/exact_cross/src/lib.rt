@@ -12,10 +12,12 @@
 
 mod floor;
 mod line;
+mod points;
 mod segment;
 mod slope;
 
 pub use line::Line;
+pub use points::PointList;
 pub use segment::{Segment, Side, Witness};
 pub use slope::Slope;
 

@@ -1,8 +1,7 @@
 // The line of a segment.
-ghost use Rattle.std.specs.List.Sorted.{IsStrictlyIncreasing, IsNonDecreasing};
-ghost use Rattle.std.specs.Prelude.{◌≡◌, ◌<◌, ◌≤◌, ◌^◌, ◌↔◌, length, IsTrue};
+ghost use Rattle.std.specs.Prelude.{◌<◌, ◌≤◌, ◌↔◌, length, IsTrue};
 
-use crate::MAX_EPSILON;
+use crate::{MAX_EPSILON, PointList};
 
 /// How far below rank 0 a line can start: the greatest error bound,
 /// [`MAX_EPSILON`](crate::MAX_EPSILON).
@@ -22,7 +21,7 @@ pub struct Line {
 }
 
 impl Line {
-    ghost use Rattle.exact_cross.specs.Points.{points_of};
+    ghost use Rattle.exact_cross.specs.PointLists.{points_in};
     ghost use Rattle.exact_cross.specs.Lines.{IsWithin, FitsRun, rational};
     ghost use Rattle.exact_cross.specs.Checked.{IsInRange};
 
@@ -38,24 +37,20 @@ impl Line {
     /// Whether the line is within `ε` at every place of `s..e`, exactly. An empty run has no such
     /// place.
     ///
-    /// The place `j` is the point `(xs[j], ys[j])`. `eps` is the error bound `ε`, in places: the
-    /// line passes a place where it is at most `ε` above or below the place's `y` at its `x`. It is
-    /// compared times the line's run, in 128 bits, so nothing is rounded.
-    pub fn fits(&self, xs: &[u64], ys: &[u32], s: u32, e: u32, eps: u32) -> bool
+    /// `eps` is the error bound `ε`, in places: the line passes a place where it is at most `ε`
+    /// above or below the place's `y` at its `x`. It is compared times the line's run, in 128 bits,
+    /// so nothing is rounded.
+    pub fn fits(&self, points: PointList<'_>, s: u32, e: u32, eps: u32) -> bool
         requires in_range { IsInRange self.now }
-        requires same_length { length ys.now ≡ length xs.now }
-        requires rising { IsStrictlyIncreasing xs.now }
-        requires never_falls { IsNonDecreasing ys.now }
-        requires few { length xs.now < 2 ^ 32 }
         requires bounded { eps ≤ MAX_EPSILON }
         requires range { s ≤ e }
-        requires within { e ≤ length xs.now }
+        requires within { e ≤ length points.xs.now }
         ensures exact { IsTrue result ↔
-            ((positive : 0 < self.now.run) × FitsRun (points_of xs.now ys.now) eps
+            ((positive : 0 < self.now.run) × FitsRun (points_in points.entry) eps
             (rational self.now positive) s e) }
     {
         for place in s..e {
-            if !self.passes(xs, ys, place, eps) {
+            if !self.passes(points, place, eps) {
                 return false;
             }
         }
@@ -63,19 +58,18 @@ impl Line {
     }
 
     /// Whether the line is within `ε` at one place.
-    fn passes(&self, xs: &[u64], ys: &[u32], place: u32, eps: u32) -> bool
+    fn passes(&self, points: PointList<'_>, place: u32, eps: u32) -> bool
         requires in_range { IsInRange self.now }
-        requires same_length { length ys.now ≡ length xs.now }
         requires bounded { eps ≤ MAX_EPSILON }
-        requires within { place < length xs.now }
+        requires within { place < length points.xs.now }
         ensures exact { IsTrue result ↔
-            ((positive : 0 < self.now.run) × IsWithin (points_of xs.now ys.now) eps
+            ((positive : 0 < self.now.run) × IsWithin (points_in points.entry) eps
             (rational self.now positive) place) }
     {
         let rise = u128::from(self.rise);
         let run = u128::from(self.run);
-        let x = u128::from(xs[place as usize]);
-        let y = u128::from(ys[place as usize]);
+        let x = u128::from(points.xs[place as usize]);
+        let y = u128::from(points.ys[place as usize]);
         // The heights of line and point at the x, times the run. Both are raised alike, so that
         // none is below 0.
         let line = rise * x + (self.y0 + DEPTH) as u128 * run;

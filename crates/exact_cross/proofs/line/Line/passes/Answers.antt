@@ -5,7 +5,7 @@ use Rattle.std.specs.Int.{w64, w128, cast_signed, cast_unsigned}
 use Rattle.std.specs.Int.RustNames.{FitsSigned, unsigned_abs}
 use Rattle.std.proofs.lemmas.Int.{ints}
 use Rattle.exact_cross.specs.declared.line.Line.{Line}
-use Rattle.exact_cross.specs.Points.{points_of}
+use Rattle.exact_cross.specs.PointLists.{points_in}
 use Rattle.exact_cross.specs.Checked.{IsInRange}
 use Rattle.exact_cross.proofs.LinePasses.{IsRaised, decided-by_first, decided-by_second}
 use Rattle.exact_cross.proofs.line.Line.passes.Goals as goal
@@ -41,7 +41,7 @@ overflow_add-result c =
 pub returns-then-line-point : goal.returns-then-line-point
 returns-then-line-point c =
     let line = c.args.self.now in
-    let p = points_of c.args.xs.now c.args.ys.now in
+    let p = points_in c.args.points in
     let fits : FitsSigned w64 line.y0 = search rules in
     let first = rw (c.from-rise.ensures, c.from-run.ensures, c.from-x.ensures, c.from-y.ensures, c.from.ensures, c.from-2.ensures) at c.if-line-point.true in
     record { exact = rw (c.from-rise.ensures, c.from-run.ensures, c.from-x.ensures, c.from-y.ensures, c.from.ensures, c.from-2.ensures) (decided-by_second p c.args.eps line _ c.args.place c.requires.in_range.positive (raised line c.requires.in_range fits) first) }
@@ -49,7 +49,7 @@ returns-then-line-point c =
 pub returns-else-line-point : goal.returns-else-line-point
 returns-else-line-point c =
     let line = c.args.self.now in
-    let p = points_of c.args.xs.now c.args.ys.now in
+    let p = points_in c.args.points in
     let fits : FitsSigned w64 line.y0 = search rules in
     let first = rw (c.from-rise.ensures, c.from-run.ensures, c.from-x.ensures, c.from-y.ensures, c.from.ensures, c.from-2.ensures) at c.if-line-point.false in
     record { exact = rw (c.from-rise.ensures, c.from-run.ensures, c.from-x.ensures, c.from-y.ensures, c.from.ensures, c.from-2.ensures) (decided-by_first p c.args.eps line _ c.args.place (raised line c.requires.in_range fits) first) }
