@@ -1,3 +1,4 @@
+pub mod LeastLemmas
 pub mod Runs
 pub mod SegmentsExist
 pub mod WholeLemmas

@@ -1,17 +1,19 @@
 -- The run that the hulls stand for, as the longest run and its segment.
-use Rattle.std.proofs.Common.{◌≡◌, ℕ, ◌+◌, ◌<◌, List, length, slice_index, Some, refl, sym, subst, arith}
+use Rattle.std.proofs.Common.{◌≡◌, ℕ, ◌+◌, ◌<◌, length, slice_index, Some, refl, sym, subst, arith}
 use Rattle.exact_cross.specs.declared.segment.Witness.{Witness}
 use Rattle.exact_cross.specs.declared.segment.Segment.{Segment}
-use Rattle.exact_cross.specs.Points.{Points, points_of}
+use Rattle.exact_cross.specs.declared.points.PointList.{PointList}
+use Rattle.exact_cross.specs.Points.{Points}
+use Rattle.exact_cross.specs.PointLists.{points_in}
 use Rattle.exact_cross.specs.Lines.{SomeLineFits}
 use Rattle.exact_cross.specs.Covers.{IsLongest}
 use Rattle.exact_cross.specs.Cuts.{IsCutOf, HasItsCut}
 use Rattle.hulls.specs.declared.fitting.Hulls.{Hulls}
 use Rattle.hulls.specs.Hulls.{StandsFor, IsNext}
 
-pub IsNext-place : (hulls : Hulls) (xs ys : List ℕ) (eps s e : ℕ) → StandsFor hulls (points_of xs ys) eps s e → e < length xs →
-    IsNext hulls (points_of xs ys) eps s e (slice_index xs e) (slice_index ys e)
-IsNext-place hulls xs ys eps s e stands inside = record { stands = stands; more = inside; at_x = refl; at_y = refl }
+pub IsNext-place : (hulls : Hulls) (points : PointList) (eps s e : ℕ) → StandsFor hulls (points_in points) eps s e → e < length points.xs.now →
+    IsNext hulls (points_in points) eps s e (slice_index points.xs.now e) (slice_index points.ys.now e)
+IsNext-place hulls points eps s e stands inside = record { stands = stands; more = inside; at_x = refl; at_y = refl }
 
 -- a run that ends at the range's end, or before a place that no line goes on to
 pub IsLongest-whole : (hulls : Hulls) (p : Points) (eps to s : ℕ) → StandsFor hulls p eps s to → IsLongest p eps to s to

@@ -2,20 +2,15 @@
 --
 -- Main results: `IsSteepPair-from_extremes` and `SomeLineFits-from_extremes`. With the height h of a place beside the line of
 -- (a, b), the steep slope of a pair (c, d) is the less the lower d lies and the higher c, and h b - h a is -2 eps runs.
-use Rattle.std.proofs.Common.{◌≡◌, ℕ, ◌+◌, ◌*◌, ◌-◌, ◌<◌, ◌≤◌, ◌⊎◌, ◌∙◌, inl, inr, ap, refl, None, List, [], ◌∷◌, ◌^◌, arith}
+use Rattle.std.proofs.Common.{◌≡◌, ℕ, ◌+◌, ◌*◌, ◌-◌, ◌<◌, ◌≤◌, ◌⊎◌, ◌∙◌, inl, inr, ap, refl, None, arith}
 use Rattle.std.proofs.Math.Nat.{mul-le-mul_left, mul-le-mul_right}
 use Rattle.std.proofs.lemmas.Bool.{cases_order, cases_lt}
 use Rattle.exact_cross.specs.declared.line.Line.{Line}
-use Rattle.exact_cross.specs.declared.segment.Segment.{Segment}
 use Rattle.exact_cross.specs.Points.{Points, IsAscending}
 use Rattle.exact_cross.specs.Lines.{SomeLineFits}
 use Rattle.exact_cross.specs.Slopes.{IsAtMost, steep_slope, flat_slope}
 use Rattle.exact_cross.specs.Steep.{IsPair, ComesFirst, IsSteepPair, line_of_pair}
-use Rattle.exact_cross.proofs.CallerLemmas.{products_le-in, products_le-out, some_line-from_pairs, line_of_pair-rising, IsFitted-from_steep, IsInRange-from_steep}
-use Rattle.exact_cross.specs.Covers.{IsGreedy}
-use Rattle.exact_cross.specs.Segments.{starts_of, EachRun, IsSteepSegment, IsFitted}
-use Rattle.exact_cross.specs.Cuts.{HasItsCut}
-use Rattle.exact_cross.specs.Checked.{IsInRange}
+use Rattle.exact_cross.proofs.CallerLemmas.{products_le-in, products_le-out, some_line-from_pairs, line_of_pair-rising}
 use Rattle.segmenter.specs.declared.whole.Extremes.{Extremes}
 use Rattle.segmenter.specs.Whole.{IsWhole, AreExtremes, IsBetween, height, height_of}
 
@@ -327,26 +322,4 @@ IsWhole-from_extremes p eps s e a b found ascends inside fits_x own top bottom r
         line = own;
       };
       fits = SomeLineFits-from_extremes p eps s e found ascends inside fits_x line up h;
-    }
-
--- what a list of segments of the places from..to is
-pub record AreSegments (p : Points) (eps from to : ℕ) (segments : List Segment) : Type 0 where
-  pub greedy : IsGreedy p eps from to (starts_of segments)
-  pub steep : EachRun (IsSteepSegment p eps) to segments
-  pub fitted : EachRun (IsFitted p eps) to segments
-  pub cuts : EachRun (HasItsCut p eps to) to segments
-  pub in_range : EachRun (λ segment e. IsInRange segment.line) to segments
-
--- one segment of all places is such a list alone
-pub AreSegments-whole : (p : Points) (eps from to : ℕ) (segment : Segment) → IsAscending p → to ≤ p.count → ((j : ℕ) → j < p.count → p.y j < 2 ^ 32) → eps ≤ 1048576 →
-    IsWhole p eps from to segment → AreSegments p eps from to (segment ∷ [])
-AreSegments-whole p eps from to segment ascends inside fits_y bounded whole =
-    let fits : SomeLineFits p eps segment.start to = rw whole.start whole.fits in
-    let some : segment.start < to = omega (arith, whole.start, whole.some) in
-    record {
-      greedy = (whole.start, whole.some, (record { fits = whole.fits; no_longer = λ more. absurd (omega (arith, more)) }), refl);
-      steep = (whole.steep, tt);
-      fitted = (IsFitted-from_steep p eps to segment ascends some inside whole.steep fits, tt);
-      cuts = ((record { last = λ at_end. whole.no_cut; other = λ more. absurd (omega (arith, more)) }), tt);
-      in_range = (IsInRange-from_steep p eps to segment ascends fits_y bounded some inside whole.steep, tt);
     }

@@ -5,26 +5,23 @@
 //! runs are `0..3`, on the line through 0 and 1, and `3..4`. Each run but the last keeps why it
 //! ends: no line fits the places 0, 1 and 3, since the key 10 lies under the line through 0 and 1.
 //!
-//! Main clauses: `greedy`, `cuts` and `least` of [`segment`], and `cost` of [`segment_counted`]: at
-//! most 12 steps a point. The words of the clauses are those of `exact_cross`.
+//! Main clauses: `least` of [`segment`], and `cost` of [`segment_counted`]: at most 12 steps a point.
+//! What a least segmentation is stands in `specs/Least.antt`, in the words of `exact_cross`.
 #![tactic(auto)]
 
-ghost use Rattle.std.specs.List.Sorted.{IsStrictlyIncreasing, IsNonDecreasing};
-ghost use Rattle.std.specs.Prelude.{◌≡◌, ℕ, ◌+◌, ◌-◌, ◌*◌, ◌<◌, ◌≤◌, ◌^◌, List, length, IfOk};
+ghost use Rattle.std.specs.Prelude.{◌≡◌, ℕ, ◌+◌, ◌-◌, ◌*◌, ◌≤◌, List, length, IfOk};
 ghost use Rattle.exact_cross.specs.declared.segment.Segment.{Segment};
-ghost use Rattle.exact_cross.specs.Points.{Points, IsAscending, points_of};
-ghost use Rattle.exact_cross.specs.Covers.{IsGreedy};
-ghost use Rattle.exact_cross.specs.Segments.{starts_of, EachRun, IsSteepSegment, IsFitted};
-ghost use Rattle.exact_cross.specs.Cuts.{HasItsCut};
-ghost use Rattle.exact_cross.specs.Checked.{IsLeastCover, AreChecked};
+ghost use Rattle.exact_cross.specs.Points.{Points, IsAscending};
+ghost use Rattle.exact_cross.specs.PointLists.{points_in};
 ghost use Rattle.exact_cross.specs.Segmentation.{IsSegmentation};
+ghost use Rattle.segmenter.specs.Least.{IsLeastSegmentation};
 
 mod laws;
 pub mod run;
 mod whole;
 
 use budget::{NoMemory, Steps};
-use exact_cross::{MAX_EPSILON, Segment};
+use exact_cross::{MAX_EPSILON, PointList, Segment};
 use hulls::Hulls;
 pub use laws::some_segmentation;
 use run::longest_run;
@@ -35,11 +32,12 @@ use whole::whole_run;
 
 /// The greedy segments of the places `from..to` of points, with places as in the whole list.
 ///
-/// The place `j` is the point `(xs[j], ys[j])`, and `eps` the error bound `ε`. Each segment has the
-/// steep pair of its run and that pair's line, which fits the run. Each but the last has a cut,
-/// three places that no line fits: those of the steep pair and the next run's start where this lies
-/// over all lines of the run, and those of the flat pair and it where it lies under them. An empty
-/// range has no segment. It takes the steps of [`segment_counted`], and counts nothing.
+/// `eps` is the error bound `ε`, in places. Each segment has the steep pair of its run and that
+/// pair's line, which fits the run. Each but the last has a cut, three places that no line fits:
+/// those of the steep pair and the next run's start where this lies over all lines of the run, and
+/// those of the flat pair and it where it lies under them. No cover of the range has fewer runs, and
+/// the segments of a whole list show that by themselves. An empty range has no segment. It takes the
+/// steps of [`segment_counted`], and counts nothing.
 ///
 /// # Errors
 ///
@@ -49,40 +47,21 @@ use whole::whole_run;
 /// Source: Ferragina and Vinciguerra, PVLDB 13(8), 2020, section 3.1; O'Rourke, CACM 24(9), 1981.
 pub fn segment(
     alloc: Global,
-    xs: &[u64],
-    ys: &[u32],
+    points: PointList<'_>,
     eps: u32,
     from: u32,
     to: u32,
 ) -> Result<Vec<Segment>, NoMemory>
-    requires same_length { length ys.now ≡ length xs.now }
-    requires rising { IsStrictlyIncreasing xs.now }
-    requires never_falls { IsNonDecreasing ys.now }
-    requires few { length xs.now < 2 ^ 32 }
     requires bounded { eps ≤ MAX_EPSILON }
     requires range { from ≤ to }
-    requires within { to ≤ length xs.now }
-    ensures greedy { IfOk result
-        (λ segments. IsGreedy (points_of xs.now ys.now) eps from to (starts_of segments.items)) }
-    ensures steep { IfOk result
-        (λ segments. EachRun (IsSteepSegment (points_of xs.now ys.now) eps) to segments.items) }
-    ensures fitted { IfOk result
-        (λ segments. EachRun (IsFitted (points_of xs.now ys.now) eps) to segments.items) }
-    ensures cuts { IfOk result
-        (λ segments. EachRun (HasItsCut (points_of xs.now ys.now) eps to) to segments.items) }
-    // No cover of the range has fewer runs.
-    ensures least { IfOk result
-        (λ segments. IsLeastCover (points_of xs.now ys.now) eps from to
-        (starts_of segments.items)) }
-    // Segments of the whole list show by themselves that they are as few as lines can do.
-    ensures checked { IfOk result
-        (λ segments. from ≡ 0 → to ≡ length xs.now → AreChecked
-        (points_of xs.now ys.now) eps segments.items) }
+    requires within { to ≤ length points.xs.now }
+    ensures least { IfOk result (λ segments.
+        IsLeastSegmentation (points_in points.entry) eps from to segments.items) }
 {
-    segment_from::<Brand>(alloc, xs, ys, eps, from, to, Blank::new(1))
+    segment_from::<Brand>(alloc, points, eps, from, to, Blank::new(1))
 }
 
-/// The same, counting its steps, at most 12 for each point of the range.
+/// The segments of [`segment`], with the steps counted: at most 12 for each point of the range.
 ///
 /// A step is a comparison of two slopes or a test of a point against a line.
 ///
@@ -91,92 +70,54 @@ pub fn segment(
 /// `NoMemory` alone, as in [`segment`].
 pub fn segment_counted<L: Ledger>(
     alloc: Global,
-    xs: &[u64],
-    ys: &[u32],
+    points: PointList<'_>,
     eps: u32,
     from: u32,
     to: u32,
     steps: &mut Steps<L>,
 ) -> Result<Vec<Segment>, NoMemory>
-    requires same_length { length ys.now ≡ length xs.now }
-    requires rising { IsStrictlyIncreasing xs.now }
-    requires never_falls { IsNonDecreasing ys.now }
-    requires few { length xs.now < 2 ^ 32 }
     requires bounded { eps ≤ MAX_EPSILON }
     requires range { from ≤ to }
-    requires within { to ≤ length xs.now }
-    ensures greedy { IfOk result
-        (λ segments. IsGreedy (points_of xs.now ys.now) eps from to (starts_of segments.items)) }
-    ensures steep { IfOk result
-        (λ segments. EachRun (IsSteepSegment (points_of xs.now ys.now) eps) to segments.items) }
-    ensures fitted { IfOk result
-        (λ segments. EachRun (IsFitted (points_of xs.now ys.now) eps) to segments.items) }
-    ensures cuts { IfOk result
-        (λ segments. EachRun (HasItsCut (points_of xs.now ys.now) eps to) to segments.items) }
-    // No cover of the range has fewer runs.
-    ensures least { IfOk result
-        (λ segments. IsLeastCover (points_of xs.now ys.now) eps from to
-        (starts_of segments.items)) }
-    // Segments of the whole list show by themselves that they are as few as lines can do.
-    ensures checked { IfOk result
-        (λ segments. from ≡ 0 → to ≡ length xs.now → AreChecked
-        (points_of xs.now ys.now) eps segments.items) }
+    requires within { to ≤ length points.xs.now }
+    ensures least { IfOk result (λ segments.
+        IsLeastSegmentation (points_in points.entry) eps from to segments.items) }
     ensures cost { steps.new ≤ steps.old + 12 * (to - from) }
 {
     let mut segments = Vec::new(alloc);
-    if let Some(segment) = whole_run(xs, ys, eps, from, to, steps) {
+    if let Some(segment) = whole_run(points, eps, from, to, steps) {
         segments.push(segment)?;
         return Ok(segments);
     }
     let mut hulls = Hulls::new(alloc, eps, to - from)?;
     let mut start = from;
     while start < to {
-        let run = longest_run(&mut hulls, xs, ys, start, to, steps);
+        let run = longest_run(&mut hulls, points, start, to, steps);
         segments.push(run.segment)?;
         start = run.end;
     }
     Ok(segments)
 }
 
-/// The same with a counter of its own, from a new ledger.
+/// The segments of [`segment`], their steps counted in a new ledger.
 fn segment_from<L: Ledger>(
     alloc: Global,
-    xs: &[u64],
-    ys: &[u32],
+    points: PointList<'_>,
     eps: u32,
     from: u32,
     to: u32,
     blank: Blank,
 ) -> Result<Vec<Segment>, NoMemory>
-    requires same_length { length ys.now ≡ length xs.now }
-    requires rising { IsStrictlyIncreasing xs.now }
-    requires never_falls { IsNonDecreasing ys.now }
-    requires few { length xs.now < 2 ^ 32 }
     requires bounded { eps ≤ MAX_EPSILON }
     requires range { from ≤ to }
-    requires within { to ≤ length xs.now }
+    requires within { to ≤ length points.xs.now }
     requires name { blank.name ≡ L.name }
     requires parts { blank.parts ≡ L.parts }
     requires one { blank.parts ≡ 1 }
-    ensures greedy { IfOk result
-        (λ segments. IsGreedy (points_of xs.now ys.now) eps from to (starts_of segments.items)) }
-    ensures steep { IfOk result
-        (λ segments. EachRun (IsSteepSegment (points_of xs.now ys.now) eps) to segments.items) }
-    ensures fitted { IfOk result
-        (λ segments. EachRun (IsFitted (points_of xs.now ys.now) eps) to segments.items) }
-    ensures cuts { IfOk result
-        (λ segments. EachRun (HasItsCut (points_of xs.now ys.now) eps to) to segments.items) }
-    // No cover of the range has fewer runs.
-    ensures least { IfOk result
-        (λ segments. IsLeastCover (points_of xs.now ys.now) eps from to
-        (starts_of segments.items)) }
-    // Segments of the whole list show by themselves that they are as few as lines can do.
-    ensures checked { IfOk result
-        (λ segments. from ≡ 0 → to ≡ length xs.now → AreChecked
-        (points_of xs.now ys.now) eps segments.items) }
+    ensures least { IfOk result (λ segments.
+        IsLeastSegmentation (points_in points.entry) eps from to segments.items) }
 {
     let mut steps = Steps::<L>::new(blank);
-    segment_counted(alloc, xs, ys, eps, from, to, &mut steps)
+    segment_counted(alloc, points, eps, from, to, &mut steps)
 }
 
 /// Points and an error bound have one segmentation: two lists of segments that are greedy, steep

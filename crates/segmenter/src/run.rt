@@ -1,14 +1,14 @@
 // The longest run from a place that some line fits.
-ghost use Rattle.std.specs.List.Sorted.{IsStrictlyIncreasing, IsNonDecreasing};
 ghost use Rattle.std.specs.Prelude.{◌≡◌, ℕ, ◌+◌, ◌*◌, ◌^◌, ◌<◌, ◌≤◌, length};
-ghost use Rattle.exact_cross.specs.Points.{Points, points_of};
+ghost use Rattle.exact_cross.specs.Points.{Points};
+ghost use Rattle.exact_cross.specs.PointLists.{points_in};
 ghost use Rattle.exact_cross.specs.Covers.{IsLongest};
 ghost use Rattle.exact_cross.specs.Segments.{IsSteepSegment};
 ghost use Rattle.exact_cross.specs.Cuts.{HasItsCut};
 ghost use Rattle.hulls.specs.Hulls.{room_of, bound_of, StandsFor};
 
 use budget::Steps;
-use exact_cross::{MAX_EPSILON, Segment, Witness};
+use exact_cross::{MAX_EPSILON, PointList, Segment, Witness};
 use hulls::{Hulls, Offer};
 use std::sync::ledger::Ledger;
 
@@ -28,35 +28,34 @@ pub struct Run {
 /// the run, and no memory.
 pub fn longest_run<L: Ledger>(
     hulls: &mut Hulls,
-    xs: &[u64],
-    ys: &[u32],
+    points: PointList<'_>,
     start: u32,
     to: u32,
     steps: &mut Steps<L>,
 ) -> Run
-    requires same_length { length ys.now ≡ length xs.now }
-    requires rising { IsStrictlyIncreasing xs.now }
-    requires never_falls { IsNonDecreasing ys.now }
-    requires few { length xs.now < 2 ^ 32 }
     requires some { start < to }
-    requires within { to ≤ length xs.now }
+    requires within { to ≤ length points.xs.now }
     requires room { to ≤ start + room_of hulls.old }
     requires bounded { bound_of hulls.old ≤ MAX_EPSILON }
     ensures start { result.segment.start ≡ start }
     ensures further { start < result.end }
     ensures within { result.end ≤ to }
-    ensures longest { IsLongest (points_of xs.now ys.now) (bound_of hulls.old) to start result.end }
-    ensures steep { IsSteepSegment (points_of xs.now ys.now)
+    ensures longest { IsLongest (points_in points.entry) (bound_of hulls.old) to start result.end }
+    ensures steep { IsSteepSegment (points_in points.entry)
         (bound_of hulls.old) result.segment result.end }
-    ensures cut { HasItsCut (points_of xs.now ys.now)
+    ensures cut { HasItsCut (points_in points.entry)
         (bound_of hulls.old) to result.segment result.end }
     ensures cost { steps.new + 10 * start ≤ steps.old + 10 * result.end }
     ensures room { room_of hulls.old ≤ room_of hulls.new }
     ensures bound { bound_of hulls.new ≡ bound_of hulls.old }
 {
-    hulls.start(start, xs[start as usize], ys[start as usize]);
+    hulls.start(start, points.xs[start as usize], points.ys[start as usize]);
     for place in start + 1..to {
-        if let Offer::Cut(witness) = hulls.offer(xs[place as usize], ys[place as usize], steps) {
+        if let Offer::Cut(witness) = hulls.offer(
+            points.xs[place as usize],
+            points.ys[place as usize],
+            steps,
+        ) {
             let segment = segment_of(hulls, start, Some(witness));
             return Run {
                 segment,

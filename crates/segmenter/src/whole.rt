@@ -1,13 +1,12 @@
 // One run of all places, by a guess that is then checked.
-ghost use Rattle.std.specs.List.Sorted.{IsStrictlyIncreasing, IsNonDecreasing};
 ghost use Rattle.std.specs.Prelude.{◌≡◌, ℕ, ◌+◌, ◌-◌, ◌*◌, ◌^◌, ◌<◌, ◌≤◌, length, IfSome};
 ghost use Rattle.std.specs.Bool.{OnTrue, OnFalse};
-ghost use Rattle.exact_cross.specs.Points.{points_of};
+ghost use Rattle.exact_cross.specs.PointLists.{points_in};
 ghost use Rattle.exact_cross.specs.Steep.{line_of_pair};
 ghost use Rattle.segmenter.specs.Whole.{IsWhole, AreExtremes, IsBetween, height};
 
 use budget::Steps;
-use exact_cross::{Line, MAX_EPSILON, Segment, Slope};
+use exact_cross::{Line, MAX_EPSILON, PointList, Segment, Slope};
 use std::cmp::Ordering;
 use std::sync::ledger::Ledger;
 
@@ -42,35 +41,30 @@ const PART: u32 = 4;
 ///
 /// Source: Dinkelbach, Management Science 13(7), 1967.
 pub fn whole_run<L: Ledger>(
-    xs: &[u64],
-    ys: &[u32],
+    points: PointList<'_>,
     eps: u32,
     from: u32,
     to: u32,
     steps: &mut Steps<L>,
 ) -> Option<Segment>
-    requires same_length { length ys.now ≡ length xs.now }
-    requires rising { IsStrictlyIncreasing xs.now }
-    requires never_falls { IsNonDecreasing ys.now }
-    requires few { length xs.now < 2 ^ 32 }
     requires bounded { eps ≤ MAX_EPSILON }
     requires range { from ≤ to }
-    requires within { to ≤ length xs.now }
-    ensures whole { IfSome result (IsWhole (points_of xs.now ys.now) eps from to) }
+    requires within { to ≤ length points.xs.now }
+    ensures whole { IfSome result (IsWhole (points_in points.entry) eps from to) }
     ensures cost { steps.new ≤ steps.old + 2 * (to - from) }
 {
     let count = to - from;
     if count < TRIED_FROM_PLACES || count > TRIED_TO_PLACES {
         return None;
     }
-    if !may_fit(xs, ys, eps, from, to, steps) {
+    if !may_fit(points, eps, from, to, steps) {
         return None;
     }
-    let (mut a, mut b) = pair_at_ends(xs, ys, eps, from, to, steps);
+    let (mut a, mut b) = pair_at_ends(points, eps, from, to, steps);
     let mut left = 2 * count - GUESS;
     for _ in 0..TRIED_PAIRS {
-        let mut found = Extremes::of(xs, ys, eps, a, b, left);
-        if !found.go_over(xs, ys, from, to, steps) {
+        let mut found = Extremes::of(points, eps, a, b, left);
+        if !found.go_over(points, from, to, steps) {
             return None;
         }
         if found.bottom <= found.top {
@@ -96,32 +90,28 @@ pub fn whole_run<L: Ledger>(
 /// fit all places. It decides nothing. It takes six steps at most: each of the three is tested
 /// against two lines.
 fn may_fit<L: Ledger>(
-    xs: &[u64],
-    ys: &[u32],
+    points: PointList<'_>,
     eps: u32,
     from: u32,
     to: u32,
     steps: &mut Steps<L>,
 ) -> bool
-    requires same_length { length ys.now ≡ length xs.now }
-    requires rising { IsStrictlyIncreasing xs.now }
-    requires never_falls { IsNonDecreasing ys.now }
     requires bounded { eps ≤ MAX_EPSILON }
     requires some { from + TRIED_FROM_PLACES ≤ to }
     requires few { to ≤ from + TRIED_TO_PLACES }
-    requires within { to ≤ length xs.now }
+    requires within { to ≤ length points.xs.now }
     ensures cost { steps.new ≤ steps.old + 6 }
 {
     let last = (to - 1) as usize;
     let first = from as usize;
     let quarter = (to - from) / 4;
-    let rise = u64::from(ys[last] - ys[first]);
-    let run = xs[last] - xs[first];
+    let rise = u64::from(points.ys[last] - points.ys[first]);
+    let run = points.xs[last] - points.xs[first];
     let far = u128::from((2 * eps).min(quarter)) * u128::from(run);
-    let chord = height(rise, run, xs[first], ys[first]);
+    let chord = height(rise, run, points.xs[first], points.ys[first]);
     for i in 1..4 {
         let place = (from + i * quarter) as usize;
-        let other = height(rise, run, xs[place], ys[place]);
+        let other = height(rise, run, points.xs[place], points.ys[place]);
         steps.tick();
         steps.tick();
         if other > chord + far || chord > other + far {
@@ -135,19 +125,15 @@ fn may_fit<L: Ledger>(
 /// for the first place the upper one of the least slope, and for that the lower one. It decides
 /// nothing. It takes two steps for each place at an end.
 fn pair_at_ends<L: Ledger>(
-    xs: &[u64],
-    ys: &[u32],
+    points: PointList<'_>,
     eps: u32,
     from: u32,
     to: u32,
     steps: &mut Steps<L>,
 ) -> (u32, u32)
-    requires same_length { length ys.now ≡ length xs.now }
-    requires rising { IsStrictlyIncreasing xs.now }
-    requires never_falls { IsNonDecreasing ys.now }
     requires bounded { eps ≤ MAX_EPSILON }
     requires some { from + TRIED_FROM_PLACES ≤ to }
-    requires within { to ≤ length xs.now }
+    requires within { to ≤ length points.xs.now }
     ensures from_start { from ≤ result.0 }
     ensures rises { result.0 < result.1 }
     ensures to_end { result.1 < to }
@@ -156,14 +142,14 @@ fn pair_at_ends<L: Ledger>(
     let mut high = to - 1;
     for i in 1..PLACES_AT_AN_END + 1 {
         let other = to - 1 - i;
-        if is_less_steep(xs, ys, eps, (from, other), (from, high), steps) {
+        if is_less_steep(points, eps, (from, other), (from, high), steps) {
             high = other;
         }
     }
     let mut low = from;
     for i in 1..PLACES_AT_AN_END + 1 {
         let other = from + i;
-        if is_less_steep(xs, ys, eps, (other, high), (low, high), steps) {
+        if is_less_steep(points, eps, (other, high), (low, high), steps) {
             low = other;
         }
     }
@@ -173,39 +159,34 @@ fn pair_at_ends<L: Ledger>(
 /// Whether the slope from `eps` below the first place of a pair to `eps` above its second is less
 /// than that of another pair.
 fn is_less_steep<L: Ledger>(
-    xs: &[u64],
-    ys: &[u32],
+    points: PointList<'_>,
     eps: u32,
     pair: (u32, u32),
     other: (u32, u32),
     steps: &mut Steps<L>,
 ) -> bool
-    requires same_length { length ys.now ≡ length xs.now }
-    requires rising { IsStrictlyIncreasing xs.now }
-    requires never_falls { IsNonDecreasing ys.now }
     requires bounded { eps ≤ MAX_EPSILON }
     requires pair { pair.0 < pair.1 }
-    requires pair_inside { pair.1 < length xs.now }
+    requires pair_inside { pair.1 < length points.xs.now }
     requires other { other.0 < other.1 }
-    requires other_inside { other.1 < length xs.now }
+    requires other_inside { other.1 < length points.xs.now }
     ensures step { steps.new ≡ steps.old + 1 }
 {
     steps.tick();
-    let slope = steep_slope(xs, ys, eps, pair.0, pair.1);
-    let slope_of_other = steep_slope(xs, ys, eps, other.0, other.1);
+    let slope = steep_slope(points, eps, pair.0, pair.1);
+    let slope_of_other = steep_slope(points, eps, other.0, other.1);
     slope.cmp(&slope_of_other) == Ordering::Less
 }
 
-fn steep_slope(xs: &[u64], ys: &[u32], eps: u32, a: u32, b: u32) -> Slope
-    requires same_length { length ys.now ≡ length xs.now }
-    requires rising { IsStrictlyIncreasing xs.now }
+fn steep_slope(points: PointList<'_>, eps: u32, a: u32, b: u32) -> Slope
     requires bounded { eps ≤ MAX_EPSILON }
     requires rises { a < b }
-    requires inside { b < length xs.now }
+    requires inside { b < length points.xs.now }
     ensures run { 1 ≤ result.run }
 {
-    let rise = i64::from(ys[b as usize]) + i64::from(2 * eps) - i64::from(ys[a as usize]);
-    let run = xs[b as usize] - xs[a as usize];
+    let rise = i64::from(points.ys[b as usize]) + i64::from(2 * eps)
+        - i64::from(points.ys[a as usize]);
+    let run = points.xs[b as usize] - points.xs[a as usize];
     Slope { rise, run }
 }
 
@@ -251,21 +232,18 @@ pub struct Extremes {
 impl Extremes {
     /// No place looked at beside the line of this pair but the pair itself.
     #[inline(always)]
-    fn of(xs: &[u64], ys: &[u32], eps: u32, a: u32, b: u32, left: u32) -> Extremes
-        requires same_length { length ys.now ≡ length xs.now }
-        requires rising { IsStrictlyIncreasing xs.now }
-        requires never_falls { IsNonDecreasing ys.now }
+    fn of(points: PointList<'_>, eps: u32, a: u32, b: u32, left: u32) -> Extremes
         requires bounded { eps ≤ MAX_EPSILON }
         requires rises { a < b }
-        requires inside { b < length xs.now }
-        ensures line { result.line ≡ line_of_pair (points_of xs.now ys.now) eps a b }
+        requires inside { b < length points.xs.now }
+        ensures line { result.line ≡ line_of_pair (points_in points.entry) eps a b }
         ensures low { result.line.rise < 2 ^ 34 }
         ensures none { (s e : ℕ) → s ≤ a → b < e →
-            AreExtremes (points_of xs.now ys.now) s e s result }
+            AreExtremes (points_in points.entry) s e s result }
         ensures left { result.left ≡ left }
     {
-        let (x, y) = (xs[a as usize], ys[a as usize]);
-        let (x_high, y_high) = (xs[b as usize], ys[b as usize]);
+        let (x, y) = (points.xs[a as usize], points.ys[a as usize]);
+        let (x_high, y_high) = (points.xs[b as usize], points.ys[b as usize]);
         let line = Line {
             x0: x,
             y0: i64::from(y) - i64::from(eps),
@@ -285,28 +263,23 @@ impl Extremes {
     /// Looks at the places `from..to`. `false` where the tests that were left don't suffice.
     fn go_over<L: Ledger>(
         &mut self,
-        xs: &[u64],
-        ys: &[u32],
+        points: PointList<'_>,
         from: u32,
         to: u32,
         steps: &mut Steps<L>,
     ) -> bool
-        requires same_length { length ys.now ≡ length xs.now }
-        requires rising { IsStrictlyIncreasing xs.now }
-        requires never_falls { IsNonDecreasing ys.now }
-        requires few { length xs.now < 2 ^ 32 }
         requires low { self.old.line.rise < 2 ^ 34 }
         requires range { from ≤ to }
-        requires within { to ≤ length xs.now }
-        requires none { AreExtremes (points_of xs.now ys.now) from to from self.old }
-        ensures all { OnTrue result (AreExtremes (points_of xs.now ys.now) from to to self.new) }
+        requires within { to ≤ length points.xs.now }
+        requires none { AreExtremes (points_in points) from to from self.old }
+        ensures all { OnTrue result (AreExtremes (points_in points.entry) from to to self.new) }
         ensures line { self.new.line ≡ self.old.line }
         ensures cost { steps.new + self.new.left ≡ steps.old + self.old.left }
     {
         let mut at = from;
         while at < to {
             let end = at + BLOCK.min(to - at);
-            if !self.pass_block(xs, ys, at, end, steps) {
+            if !self.pass_block(points, at, end, steps) {
                 return false;
             }
             at = end;
@@ -314,39 +287,35 @@ impl Extremes {
         true
     }
 
-    /// The same for places behind those that were looked at, no more than a block.
+    /// Looks at the next places, no more than a block. `false` where the tests that were left don't
+    /// suffice.
     #[inline(always)]
     fn pass_block<L: Ledger>(
         &mut self,
-        xs: &[u64],
-        ys: &[u32],
+        points: PointList<'_>,
         from: u32,
         to: u32,
         steps: &mut Steps<L>,
     ) -> bool
-        requires same_length { length ys.now ≡ length xs.now }
-        requires rising { IsStrictlyIncreasing xs.now }
-        requires never_falls { IsNonDecreasing ys.now }
-        requires few { length xs.now < 2 ^ 32 }
         requires low { self.old.line.rise < 2 ^ 34 }
         requires some { from < to }
-        requires within { to ≤ length xs.now }
+        requires within { to ≤ length points.xs.now }
         ensures more { OnTrue result ((s e : ℕ) → s ≤ from → to ≤ e →
-            AreExtremes (points_of xs.now ys.now) s e from self.old →
-            AreExtremes (points_of xs.now ys.now) s e to self.new) }
+            AreExtremes (points_in points.entry) s e from self.old →
+            AreExtremes (points_in points.entry) s e to self.new) }
         ensures line { self.new.line ≡ self.old.line }
         ensures cost { steps.new + self.new.left ≡ steps.old + self.old.left }
     {
         if self.left < 2 {
             return false;
         }
-        if self.are_between(xs, ys, from, to, steps) {
+        if self.are_between(points, from, to, steps) {
             return true;
         }
         let mut at = from;
         while at < to {
             let end = at + PART.min(to - at);
-            if !self.pass_part(xs, ys, at, end, steps) {
+            if !self.pass_part(points, at, end, steps) {
                 return false;
             }
             at = end;
@@ -354,38 +323,34 @@ impl Extremes {
         true
     }
 
-    /// The same for a part of a block, place by place where they aren't passed at once.
+    /// Looks at a part of a block, place by place where it isn't passed at once. `false` where the
+    /// tests that were left don't suffice.
     #[inline(always)]
     fn pass_part<L: Ledger>(
         &mut self,
-        xs: &[u64],
-        ys: &[u32],
+        points: PointList<'_>,
         from: u32,
         to: u32,
         steps: &mut Steps<L>,
     ) -> bool
-        requires same_length { length ys.now ≡ length xs.now }
-        requires rising { IsStrictlyIncreasing xs.now }
-        requires never_falls { IsNonDecreasing ys.now }
-        requires few { length xs.now < 2 ^ 32 }
         requires low { self.old.line.rise < 2 ^ 34 }
         requires some { from < to }
         requires short { to ≤ from + PART }
-        requires within { to ≤ length xs.now }
+        requires within { to ≤ length points.xs.now }
         ensures more { OnTrue result ((s e : ℕ) → s ≤ from → to ≤ e →
-            AreExtremes (points_of xs.now ys.now) s e from self.old →
-            AreExtremes (points_of xs.now ys.now) s e to self.new) }
+            AreExtremes (points_in points.entry) s e from self.old →
+            AreExtremes (points_in points.entry) s e to self.new) }
         ensures line { self.new.line ≡ self.old.line }
         ensures cost { steps.new + self.new.left ≡ steps.old + self.old.left }
     {
         if self.left < 2 + 2 * (to - from) {
             return false;
         }
-        if self.are_between(xs, ys, from, to, steps) {
+        if self.are_between(points, from, to, steps) {
             return true;
         }
         for place in from..to {
-            self.look_at(xs, ys, place, steps);
+            self.look_at(points, place, steps);
         }
         true
     }
@@ -394,21 +359,17 @@ impl Extremes {
     #[inline(always)]
     fn are_between<L: Ledger>(
         &mut self,
-        xs: &[u64],
-        ys: &[u32],
+        points: PointList<'_>,
         from: u32,
         to: u32,
         steps: &mut Steps<L>,
     ) -> bool
-        requires same_length { length ys.now ≡ length xs.now }
-        requires rising { IsStrictlyIncreasing xs.now }
-        requires never_falls { IsNonDecreasing ys.now }
         requires low { self.old.line.rise < 2 ^ 34 }
         requires left { 2 ≤ self.old.left }
         requires some { from < to }
-        requires within { to ≤ length xs.now }
+        requires within { to ≤ length points.xs.now }
         ensures between { OnTrue result
-            (IsBetween (points_of xs.now ys.now) from to self.old) }
+            (IsBetween (points_in points.entry) from to self.old) }
         ensures same { self.new ≡ record {
           line = self.old.line;
           top = self.old.top;
@@ -422,23 +383,32 @@ impl Extremes {
         let (first, last) = (from as usize, (to - 1) as usize);
         self.left -= 2;
         steps.tick();
-        let highest = height(self.line.rise, self.line.run, xs[first], ys[last]);
+        let highest = height(
+            self.line.rise,
+            self.line.run,
+            points.xs[first],
+            points.ys[last],
+        );
         steps.tick();
-        let lowest = height(self.line.rise, self.line.run, xs[last], ys[first]);
+        let lowest = height(
+            self.line.rise,
+            self.line.run,
+            points.xs[last],
+            points.ys[first],
+        );
         highest < self.top_height && self.bottom_height < lowest
     }
 
     /// Looks at the next place: whether it lies above the highest one, and whether below the
     /// lowest.
     #[inline(always)]
-    fn look_at<L: Ledger>(&mut self, xs: &[u64], ys: &[u32], place: u32, steps: &mut Steps<L>)
-        requires same_length { length ys.now ≡ length xs.now }
+    fn look_at<L: Ledger>(&mut self, points: PointList<'_>, place: u32, steps: &mut Steps<L>)
         requires low { self.old.line.rise < 2 ^ 34 }
         requires left { 2 ≤ self.old.left }
-        requires inside { place < length xs.now }
+        requires inside { place < length points.xs.now }
         ensures more { (s e : ℕ) → s ≤ place → place < e →
-            AreExtremes (points_of xs.now ys.now) s e place self.old →
-            AreExtremes (points_of xs.now ys.now) s e (place + 1) self.new }
+            AreExtremes (points_in points.entry) s e place self.old →
+            AreExtremes (points_in points.entry) s e (place + 1) self.new }
         ensures line { self.new.line ≡ self.old.line }
         ensures left { self.new.left + 2 ≡ self.old.left }
         ensures steps { steps.new ≡ steps.old + 2 }
@@ -446,7 +416,7 @@ impl Extremes {
         self.left -= 2;
         steps.tick();
         steps.tick();
-        let (x, y) = (xs[place as usize], ys[place as usize]);
+        let (x, y) = (points.xs[place as usize], points.ys[place as usize]);
         let height = height(self.line.rise, self.line.run, x, y);
         if comes_first(self.top_height, height, place, self.top) {
             self.top = place;

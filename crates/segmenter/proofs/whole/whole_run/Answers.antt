@@ -1,6 +1,6 @@
 use Rattle.std.proofs.Common.{arith}
-use Rattle.exact_cross.specs.Points.{points_of}
-use Rattle.exact_cross.proofs.CallerLemmas.{IsAscending-points_of}
+use Rattle.exact_cross.specs.PointLists.{points_in}
+use Rattle.exact_cross.proofs.CallerLemmas.{IsAscending-points_in}
 use Rattle.segmenter.proofs.WholeLemmas.{IsWhole-from_extremes}
 use Rattle.segmenter.proofs.whole.whole_run.Goals as goal
 
@@ -9,8 +9,8 @@ go_over-requires-clause-none g c = c.of-found.ensures.none c.args.from c.args.to
 
 pub returns-then-found-b-clause-whole : goal.returns-then-found-b-clause-whole
 returns-then-found-b-clause-whole g c =
-    let p = points_of c.args.xs.now c.args.ys.now in
-    let ascends = IsAscending-points_of c.args.xs.now c.args.ys.now c.requires.same_length c.requires.rising c.requires.never_falls in
+    let p = points_in c.args.points in
+    let ascends = IsAscending-points_in c.args.points in
     IsWhole-from_extremes p c.args.eps c.args.from c.args.to c.loop.a c.loop.b c.go_over.new.self ascends c.requires.within
-    (λ j inside. omega (arith, c.type_inv.xs j)) (rw c.go_over.ensures.line c.of-found.ensures.line)
+    (λ j inside. omega (arith, c.args.points.narrow j)) (rw c.go_over.ensures.line c.of-found.ensures.line)
     c.if-found-a.true c.if-found-b.true c.loop.invariant.rises c.if-not-go_over.ensures.all

@@ -1,6 +1,6 @@
 -- The parts so far are passed, and each step takes one that was left.
 use Rattle.std.proofs.Common.{◌≡◌, ℕ, ◌-◌, ◌+◌, ◌≤◌}
-use Rattle.exact_cross.specs.Points.{points_of}
+use Rattle.exact_cross.specs.PointLists.{points_in}
 use Rattle.segmenter.specs.Whole.{AreExtremes}
 use Rattle.segmenter.proofs.whole.Extremes.pass_block.Given as goal
 
@@ -8,8 +8,8 @@ abbrev pub invariant-loop-at : goal.invariant-loop-at
 invariant-loop-at g l = record {
   from_first : l.from ≤ l.at;
   within : l.at ≤ l.to;
-  so_far : (s e : ℕ) → s ≤ l.from → l.to ≤ e → AreExtremes (points_of l.xs l.ys) s e l.from l.fn.self →
-      AreExtremes (points_of l.xs l.ys) s e l.at l.self;
+  so_far : (s e : ℕ) → s ≤ l.from → l.to ≤ e → AreExtremes (points_in l.points) s e l.from l.fn.self →
+      AreExtremes (points_in l.points) s e l.at l.self;
   line : l.self.line ≡ l.fn.self.line;
   cost : l.steps + l.self.left ≡ l.fn.steps + l.fn.self.left;
 }
