@@ -10,10 +10,9 @@
 //! `exact_cross`. No call takes memory.
 #![tactic(auto)]
 
-ghost use Rattle.std.specs.List.Sorted.{IsStrictlyIncreasing, IsNonDecreasing};
-ghost use Rattle.std.specs.Prelude.{◌≡◌, ◌-◌, ◌<◌, ◌≤◌, ◌^◌, ◌↔◌, length, IsTrue};
+ghost use Rattle.std.specs.Prelude.{◌≡◌, ◌-◌, ◌<◌, ◌≤◌, ◌↔◌, length, IsTrue};
 ghost use Rattle.std.specs.Prelude.{IsSome, IfSome};
-ghost use Rattle.exact_cross.specs.Points.{points_of};
+ghost use Rattle.exact_cross.specs.PointLists.{points_in};
 ghost use Rattle.exact_cross.specs.Lines.{RationalLine, IsWithin};
 ghost use Rattle.exact_cross.specs.Witnesses.{IsBeyond, IsWitness};
 ghost use Rattle.exact_cross.specs.Segments.{starts_of};
@@ -23,29 +22,25 @@ ghost use Rattle.cut_witness.specs.Runs.{IsShownRun};
 
 mod pairs;
 
-use exact_cross::{MAX_EPSILON, Segment, Side, Witness};
+use exact_cross::{MAX_EPSILON, PointList, Segment, Side, Witness};
 pub use pairs::{is_flat, is_steep};
 
 /// Whether the three places are in order, below the list's length, and beyond every line by the
 /// side's inequality.
 ///
-/// The place `j` is the point `(xs[j], ys[j])`, and `eps` the error bound `ε`, in places. Over: the
-/// chord of `ε` below the outer two points passes more than `ε` above the middle one. Under: the
-/// chord of `ε` above them passes more than `ε` below it. The inequalities are exact.
-pub fn holds(w: &Witness, xs: &[u64], ys: &[u32], eps: u32) -> bool
-    requires same_length { length ys.now ≡ length xs.now }
-    requires rising { IsStrictlyIncreasing xs.now }
-    requires never_falls { IsNonDecreasing ys.now }
-    requires few { length xs.now < 2 ^ 32 }
+/// `eps` is the error bound `ε`, in places. Over: the chord of `ε` below the outer two points passes
+/// more than `ε` above the middle one. Under: the chord of `ε` above them passes more than `ε` below
+/// it. The inequalities are exact.
+pub fn holds(w: &Witness, points: PointList<'_>, eps: u32) -> bool
     requires bounded { eps ≤ MAX_EPSILON }
-    ensures exact { IsTrue result ↔ IsWitness (points_of xs.now ys.now) eps w.now }
+    ensures exact { IsTrue result ↔ IsWitness (points_in points.entry) eps w.now }
     // No line is within `ε` at the three places.
     ensures no_line { IsTrue result → (line : RationalLine) → IsWithin
-        (points_of xs.now ys.now) eps line w.now.p
-        → IsWithin (points_of xs.now ys.now) eps line w.now.q → IsWithin
-        (points_of xs.now ys.now) eps line w.now.r → ⊥ }
+        (points_in points.entry) eps line w.now.p
+        → IsWithin (points_in points.entry) eps line w.now.q → IsWithin
+        (points_in points.entry) eps line w.now.r → ⊥ }
 {
-    w.p < w.q && w.q < w.r && (w.r as usize) < xs.len() && is_beyond(w, xs, ys, eps)
+    w.p < w.q && w.q < w.r && (w.r as usize) < points.xs.len() && is_beyond(w, points, eps)
 }
 
 /// Whether these segments show by themselves that they are a cover of the points and that no cover
@@ -54,21 +49,16 @@ pub fn holds(w: &Witness, xs: &[u64], ys: &[u32], eps: u32) -> bool
 /// True exactly where the first start is 0, the starts rise below the list's length, each line is
 /// in range and within `ε` at each place of its run, the last segment has no cut, and each other
 /// one has a cut that holds, from its start on and with the next start as its `r`. No points need
-/// no segments. The place `j` is the point `(xs[j], ys[j])`, and `eps` the error bound `ε`, in
-/// places. Source of such covers: Ferragina and Vinciguerra, PVLDB 13(8), 2020, section 3.1;
-/// O'Rourke, CACM 24(9), 1981.
-pub fn check_cover(xs: &[u64], ys: &[u32], eps: u32, segments: &[Segment]) -> bool
-    requires same_length { length ys.now ≡ length xs.now }
-    requires rising { IsStrictlyIncreasing xs.now }
-    requires never_falls { IsNonDecreasing ys.now }
-    requires few { length xs.now < 2 ^ 32 }
+/// no segments. `eps` is the error bound `ε`, in places. Source of such covers: Ferragina and
+/// Vinciguerra, PVLDB 13(8), 2020, section 3.1; O'Rourke, CACM 24(9), 1981.
+pub fn check_cover(points: PointList<'_>, eps: u32, segments: &[Segment]) -> bool
     requires bounded { eps ≤ MAX_EPSILON }
-    ensures exact { IsTrue result ↔ AreChecked (points_of xs.now ys.now) eps segments.now }
+    ensures exact { IsTrue result ↔ AreChecked (points_in points.entry) eps segments.now }
     // Whoever made the segments.
-    ensures certified { IsTrue result → IsLeastCover (points_of xs.now ys.now) eps 0
-        (length xs.now) (starts_of segments.now) }
+    ensures certified { IsTrue result → IsLeastCover (points_in points.entry) eps 0
+        (length points.entry.xs.now) (starts_of segments.now) }
 {
-    match slack(xs, ys, eps, segments) {
+    match slack(points, eps, segments) {
         Some(slack) => slack == 0,
         None => false,
     }
@@ -80,25 +70,20 @@ pub fn check_cover(xs: &[u64], ys: &[u32], eps: u32, segments: &[Segment]) -> bo
 /// Some exactly where what [`check_cover`] asks is so, but that any segment may lack its cut: then
 /// the segments are a cover, and the answer is how many have none, less the last one's. Every cover
 /// has at least as many runs as there are segments, less the answer, whoever made them. Of no
-/// segments for no points it is 0. The place `j` is the point `(xs[j], ys[j])`, and `eps` the error
-/// bound `ε`, in places.
-pub fn slack(xs: &[u64], ys: &[u32], eps: u32, segments: &[Segment]) -> Option<u32>
-    requires same_length { length ys.now ≡ length xs.now }
-    requires rising { IsStrictlyIncreasing xs.now }
-    requires never_falls { IsNonDecreasing ys.now }
-    requires few { length xs.now < 2 ^ 32 }
+/// segments for no points it is 0. `eps` is the error bound `ε`, in places.
+pub fn slack(points: PointList<'_>, eps: u32, segments: &[Segment]) -> Option<u32>
     requires bounded { eps ≤ MAX_EPSILON }
-    ensures exact { IsSome result ↔ AreShown (points_of xs.now ys.now) eps segments.now }
+    ensures exact { IsSome result ↔ AreShown (points_in points.entry) eps segments.now }
     ensures count { IfSome result (λ slack. slack ≡ uncut segments.now - 1) }
     // Whoever made the segments.
-    ensures certified { IfSome result (λ slack. IsCoverWithin slack (points_of xs.now ys.now) eps 0
-        (length xs.now) (starts_of segments.now)) }
+    ensures certified { IfSome result (λ slack. IsCoverWithin slack (points_in points.entry) eps 0
+        (length points.entry.xs.now) (starts_of segments.now)) }
 {
-    let mut end = xs.len() as u32;
+    let mut end = points.xs.len() as u32;
     let mut uncut = 0u32;
     for i in (0..segments.len()).rev() {
         let segment = &segments[i];
-        if !is_shown_run(xs, ys, eps, segment, end) {
+        if !is_shown_run(points, eps, segment, end) {
             return None;
         }
         uncut += u32::from(segment.cut.is_none());
@@ -113,25 +98,21 @@ pub fn slack(xs: &[u64], ys: &[u32], eps: u32, segments: &[Segment]) -> Option<u
 
 /// Whether the middle place of three in order lies beyond all lines within `ε` at the other two, by
 /// the side's inequality.
-fn is_beyond(w: &Witness, xs: &[u64], ys: &[u32], eps: u32) -> bool
-    requires same_length { length ys.now ≡ length xs.now }
-    requires rising { IsStrictlyIncreasing xs.now }
-    requires never_falls { IsNonDecreasing ys.now }
-    requires few { length xs.now < 2 ^ 32 }
+fn is_beyond(w: &Witness, points: PointList<'_>, eps: u32) -> bool
     requires bounded { eps ≤ MAX_EPSILON }
     requires first { w.now.p < w.now.q }
     requires second { w.now.q < w.now.r }
-    requires last { w.now.r < length xs.now }
+    requires last { w.now.r < length points.xs.now }
     ensures exact { IsTrue result ↔ IsBeyond
-        (points_of xs.now ys.now) eps w.now.side w.now.p w.now.q w.now.r }
+        (points_in points.entry) eps w.now.side w.now.p w.now.q w.now.r }
 {
     let (p, q, r) = (w.p as usize, w.q as usize, w.r as usize);
-    let left = u128::from(xs[q] - xs[p]);
-    let right = u128::from(xs[r] - xs[q]);
-    let width = u128::from(xs[r] - xs[p]);
+    let left = u128::from(points.xs[q] - points.xs[p]);
+    let right = u128::from(points.xs[r] - points.xs[q]);
+    let width = u128::from(points.xs[r] - points.xs[p]);
     // All heights are at the middle x, times the width.
-    let chord = u128::from(ys[p]) * right + u128::from(ys[r]) * left;
-    let middle = u128::from(ys[q]) * width;
+    let chord = u128::from(points.ys[p]) * right + u128::from(points.ys[r]) * left;
+    let middle = u128::from(points.ys[q]) * width;
     let slack = 2 * u128::from(eps) * width;
     match w.side {
         Side::Over => middle + slack < chord,
@@ -141,37 +122,29 @@ fn is_beyond(w: &Witness, xs: &[u64], ys: &[u32], eps: u32) -> bool
 
 /// Whether the run from the segment's start to `end` has a place or more, a line in range that fits
 /// it, and a cut that holds, if it has one.
-fn is_shown_run(xs: &[u64], ys: &[u32], eps: u32, segment: &Segment, end: u32) -> bool
-    requires same_length { length ys.now ≡ length xs.now }
-    requires rising { IsStrictlyIncreasing xs.now }
-    requires never_falls { IsNonDecreasing ys.now }
-    requires few { length xs.now < 2 ^ 32 }
+fn is_shown_run(points: PointList<'_>, eps: u32, segment: &Segment, end: u32) -> bool
     requires bounded { eps ≤ MAX_EPSILON }
-    requires within { end ≤ length xs.now }
-    ensures exact { IsTrue result ↔ IsShownRun (points_of xs.now ys.now) eps
-        (length xs.now) segment.now end }
+    requires within { end ≤ length points.xs.now }
+    ensures exact { IsTrue result ↔ IsShownRun (points_in points.entry) eps
+        (length points.entry.xs.now) segment.now end }
 {
     segment.start < end
         && segment.line.in_range()
-        && segment.line.fits(xs, ys, segment.start, end, eps)
-        && is_cut_if_any(xs, ys, eps, segment, end)
+        && segment.line.fits(points, segment.start, end, eps)
+        && is_cut_if_any(points, eps, segment, end)
 }
 
 /// Whether a run's cut, if it has one, lies between its start and its end, and holds. That of the
 /// last run wouldn't: a witness's `r` is a place of the list.
-fn is_cut_if_any(xs: &[u64], ys: &[u32], eps: u32, segment: &Segment, end: u32) -> bool
-    requires same_length { length ys.now ≡ length xs.now }
-    requires rising { IsStrictlyIncreasing xs.now }
-    requires never_falls { IsNonDecreasing ys.now }
-    requires few { length xs.now < 2 ^ 32 }
+fn is_cut_if_any(points: PointList<'_>, eps: u32, segment: &Segment, end: u32) -> bool
     requires bounded { eps ≤ MAX_EPSILON }
-    requires within { end ≤ length xs.now }
-    ensures exact { IsTrue result ↔ IsCutIfAny (points_of xs.now ys.now) eps
-        (length xs.now) segment.now end }
+    requires within { end ≤ length points.xs.now }
+    ensures exact { IsTrue result ↔ IsCutIfAny (points_in points.entry) eps
+        (length points.entry.xs.now) segment.now end }
 {
     match segment.cut {
         None => true,
-        Some(w) => is_inside(&w, segment.start, end) && holds(&w, xs, ys, eps),
+        Some(w) => is_inside(&w, segment.start, end) && holds(&w, points, eps),
     }
 }
 

@@ -1,30 +1,25 @@
 // Whether a pair of places is the steep or the flat pair of a run.
-ghost use Rattle.std.specs.List.Sorted.{IsStrictlyIncreasing, IsNonDecreasing};
 ghost use Rattle.std.specs.Prelude.{◌≡◌, ◌+◌, ◌<◌, ◌≤◌, ◌^◌, ◌↔◌, length, IsTrue};
-ghost use Rattle.exact_cross.specs.Points.{points_of};
+ghost use Rattle.exact_cross.specs.PointLists.{points_in};
 ghost use Rattle.cut_witness.specs.Pairs.{HasSteepPair, HasFlatPair, steep_gap, flat_gap, Allows};
 
-use exact_cross::MAX_EPSILON;
+use exact_cross::{MAX_EPSILON, PointList};
 
 /// Whether some line is within `ε` at every place of the run `s..e`, and (`a`, `b`) is its steep
 /// pair.
 ///
 /// The steep pair of two places or more is the one with the least slope from `ε` below its lower
 /// place to `ε` above its upper one; of equal slopes the least `b`, then the least `a`. Of the one
-/// place `s` it is (`s`, `s`). Nothing is assumed of `a` and `b`. The place `j` is the point
-/// `(xs[j], ys[j])`, and `eps` the error bound `ε`, in places.
+/// place `s` it is (`s`, `s`). Nothing is assumed of `a` and `b`. `eps` is the error bound `ε`, in
+/// places.
 ///
 /// Looks once at each place of the run, and takes no memory: where the pair's line fits, pairs of
 /// the same slope touch that same line. Source of such pairs: O'Rourke, CACM 24(9), 1981.
-pub fn is_steep(xs: &[u64], ys: &[u32], eps: u32, s: u32, e: u32, a: u32, b: u32) -> bool
-    requires same_length { length ys.now ≡ length xs.now }
-    requires rising { IsStrictlyIncreasing xs.now }
-    requires never_falls { IsNonDecreasing ys.now }
-    requires few { length xs.now < 2 ^ 32 }
+pub fn is_steep(points: PointList<'_>, eps: u32, s: u32, e: u32, a: u32, b: u32) -> bool
     requires bounded { eps ≤ MAX_EPSILON }
     requires some { s < e }
-    requires within { e ≤ length xs.now }
-    ensures exact { IsTrue result ↔ HasSteepPair (points_of xs.now ys.now) eps s e a b }
+    requires within { e ≤ length points.xs.now }
+    ensures exact { IsTrue result ↔ HasSteepPair (points_in points.entry) eps s e a b }
 {
     if e - s == 1 {
         return a == s && b == s;
@@ -33,7 +28,7 @@ pub fn is_steep(xs: &[u64], ys: &[u32], eps: u32, s: u32, e: u32, a: u32, b: u32
         return false;
     }
     for place in s..e {
-        let gap = steep_gap(xs, ys, eps, a, b, place);
+        let gap = steep_gap(points, eps, a, b, place);
         if !gap.allows(a, b, place) {
             return false;
         }
@@ -48,21 +43,17 @@ pub fn is_steep(xs: &[u64], ys: &[u32], eps: u32, s: u32, e: u32, a: u32, b: u32
 /// upper one; of equal slopes the least `b`, then the least `a`. Nothing is assumed of `a` and `b`.
 ///
 /// Looks once at each place of the run, and takes no memory.
-pub fn is_flat(xs: &[u64], ys: &[u32], eps: u32, s: u32, e: u32, a: u32, b: u32) -> bool
-    requires same_length { length ys.now ≡ length xs.now }
-    requires rising { IsStrictlyIncreasing xs.now }
-    requires never_falls { IsNonDecreasing ys.now }
-    requires few { length xs.now < 2 ^ 32 }
+pub fn is_flat(points: PointList<'_>, eps: u32, s: u32, e: u32, a: u32, b: u32) -> bool
     requires bounded { eps ≤ MAX_EPSILON }
     requires two { s + 1 < e }
-    requires within { e ≤ length xs.now }
-    ensures exact { IsTrue result ↔ HasFlatPair (points_of xs.now ys.now) eps s e a b }
+    requires within { e ≤ length points.xs.now }
+    ensures exact { IsTrue result ↔ HasFlatPair (points_in points.entry) eps s e a b }
 {
     if a < s || b <= a || e <= b {
         return false;
     }
     for place in s..e {
-        let gap = flat_gap(xs, ys, eps, a, b, place);
+        let gap = flat_gap(points, eps, a, b, place);
         if !gap.allows(a, b, place) {
             return false;
         }
@@ -96,49 +87,45 @@ impl Gap {
 }
 
 /// The gap of the line from `ε` below `a` to `ε` above `b`, the steepest that fits both.
-fn steep_gap(xs: &[u64], ys: &[u32], eps: u32, a: u32, b: u32, place: u32) -> Gap
-    requires same_length { length ys.now ≡ length xs.now }
-    requires rising { IsStrictlyIncreasing xs.now }
-    requires never_falls { IsNonDecreasing ys.now }
-    requires few { length xs.now < 2 ^ 32 }
+fn steep_gap(points: PointList<'_>, eps: u32, a: u32, b: u32, place: u32) -> Gap
     requires bounded { eps ≤ MAX_EPSILON }
     requires pair { a < b }
-    requires to_end { b < length xs.now }
-    requires within { place < length xs.now }
-    ensures value { result ≡ steep_gap (points_of xs.now ys.now) eps a b place }
+    requires to_end { b < length points.xs.now }
+    requires within { place < length points.xs.now }
+    ensures value { result ≡ steep_gap (points_in points.entry) eps a b place }
     ensures small { result.lower + result.most < 2 ^ 128 }
 {
     let (a, b, j) = (a as usize, b as usize, place as usize);
-    let width = u128::from(xs[b] - xs[a]);
+    let width = u128::from(points.xs[b] - points.xs[a]);
     let slack = 2 * u128::from(eps);
-    let rise = u128::from(ys[b] - ys[a]) + slack;
+    let rise = u128::from(points.ys[b] - points.ys[a]) + slack;
     Gap {
-        lower: u128::from(ys[j]) * width + rise * u128::from(xs[a]),
-        upper: u128::from(ys[a]) * width + rise * u128::from(xs[j]),
+        lower: u128::from(points.ys[j]) * width + rise * u128::from(points.xs[a]),
+        upper: u128::from(points.ys[a]) * width + rise * u128::from(points.xs[j]),
         most: slack * width,
     }
 }
 
 /// The gap of the line from `ε` above `a` to `ε` below `b`, the flattest that fits both.
-fn flat_gap(xs: &[u64], ys: &[u32], eps: u32, a: u32, b: u32, place: u32) -> Gap
-    requires same_length { length ys.now ≡ length xs.now }
-    requires rising { IsStrictlyIncreasing xs.now }
-    requires never_falls { IsNonDecreasing ys.now }
-    requires few { length xs.now < 2 ^ 32 }
+fn flat_gap(points: PointList<'_>, eps: u32, a: u32, b: u32, place: u32) -> Gap
     requires bounded { eps ≤ MAX_EPSILON }
     requires pair { a < b }
-    requires to_end { b < length xs.now }
-    requires within { place < length xs.now }
-    ensures value { result ≡ flat_gap (points_of xs.now ys.now) eps a b place }
+    requires to_end { b < length points.xs.now }
+    requires within { place < length points.xs.now }
+    ensures value { result ≡ flat_gap (points_in points.entry) eps a b place }
     ensures small { result.lower + result.most < 2 ^ 128 }
 {
     let (a, b, j) = (a as usize, b as usize, place as usize);
-    let width = u128::from(xs[b] - xs[a]);
+    let width = u128::from(points.xs[b] - points.xs[a]);
     let slack = 2 * u128::from(eps);
-    let climb = u128::from(ys[b] - ys[a]);
+    let climb = u128::from(points.ys[b] - points.ys[a]);
     Gap {
-        lower: u128::from(ys[a]) * width + climb * u128::from(xs[j]) + slack * u128::from(xs[a]),
-        upper: u128::from(ys[j]) * width + climb * u128::from(xs[a]) + slack * u128::from(xs[j]),
+        lower: u128::from(points.ys[a]) * width
+            + climb * u128::from(points.xs[j])
+            + slack * u128::from(points.xs[a]),
+        upper: u128::from(points.ys[j]) * width
+            + climb * u128::from(points.xs[a])
+            + slack * u128::from(points.xs[j]),
         most: slack * width,
     }
 }

@@ -18,3 +18,17 @@ pub struct PointList<'a> {
     pub ghost narrow: { (j : ℕ) → slice_index xs.now j < 2 ^ 64 },
     pub ghost low: { (j : ℕ) → slice_index ys.now j < 2 ^ 32 },
 }
+
+impl<'a> PointList<'a> {
+    /// The points of two lists.
+    pub fn new(xs: &'a [u64], ys: &'a [u32]) -> PointList<'a>
+        requires same_length { length ys.now ≡ length xs.now }
+        requires rising { IsStrictlyIncreasing xs.now }
+        requires never_falls { IsNonDecreasing ys.now }
+        requires few { length xs.now < 2 ^ 32 }
+        ensures xs { result.xs.now ≡ xs.now }
+        ensures ys { result.ys.now ≡ ys.now }
+    {
+        PointList { xs, ys }
+    }
+}

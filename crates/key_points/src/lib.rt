@@ -5,8 +5,8 @@
 //! are (5, 0), (6, 3) and (9, 3).
 //!
 //! Main clauses: those of [`Keys::of`], [`Keys::of_distinct`], [`Keys::tested`] and [`judge`],
-//! those of [`Keys::distinct`], [`Keys::first`] and [`Keys::point_count`], and `points` of
-//! [`KeyPoints::xs`] and [`KeyPoints::ys`]. The words of the clauses are in `specs/`.
+//! those of [`Keys::distinct`], [`Keys::first`] and [`Keys::point_count`], and those of
+//! [`KeyPoints::points`]. The words of the clauses are in `specs/`.
 #![tactic(auto)]
 
 mod alone;

@@ -6,6 +6,7 @@ ghost use Rattle.key_points.specs.KeyPoints.{distinct_of, xs_of, ys_of};
 use crate::alone::{count_distinct, places_of};
 use crate::parts::{Parts, parts_of};
 use budget::NoMemory;
+use exact_cross::PointList;
 use std::alloc::Global;
 use std::marker::Model;
 
@@ -84,8 +85,15 @@ impl<'a> KeyPoints<'a> {
         self.keys
     }
 
-    /// The x of the points, which rise.
-    pub fn xs(&self) -> &[u64]
+    /// The points: their x, which rise, and for each x how many of the keys are below it.
+    pub fn points(&self) -> PointList<'_>
+        ensures xs { result.xs.now ≡ xs_of self.now }
+        ensures ys { result.ys.now ≡ ys_of self.now }
+    {
+        PointList::new(self.xs(), &self.ys)
+    }
+
+    fn xs(&self) -> &[u64]
         ensures points { result.now ≡ xs_of self.now }
         ensures rising { IsStrictlyIncreasing result.now }
         ensures few { length result.now < 2 ^ 32 }
@@ -94,14 +102,5 @@ impl<'a> KeyPoints<'a> {
             Some(xs) => xs,
             None => self.keys,
         }
-    }
-
-    /// The y of the points: for each x how many of the keys are below it. They never fall.
-    pub fn ys(&self) -> &[u32]
-        ensures points { result.now ≡ ys_of self.now }
-        ensures same_length { length result.now ≡ length (xs_of self.now) }
-        ensures never_falls { IsNonDecreasing result.now }
-    {
-        &self.ys
     }
 }

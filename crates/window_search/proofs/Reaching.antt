@@ -44,13 +44,6 @@ reached_down reach hint low high before now doubled far near some =
       far = λ place from to. omega arith;
     }
 
--- fewer steps are as good
-pub reached_free : (hint low high before now : ℕ) → IsReached 2 hint low high before (now + 1) → (t : ℕ) → now ≡ before + t → IsReached 2 hint low high before now
-reached_free hint low high before now reached t taken =
-    let same : reached.t ≡ t + 1 = omega (arith, reached.taken) in
-    let power : 2 ^ reached.t ≡ 2 * 2 ^ t = ap (λ n. 2 ^ n) (same ∙ add-one t) ∙ omega (arith, pow-suc 2 t) in
-    record { reach = reached.reach; t = t; taken = taken; cost = omega (arith, reached.cost); few = reached.few; far = reached.far }
-
 -- one read before them
 pub reached_after : (hint low high before now : ℕ) → IsReached 2 hint low high (before + 1) now → IsReached 4 hint low high before now
 reached_after hint low high before now reached =

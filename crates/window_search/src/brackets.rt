@@ -1,5 +1,5 @@
 // The place of a question in any list of keys, from a hint away.
-ghost use Rattle.std.specs.Prelude.{◌≡◌, ◌+◌, ◌-◌, ◌≤◌, ◌<◌, length, min, slice_index};
+ghost use Rattle.std.specs.Prelude.{◌≡◌, ◌+◌, ◌-◌, ◌≤◌, ◌<◌, ◌↔◌, length, min, slice_index};
 ghost use Rattle.std.specs.Prelude.{IsTrue};
 ghost use Rattle.std.specs.List.Sorted.{IsNonDecreasing};
 ghost use Rattle.window_search.specs.Brackets.{IsBracket, HoldsBracket, IsReached, ReadsNear};
@@ -36,10 +36,11 @@ pub fn bracket_from<K: KeyList, L: Ledger>(
     halve(&counted, low, high, q, steps)
 }
 
-/// The same by halving all places. One step is one key read, and two to their number is at most
-/// twice the places.
+/// A place that brackets `q`, by halving all places. One step is one key read, and two to their
+/// number is at most twice the places.
 ///
-/// It reads fewer keys than the search from a hint that is far off. Cannot fail and takes no memory.
+/// It reads fewer keys than the search from a hint that is far off. Cannot fail and takes no
+/// memory.
 #[inline]
 pub fn bracket_of<K: KeyList, L: Ledger>(keys: K, q: u64, steps: &mut Steps<L>) -> usize
     ensures bracket { IsBracket (K.listed keys) q result }
@@ -54,7 +55,7 @@ pub fn bracket_of<K: KeyList, L: Ledger>(keys: K, q: u64, steps: &mut Steps<L>) 
 /// Whether a place brackets `q`. At most two keys are read, and no step is counted.
 #[inline(always)]
 pub fn is_bracket<K: KeyList>(keys: K, place: usize, q: u64) -> bool
-    ensures { IsTrue result → IsBracket (K.listed keys) q place }
+    ensures { IsTrue result ↔ IsBracket (K.listed keys) q place }
 {
     let count = keys.len();
     if place > count || (place > 0 && keys.at(place - 1) >= q) {

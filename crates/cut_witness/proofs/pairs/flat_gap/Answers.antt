@@ -4,8 +4,8 @@ use Rattle.exact_cross.proofs.CallerLemmas.{slice_index-rises}
 use Rattle.cut_witness.proofs.PairGaps.{small_sums}
 use Rattle.cut_witness.proofs.pairs.flat_gap.Goals as goal
 
-pub overflow_sub-xs : goal.overflow_sub-xs
-overflow_sub-xs c = omega (arith, slice_index-rises c.args.xs.now c.args.a c.args.b c.requires.rising c.requires.pair c.requires.to_end)
+pub overflow_sub-points : goal.overflow_sub-points
+overflow_sub-points c = omega (arith, slice_index-rises c.args.points.xs.now c.args.a c.args.b c.args.points.rising c.requires.pair c.requires.to_end)
 
 pub returns-clause-small : goal.returns-clause-small
 returns-clause-small c =

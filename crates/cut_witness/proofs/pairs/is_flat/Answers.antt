@@ -1,9 +1,9 @@
 -- A place that isn't allowed refuses the pair, and where each is allowed it is the pair.
 use Rattle.std.proofs.Common.{◌≡◌, ℕ, inl, inr, refl, sym, subst, arith}
 use Rattle.std.proofs.lemmas.Bool.{cases_lt}
-use Rattle.exact_cross.specs.Points.{points_of}
+use Rattle.exact_cross.specs.PointLists.{points_in}
 use Rattle.exact_cross.specs.Steep.{IsPair}
-use Rattle.exact_cross.proofs.CallerLemmas.{IsAscending-points_of}
+use Rattle.exact_cross.proofs.CallerLemmas.{IsAscending-points_in}
 use Rattle.cut_witness.specs.declared.pairs.Gap.{Gap}
 use Rattle.cut_witness.specs.Pairs.{flat_gap, Allows}
 use Rattle.cut_witness.proofs.PairGaps.{HasFlatPair-from_gaps, gaps-from_has_flat}
@@ -11,8 +11,8 @@ use Rattle.cut_witness.proofs.pairs.is_flat.Goals as goal
 
 pub returns-then-not-allows : goal.returns-then-not-allows
 returns-then-not-allows c =
-    let p = points_of c.args.xs.now c.args.ys.now in
-    let ascends = IsAscending-points_of c.args.xs.now c.args.ys.now c.requires.same_length c.requires.rising c.requires.never_falls in
+    let p = points_in c.args.points in
+    let ascends = IsAscending-points_in c.args.points in
     let pair : IsPair c.args.s c.args.e c.args.a c.args.b = record { from_start = c.if-a-s.false; rises = c.if-b-a.false; to_end = c.if-e-b.false } in
     record {
       exact = (
@@ -24,19 +24,19 @@ returns-then-not-allows c =
 
 pub loop-place-preserved : goal.loop-place-preserved
 loop-place-preserved c = λ j from to.
-    let here : Allows (flat_gap (points_of c.args.xs.now c.args.ys.now) c.args.eps c.args.a c.args.b c.loop-place.place) c.args.a c.args.b c.loop-place.place =
+    let here : Allows (flat_gap (points_in c.args.points) c.args.eps c.args.a c.args.b c.loop-place.place) c.args.a c.args.b c.loop-place.place =
     subst (λ (g : Gap). Allows g c.args.a c.args.b c.loop-place.place) c.flat_gap-gap.ensures.value (c.if-not-allows.ensures.exact.0 refl) in
     elim (cases_lt j c.loop-place.place) [
       | inl before ↦ c.loop-place.invariant j from before
       | inr last ↦
           let same : c.loop-place.place ≡ j = omega arith in
-          subst (λ (n : ℕ). Allows (flat_gap (points_of c.args.xs.now c.args.ys.now) c.args.eps c.args.a c.args.b n) c.args.a c.args.b n) same here
+          subst (λ (n : ℕ). Allows (flat_gap (points_in c.args.points) c.args.eps c.args.a c.args.b n) c.args.a c.args.b n) same here
     ]
 
 pub returns : goal.returns
 returns c =
-    let p = points_of c.args.xs.now c.args.ys.now in
-    let ascends = IsAscending-points_of c.args.xs.now c.args.ys.now c.requires.same_length c.requires.rising c.requires.never_falls in
+    let p = points_in c.args.points in
+    let ascends = IsAscending-points_in c.args.points in
     let pair : IsPair c.args.s c.args.e c.args.a c.args.b = record { from_start = c.if-a-s.false; rises = c.if-b-a.false; to_end = c.if-e-b.false } in
     record {
       exact = (
