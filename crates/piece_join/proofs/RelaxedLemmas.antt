@@ -8,7 +8,8 @@ use Rattle.std.proofs.lemmas.List.Elements.{All-tail}
 use Rattle.std.specs.List.Sorted.{IsStrictlyIncreasing}
 use Rattle.exact_cross.specs.declared.segment.Witness.{Witness}
 use Rattle.exact_cross.specs.declared.segment.Segment.{Segment}
-use Rattle.exact_cross.specs.Points.{Points, IsAscending, points_of}
+use Rattle.exact_cross.specs.Points.{Points, IsAscending}
+use Rattle.exact_cross.specs.PointLists.{points_in}
 use Rattle.exact_cross.specs.Lines.{SomeLineFits}
 use Rattle.exact_cross.specs.Covers.{run_end, IsCover, IsGreedy, IsLongest}
 use Rattle.exact_cross.specs.Segments.{starts_of, EachRun, IsSteepSegment, IsFitted}
@@ -174,13 +175,13 @@ IsRelaxed-push p eps from at to (cut ∷ later) segments piece (first, rest, is,
 
 -- the pieces up to one of a number, by those before it
 pub IsRelaxed-next : (work : Work) (number : ℕ) (segments piece : List Segment) → number < length work.cuts.now + 1 → (number ≡ 0 → segments ≡ []) →
-    ((k : ℕ) → number ≡ suc k → IsRelaxed (points_of work.xs.now work.ys.now) work.eps 0 (edge_of (length work.xs.now) work.cuts.now number) (take k work.cuts.now) segments) →
-    IsPart work number piece → IsRelaxed (points_of work.xs.now work.ys.now) work.eps 0 (edge_of (length work.xs.now) work.cuts.now (number + 1)) (take number work.cuts.now) (segments ++ piece)
+    ((k : ℕ) → number ≡ suc k → IsRelaxed (points_in work.points) work.eps 0 (edge_of (length work.points.xs.now) work.cuts.now number) (take k work.cuts.now) segments) →
+    IsPart work number piece → IsRelaxed (points_in work.points) work.eps 0 (edge_of (length work.points.xs.now) work.cuts.now (number + 1)) (take number work.cuts.now) (segments ++ piece)
 IsRelaxed-next work zero segments piece inside none so_far own = rw (none refl) own
 IsRelaxed-next work (suc k) segments piece inside none so_far own =
-    let m = length work.xs.now in
+    let m = length work.points.xs.now in
     let cuts = work.cuts.now in
-    let p = points_of work.xs.now work.ys.now in
+    let p = points_in work.points in
     let at : edge_of m cuts (suc k) ≡ slice_index cuts k = get_or_append_left cuts (m ∷ []) 0 k (omega arith) in
     let all : take (suc k) cuts ≡ take k cuts ++ edge_of m cuts (suc k) ∷ [] =
     ap (λ n. take n cuts) (sym (add-one k)) ∙ take_more cuts k 0 (omega arith) ∙ ap (λ c. take k cuts ++ c ∷ []) (sym at) in

@@ -1,7 +1,7 @@
 -- The pieces between cuts. No public clause cites them.
 use Rattle.std.specs.Prelude.{ℕ, ◌+◌, ◌≤◌, List, [], ◌∷◌, ◌++◌, length, slice_index}
 use Rattle.exact_cross.specs.declared.segment.Segment.{Segment}
-use Rattle.exact_cross.specs.Points.{points_of}
+use Rattle.exact_cross.specs.PointLists.{points_in}
 use Rattle.exact_cross.specs.Segmentation.{IsSegmentation}
 use Rattle.piece_join.specs.declared.work.Work.{Work}
 
@@ -12,7 +12,7 @@ edge_of m cuts i = slice_index (0 ∷ cuts ++ m ∷ []) i
 -- the segments of piece i by itself
 abbrev pub IsPart : Work → ℕ → List Segment → Type 0
 IsPart work i segments =
-    IsSegmentation (points_of work.xs.now work.ys.now) work.eps (edge_of (length work.xs.now) work.cuts.now i) (edge_of (length work.xs.now) work.cuts.now (i + 1)) segments
+    IsSegmentation (points_in work.points) work.eps (edge_of (length work.points.xs.now) work.cuts.now i) (edge_of (length work.points.xs.now) work.cuts.now (i + 1)) segments
 
 -- a piece: of which work, its number, and its segments
 pub record Pieced : Type 0 where

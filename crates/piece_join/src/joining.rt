@@ -1,14 +1,13 @@
 // Joining: from the last run known to be right until a run ends at a start of the next piece.
-ghost use Rattle.std.specs.List.Sorted.{IsStrictlyIncreasing, IsNonDecreasing};
 ghost use Rattle.std.specs.Prelude.{◌≡◌, ℕ, ◌+◌, ◌*◌, ◌<◌, ◌≤◌, ◌^◌, List, length, IfOk};
 ghost use Rattle.exact_cross.specs.declared.segment.Segment.{Segment};
-ghost use Rattle.exact_cross.specs.Points.{points_of};
+ghost use Rattle.exact_cross.specs.PointLists.{points_in};
 ghost use Rattle.exact_cross.specs.Segmentation.{IsSegmentation};
 ghost use Rattle.hulls.specs.Hulls.{room_of, bound_of};
 ghost use Rattle.piece_join.specs.Joined.{IsBegun};
 
 use budget::{NoMemory, Steps};
-use exact_cross::{MAX_EPSILON, Segment};
+use exact_cross::{MAX_EPSILON, PointList, Segment};
 use hulls::Hulls;
 use segmenter::run::longest_run;
 use std::alloc::Global;
@@ -30,41 +29,35 @@ use std::sync::ledger::{Blank, Ledger};
 /// run take.
 pub fn join(
     alloc: Global,
-    xs: &[u64],
-    ys: &[u32],
+    points: PointList<'_>,
     eps: u32,
     left: Vec<Segment>,
     right: &[Segment],
     edge: u32,
     to: u32,
 ) -> Result<Vec<Segment>, NoMemory>
-    requires same_length { length ys.now ≡ length xs.now }
-    requires rising { IsStrictlyIncreasing xs.now }
-    requires never_falls { IsNonDecreasing ys.now }
-    requires few { length xs.now < 2 ^ 32 }
     requires bounded { eps ≤ MAX_EPSILON }
     requires some { 1 ≤ edge }
     requires edge { edge ≤ to }
-    requires within { to ≤ length xs.now }
-    requires left { IsSegmentation (points_of xs.now ys.now) eps 0 edge left.items }
-    requires right { IsSegmentation (points_of xs.now ys.now) eps edge to right.now }
+    requires within { to ≤ length points.xs.now }
+    requires left { IsSegmentation (points_in points) eps 0 edge left.items }
+    requires right { IsSegmentation (points_in points) eps edge to right.now }
     ensures segmentation { IfOk result
-        (λ segments. IsSegmentation (points_of xs.now ys.now) eps 0 to segments.items) }
+        (λ segments. IsSegmentation (points_in points.entry) eps 0 to segments.items) }
     // It is the list that segmenting all of 0..to gives.
     ensures one_list { IfOk result (λ segments. (others : List Segment) →
-        IsSegmentation (points_of xs.now ys.now) eps 0 to others → segments.items ≡ others) }
+        IsSegmentation (points_in points.entry) eps 0 to others → segments.items ≡ others) }
 {
     if edge == to {
         return Ok(left);
     }
-    join_from::<Brand>(alloc, xs, ys, eps, left, right, edge, to, Blank::new(1))
+    join_from::<Brand>(alloc, points, eps, left, right, edge, to, Blank::new(1))
 }
 
 /// The same where the right has a place, with a counter of its own from a new ledger.
 fn join_from<L: Ledger>(
     alloc: Global,
-    xs: &[u64],
-    ys: &[u32],
+    points: PointList<'_>,
     eps: u32,
     left: Vec<Segment>,
     right: &[Segment],
@@ -72,21 +65,17 @@ fn join_from<L: Ledger>(
     to: u32,
     blank: Blank,
 ) -> Result<Vec<Segment>, NoMemory>
-    requires same_length { length ys.now ≡ length xs.now }
-    requires rising { IsStrictlyIncreasing xs.now }
-    requires never_falls { IsNonDecreasing ys.now }
-    requires few { length xs.now < 2 ^ 32 }
     requires bounded { eps ≤ MAX_EPSILON }
     requires some { 1 ≤ edge }
     requires edge { edge < to }
-    requires within { to ≤ length xs.now }
-    requires left { IsSegmentation (points_of xs.now ys.now) eps 0 edge left.items }
-    requires right { IsSegmentation (points_of xs.now ys.now) eps edge to right.now }
+    requires within { to ≤ length points.xs.now }
+    requires left { IsSegmentation (points_in points) eps 0 edge left.items }
+    requires right { IsSegmentation (points_in points) eps edge to right.now }
     requires name { blank.name ≡ L.name }
     requires parts { blank.parts ≡ L.parts }
     requires one { blank.parts ≡ 1 }
     ensures { IfOk result
-        (λ segments. IsSegmentation (points_of xs.now ys.now) eps 0 to segments.items) }
+        (λ segments. IsSegmentation (points_in points.entry) eps 0 to segments.items) }
 {
     let mut steps = Steps::<L>::new(blank);
     let mut joined = left;
@@ -96,8 +85,7 @@ fn join_from<L: Ledger>(
     let mut hulls = Hulls::new(alloc, eps, to)?;
     go_on(
         &mut hulls,
-        xs,
-        ys,
+        points,
         &mut joined,
         last.start,
         right,
@@ -115,8 +103,7 @@ fn join_from<L: Ledger>(
 /// by is fitted once at most, at 10 steps.
 pub fn go_on<L: Ledger>(
     hulls: &mut Hulls,
-    xs: &[u64],
-    ys: &[u32],
+    points: PointList<'_>,
     joined: &mut Vec<Segment>,
     at: u32,
     piece: &[Segment],
@@ -124,20 +111,16 @@ pub fn go_on<L: Ledger>(
     to: u32,
     steps: &mut Steps<L>,
 ) -> Result<u32, NoMemory>
-    requires same_length { length ys.now ≡ length xs.now }
-    requires rising { IsStrictlyIncreasing xs.now }
-    requires never_falls { IsNonDecreasing ys.now }
-    requires few { length xs.now < 2 ^ 32 }
     requires bounded { bound_of hulls.old ≤ MAX_EPSILON }
     requires at { at ≤ to }
     requires end { end ≤ to }
-    requires within { to ≤ length xs.now }
+    requires within { to ≤ length points.xs.now }
     requires room { to ≤ room_of hulls.old }
-    requires begun { IsBegun (points_of xs.now ys.now)
+    requires begun { IsBegun (points_in points)
         (bound_of hulls.old) 0 to at joined.old.items }
     requires piece { (from : ℕ) ×
-        IsSegmentation (points_of xs.now ys.now) (bound_of hulls.old) from end piece.now }
-    ensures begun { IfOk result (λ place. IsBegun (points_of xs.now ys.now)
+        IsSegmentation (points_in points) (bound_of hulls.old) from end piece.now }
+    ensures begun { IfOk result (λ place. IsBegun (points_in points.entry)
         (bound_of hulls.old) 0 to place joined.new.items) }
     ensures within { IfOk result (λ place. place ≤ to) }
     ensures whole { IfOk result (λ place. end ≡ to → place ≡ to) }
@@ -151,9 +134,9 @@ pub fn go_on<L: Ledger>(
         next = first_from(piece, next, at);
         if next < piece.len() && piece[next].start == at {
             let rest = &piece[next..];
-            return take_rest(hulls, xs, ys, joined, rest, end, to, steps);
+            return take_rest(hulls, points, joined, rest, end, to, steps);
         }
-        at = add_run(hulls, xs, ys, joined, at, to, steps)?;
+        at = add_run(hulls, points, joined, at, to, steps)?;
     }
     Ok(at)
 }
@@ -174,32 +157,27 @@ fn first_from(segments: &[Segment], next: usize, at: u32) -> usize {
 /// the last one.
 fn take_rest<L: Ledger>(
     hulls: &mut Hulls,
-    xs: &[u64],
-    ys: &[u32],
+    points: PointList<'_>,
     joined: &mut Vec<Segment>,
     rest: &[Segment],
     end: u32,
     to: u32,
     steps: &mut Steps<L>,
 ) -> Result<u32, NoMemory>
-    requires same_length { length ys.now ≡ length xs.now }
-    requires rising { IsStrictlyIncreasing xs.now }
-    requires never_falls { IsNonDecreasing ys.now }
-    requires few { length xs.now < 2 ^ 32 }
     requires bounded { bound_of hulls.old ≤ MAX_EPSILON }
     requires end { end ≤ to }
-    requires within { to ≤ length xs.now }
+    requires within { to ≤ length points.xs.now }
     requires room { to ≤ room_of hulls.old }
     requires some { 0 < length rest.now }
     requires meets { (at : ℕ) ×
-        IsBegun (points_of xs.now ys.now) (bound_of hulls.old) 0 to at joined.old.items ×
-        IsSegmentation (points_of xs.now ys.now) (bound_of hulls.old) at end rest.now }
-    ensures begun { IfOk result (λ place. IsBegun (points_of xs.now ys.now)
+        IsBegun (points_in points) (bound_of hulls.old) 0 to at joined.old.items ×
+        IsSegmentation (points_in points) (bound_of hulls.old) at end rest.now }
+    ensures begun { IfOk result (λ place. IsBegun (points_in points.entry)
         (bound_of hulls.old) 0 to place joined.new.items) }
     ensures within { IfOk result (λ place. place ≤ to) }
     ensures whole { IfOk result (λ place. end ≡ to → place ≡ to) }
     ensures cost { IfOk result (λ place. (at : ℕ) →
-        IsSegmentation (points_of xs.now ys.now) (bound_of hulls.old) at end rest.now →
+        IsSegmentation (points_in points.entry) (bound_of hulls.old) at end rest.now →
         steps.new + 10 * at ≤ steps.old + 10 * place) }
     ensures room { room_of hulls.old ≤ room_of hulls.new }
     ensures bound { bound_of hulls.new ≡ bound_of hulls.old }
@@ -210,30 +188,25 @@ fn take_rest<L: Ledger>(
     }
     let last = rest.len() - 1;
     joined.extend_from_slice(&rest[..last])?;
-    add_run(hulls, xs, ys, joined, rest[last].start, to, steps)
+    add_run(hulls, points, joined, rest[last].start, to, steps)
 }
 
 /// Adds the longest run from the place, and says where it ends.
 fn add_run<L: Ledger>(
     hulls: &mut Hulls,
-    xs: &[u64],
-    ys: &[u32],
+    points: PointList<'_>,
     joined: &mut Vec<Segment>,
     at: u32,
     to: u32,
     steps: &mut Steps<L>,
 ) -> Result<u32, NoMemory>
-    requires same_length { length ys.now ≡ length xs.now }
-    requires rising { IsStrictlyIncreasing xs.now }
-    requires never_falls { IsNonDecreasing ys.now }
-    requires few { length xs.now < 2 ^ 32 }
     requires bounded { bound_of hulls.old ≤ MAX_EPSILON }
     requires at { at < to }
-    requires within { to ≤ length xs.now }
+    requires within { to ≤ length points.xs.now }
     requires room { to ≤ room_of hulls.old }
-    requires begun { IsBegun (points_of xs.now ys.now)
+    requires begun { IsBegun (points_in points)
         (bound_of hulls.old) 0 to at joined.old.items }
-    ensures begun { IfOk result (λ place. IsBegun (points_of xs.now ys.now)
+    ensures begun { IfOk result (λ place. IsBegun (points_in points.entry)
         (bound_of hulls.old) 0 to place joined.new.items) }
     ensures further { IfOk result (λ place. at < place) }
     ensures within { IfOk result (λ place. place ≤ to) }
@@ -241,7 +214,7 @@ fn add_run<L: Ledger>(
     ensures room { room_of hulls.old ≤ room_of hulls.new }
     ensures bound { bound_of hulls.new ≡ bound_of hulls.old }
 {
-    let run = longest_run(hulls, xs, ys, at, to, steps);
+    let run = longest_run(hulls, points, at, to, steps);
     joined.push(run.segment)?;
     Ok(run.end)
 }

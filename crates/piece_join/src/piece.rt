@@ -52,7 +52,7 @@ impl<'a> Piece<'a> {
         let from = of.edge(number);
         let to = of.edge(number + 1);
         gate.at(Place::PieceBegun(number));
-        let segments = segment(alloc, of.xs, of.ys, of.eps, from, to)?;
+        let segments = segment(alloc, of.points, of.eps, from, to)?;
         gate.at(Place::PieceDone(number));
         Ok(Piece {
             of,

@@ -1,9 +1,8 @@
 // Segmentation by pieces.
-ghost use Rattle.std.specs.List.Sorted.{IsStrictlyIncreasing, IsNonDecreasing};
 ghost use Rattle.std.specs.Prelude.{◌≡◌, ℕ, ◌+◌, ◌*◌, ◌<◌, ◌≤◌, ◌^◌, List, length, vec_len};
 ghost use Rattle.std.specs.Prelude.{All, IfOk, OnOk};
 ghost use Rattle.exact_cross.specs.declared.segment.Segment.{Segment};
-ghost use Rattle.exact_cross.specs.Points.{points_of};
+ghost use Rattle.exact_cross.specs.PointLists.{points_in};
 ghost use Rattle.exact_cross.specs.Segmentation.{IsSegmentation};
 ghost use Rattle.claims.specs.Claims.{IsFresh, times};
 ghost use Rattle.piece_join.specs.Cuttings.{AreCuts};
@@ -17,7 +16,7 @@ use crate::worker::{Worked, work_on};
 use budget::{NoMemory, Steps};
 use claims::{Claims, Seat};
 use edge::Gate;
-use exact_cross::{MAX_EPSILON, Segment};
+use exact_cross::{MAX_EPSILON, PointList, Segment};
 use hulls::Hulls;
 use std::alloc::Global;
 use std::marker::Brand;
@@ -51,30 +50,25 @@ use std::thread::Threads;
 pub fn segment_in_pieces<R: Threads + Sync, G: Gate>(
     rt: &R,
     alloc: Global,
-    xs: &[u64],
-    ys: &[u32],
+    points: PointList<'_>,
     eps: u32,
     cuts: &[u32],
     workers: u32,
     gate: &G,
 ) -> Result<Vec<Segment>, NoMemory>
-    requires same_length { length ys.now ≡ length xs.now }
-    requires rising { IsStrictlyIncreasing xs.now }
-    requires never_falls { IsNonDecreasing ys.now }
-    requires few { length xs.now < 2 ^ 32 }
     requires bounded { eps ≤ MAX_EPSILON }
-    requires cuts { AreCuts (length xs.now) cuts.now }
+    requires cuts { AreCuts (length points.xs.now) cuts.now }
     requires few_cuts { length cuts.now ≤ 65535 }
     requires staffed { 1 ≤ workers }
     requires few_workers { workers ≤ 64 }
     ensures segmentation { IfOk result (λ segments.
-        IsSegmentation (points_of xs.now ys.now) eps 0 (length xs.now) segments.items) }
+        IsSegmentation (points_in points.entry) eps 0 (length points.entry.xs.now) segments.items) }
     // It is the list that one thread makes of all points.
     ensures one_list { IfOk result (λ segments. (others : List Segment) →
-        IsSegmentation (points_of xs.now ys.now) eps 0 (length xs.now) others →
+        IsSegmentation (points_in points.entry) eps 0 (length points.entry.xs.now) others →
         segments.items ≡ others) }
 {
-    let work = Work { xs, ys, eps, cuts };
+    let work = Work { points, eps, cuts };
     let parts = all_parts(rt, alloc, &work, workers, gate)?;
     joined_from::<Brand>(alloc, &work, &parts, Blank::new(1))
 }
@@ -188,8 +182,8 @@ fn joined_from<L: Ledger>(
     requires name { blank.name ≡ L.name }
     requires parts { blank.parts ≡ L.parts }
     requires one { blank.parts ≡ 1 }
-    ensures { IfOk result (λ segments. IsSegmentation (points_of work.now.xs.now work.now.ys.now)
-        work.now.eps 0 (length work.now.xs.now) segments.items) }
+    ensures { IfOk result (λ segments. IsSegmentation (points_in work.now.points)
+        work.now.eps 0 (length work.now.points.xs.now) segments.items) }
 {
     let mut steps = Steps::<L>::new(blank);
     joined(alloc, work, parts, &mut steps)
@@ -204,9 +198,9 @@ fn joined<L: Ledger>(
 ) -> Result<Vec<Segment>, NoMemory>
     requires { ArePlaced work.now parts.now }
     ensures whole { IfOk result
-        (λ segments. IsSegmentation (points_of work.now.xs.now work.now.ys.now)
-        work.now.eps 0 (length work.now.xs.now) segments.items) }
-    ensures cost { OnOk result (steps.new ≤ steps.old + 10 * length work.now.xs.now) }
+        (λ segments. IsSegmentation (points_in work.now.points)
+        work.now.eps 0 (length work.now.points.xs.now) segments.items) }
+    ensures cost { OnOk result (steps.new ≤ steps.old + 10 * length work.now.points.xs.now) }
 {
     let to = work.len();
     let mut whole = Vec::with_capacity(alloc, count_of(parts))?;
@@ -216,7 +210,14 @@ fn joined<L: Ledger>(
         let piece = &parts[number as usize];
         let end = work.edge(number + 1);
         at = go_on(
-            &mut hulls, work.xs, work.ys, &mut whole, at, piece, end, to, steps,
+            &mut hulls,
+            work.points,
+            &mut whole,
+            at,
+            piece,
+            end,
+            to,
+            steps,
         )?;
     }
     Ok(whole)

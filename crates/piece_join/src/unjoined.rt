@@ -1,8 +1,7 @@
 // Pieces put side by side.
-ghost use Rattle.std.specs.List.Sorted.{IsStrictlyIncreasing, IsNonDecreasing};
 ghost use Rattle.std.specs.Prelude.{◌≡◌, ◌+◌, ◌<◌, ◌≤◌, ◌^◌, List, length, IfOk};
 ghost use Rattle.exact_cross.specs.declared.segment.Segment.{Segment};
-ghost use Rattle.exact_cross.specs.Points.{points_of};
+ghost use Rattle.exact_cross.specs.PointLists.{points_in};
 ghost use Rattle.exact_cross.specs.Checked.{AreShown, uncut};
 ghost use Rattle.piece_join.specs.Cuttings.{AreCuts};
 ghost use Rattle.piece_join.specs.Relaxed.{IsRelaxed};
@@ -12,7 +11,7 @@ use crate::pieces::{all_parts, count_of};
 use crate::work::Work;
 use budget::NoMemory;
 use edge::Gate;
-use exact_cross::{MAX_EPSILON, Segment};
+use exact_cross::{MAX_EPSILON, PointList, Segment};
 use std::alloc::Global;
 use std::thread::Threads;
 
@@ -29,35 +28,30 @@ use std::thread::Threads;
 pub fn relaxed<R: Threads + Sync, G: Gate>(
     rt: &R,
     alloc: Global,
-    xs: &[u64],
-    ys: &[u32],
+    points: PointList<'_>,
     eps: u32,
     cuts: &[u32],
     workers: u32,
     gate: &G,
 ) -> Result<Vec<Segment>, NoMemory>
-    requires same_length { length ys.now ≡ length xs.now }
-    requires rising { IsStrictlyIncreasing xs.now }
-    requires never_falls { IsNonDecreasing ys.now }
-    requires few { length xs.now < 2 ^ 32 }
     requires bounded { eps ≤ MAX_EPSILON }
-    requires cuts { AreCuts (length xs.now) cuts.now }
+    requires cuts { AreCuts (length points.xs.now) cuts.now }
     requires few_cuts { length cuts.now ≤ 65535 }
     requires staffed { 1 ≤ workers }
     requires few_workers { workers ≤ 64 }
     ensures relaxed { IfOk result (λ segments. IsRelaxed
-        (points_of xs.now ys.now) eps 0 (length xs.now) cuts.now segments.items) }
+        (points_in points.entry) eps 0 (length points.entry.xs.now) cuts.now segments.items) }
     // It is the list that one thread makes of the pieces.
     ensures one_list { IfOk result (λ segments. (others : List Segment) → IsRelaxed
-        (points_of xs.now ys.now) eps 0 (length xs.now) cuts.now others →
+        (points_in points.entry) eps 0 (length points.entry.xs.now) cuts.now others →
         segments.items ≡ others) }
     // They show that they are a cover, and how many runs too many it may have.
     ensures shown { IfOk result (λ segments.
-        AreShown (points_of xs.now ys.now) eps segments.items) }
-    ensures slack { IfOk result (λ segments. 0 < length xs.now →
+        AreShown (points_in points.entry) eps segments.items) }
+    ensures slack { IfOk result (λ segments. 0 < length points.entry.xs.now →
         uncut segments.items ≡ length cuts.now + 1) }
 {
-    let work = Work { xs, ys, eps, cuts };
+    let work = Work { points, eps, cuts };
     let parts = all_parts(rt, alloc, &work, workers, gate)?;
     side_by_side(alloc, &work, &parts)
 }
@@ -69,8 +63,8 @@ fn side_by_side(
     parts: &[Vec<Segment>],
 ) -> Result<Vec<Segment>, NoMemory>
     requires { ArePlaced work.now parts.now }
-    ensures { IfOk result (λ segments. IsRelaxed (points_of work.now.xs.now work.now.ys.now)
-        work.now.eps 0 (length work.now.xs.now) work.now.cuts.now segments.items) }
+    ensures { IfOk result (λ segments. IsRelaxed (points_in work.now.points)
+        work.now.eps 0 (length work.now.points.xs.now) work.now.cuts.now segments.items) }
 {
     let mut whole = Vec::with_capacity(alloc, count_of(parts))?;
     for number in 0..work.pieces() {

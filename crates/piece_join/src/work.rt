@@ -1,21 +1,17 @@
 // What all workers share: the points and their cuts.
-ghost use Rattle.std.specs.Prelude.{◌≡◌, ◌^◌, ◌<◌, ◌≤◌, length};
-ghost use Rattle.std.specs.List.Sorted.{IsStrictlyIncreasing, IsNonDecreasing};
+ghost use Rattle.std.specs.Prelude.{◌≡◌, ◌≤◌, length};
 ghost use Rattle.piece_join.specs.Cuttings.{AreCuts};
+
+use exact_cross::PointList;
 
 /// Points, an error bound and the cuts between the pieces.
 #[derive(Drop)]
 pub struct Work<'a> {
-    pub xs: &'a [u64],
-    pub ys: &'a [u32],
+    pub points: PointList<'a>,
     pub eps: u32,
     pub cuts: &'a [u32],
-    ghost same_length: { length ys.now ≡ length xs.now },
-    ghost rising: { IsStrictlyIncreasing xs.now },
-    ghost never_falls: { IsNonDecreasing ys.now },
-    ghost few: { length xs.now < 2 ^ 32 },
     ghost bounded: { eps ≤ 1048576 },
-    ghost inside: { AreCuts (length xs.now) cuts.now },
+    ghost inside: { AreCuts (length points.xs.now) cuts.now },
     ghost few_cuts: { length cuts.now ≤ 65535 },
 }
 
@@ -25,9 +21,9 @@ impl<'a> Work<'a> {
 
     /// How many places there are.
     pub fn len(&self) -> u32
-        ensures { result ≡ length self.now.xs.now }
+        ensures { result ≡ length self.now.points.xs.now }
     {
-        self.xs.len() as u32
+        self.points.xs.len() as u32
     }
 
     /// How many pieces there are.
@@ -40,7 +36,7 @@ impl<'a> Work<'a> {
     /// Where the piece of this number begins, and the one before it ends.
     pub fn edge(&self, number: u32) -> u32
         requires { number ≤ length self.now.cuts.now + 1 }
-        ensures { result ≡ edge_of (length self.now.xs.now) self.now.cuts.now number }
+        ensures { result ≡ edge_of (length self.now.points.xs.now) self.now.cuts.now number }
     {
         if number == 0 {
             return 0;

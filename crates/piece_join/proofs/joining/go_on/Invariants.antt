@@ -1,13 +1,13 @@
 -- The segments so far reach to the place, and the hulls keep their room and their bound.
 use Rattle.std.proofs.Common.{◌≡◌, ◌+◌, ◌-◌, ◌*◌, ◌≤◌}
-use Rattle.exact_cross.specs.Points.{points_of}
+use Rattle.exact_cross.specs.PointLists.{points_in}
 use Rattle.hulls.specs.Hulls.{room_of, bound_of}
 use Rattle.piece_join.specs.Joined.{IsBegun}
 use Rattle.piece_join.proofs.joining.go_on.Given as goal
 
 abbrev pub invariant-loop-at : goal.invariant-loop-at
 invariant-loop-at g l = record {
-  begun : IsBegun (points_of l.xs l.ys) (bound_of l.fn.hulls) 0 l.to l.at l.joined.items;
+  begun : IsBegun (points_in l.points) (bound_of l.fn.hulls) 0 l.to l.at l.joined.items;
   within : l.at ≤ l.to;
   room : room_of l.fn.hulls ≤ room_of l.hulls;
   bound : bound_of l.hulls ≡ bound_of l.fn.hulls;

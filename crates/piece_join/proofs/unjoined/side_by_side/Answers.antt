@@ -2,7 +2,7 @@
 use Rattle.std.proofs.Common.{◌<◌, ◌++◌, ◌≡◌, ℕ, ◌+◌, List, Vec, Global, length, take, sym, ap, subst, arith, ◌∙◌, add-one}
 use Rattle.std.proofs.lemmas.List.{take_all}
 use Rattle.exact_cross.specs.declared.segment.Segment.{Segment}
-use Rattle.exact_cross.specs.Points.{points_of}
+use Rattle.exact_cross.specs.PointLists.{points_in}
 use Rattle.piece_join.specs.Pieces.{edge_of}
 use Rattle.piece_join.specs.Relaxed.{IsRelaxed}
 use Rattle.piece_join.proofs.CutLemmas.{edge_last}
@@ -13,8 +13,8 @@ pub loop-number-preserved : goal.loop-number-preserved
 loop-number-preserved c =
     let work = c.args.work.now in
     let number = c.loop-number.number in
-    let p = points_of work.xs.now work.ys.now in
-    let m = length work.xs.now in
+    let p = points_in work.points in
+    let m = length work.points.xs.now in
     let inside : number < length work.cuts.now + 1 = omega (arith, c.loop-number-test.true, c.pieces-number-end.ensures) in
     let part = c.requires.each number (omega (arith, inside, c.requires.count)) c.index-parts-number.result in
     let next = IsRelaxed-next work number c.loop-number.whole.items _ inside c.loop-number.invariant.none c.loop-number.invariant.some part in
@@ -31,8 +31,8 @@ pub returns : goal.returns
 returns c =
     let work = c.args.work.now in
     let cuts = work.cuts.now in
-    let p = points_of work.xs.now work.ys.now in
-    let m = length work.xs.now in
+    let p = points_in work.points in
+    let m = length work.points.xs.now in
     let all : c.loop-number.number ≡ length cuts + 1 = omega (arith, c.loop-number-test.false, c.loop-number.auto.number-end, c.pieces-number-end.ensures) in
     let so_far = c.loop-number.invariant.some (length cuts) (all ∙ add-one (length cuts)) in
     let end : edge_of m cuts c.loop-number.number ≡ m = edge_last _ _ cuts all in
