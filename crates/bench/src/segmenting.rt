@@ -5,7 +5,7 @@ ghost use Rattle.std.specs.List.Sorted.{IsStrictlyIncreasing, IsNonDecreasing};
 use crate::shared::{ROUNDS, error_bound, keys_of, least_of, number};
 use anyhow::{Result, bail, ensure};
 use edge::OpenGate;
-use exact_cross::{MAX_EPSILON, Segment};
+use exact_cross::{MAX_EPSILON, PointList, Segment};
 use piece_join::{segment_in_pieces, uneven_cuts};
 use segmenter::segment;
 use std::alloc::{AllocError, Global};
@@ -78,7 +78,13 @@ impl Job {
         requires range { from ≤ to }
         requires within { to ≤ length self.now.xs.items }
     {
-        segment(alloc, &self.xs, &self.ys, self.eps, from, to)
+        segment(alloc, self.points(), self.eps, from, to)
+    }
+
+    fn points(&self) -> PointList<'_>
+        ensures { result.xs.now ≡ self.now.xs.items }
+    {
+        PointList::new(&self.xs, &self.ys)
     }
 
     /// How many segments all points have.
@@ -87,20 +93,15 @@ impl Job {
         Ok(segments.len())
     }
 
-    /// The same by uneven pieces and workers.
+    /// How many segments uneven pieces by workers give.
     fn count_in_pieces<R: Threads + Sync>(
         &self,
         rt: &R,
         alloc: Global,
     ) -> Result<usize, AllocError> {
-        let Job {
-            xs,
-            ys,
-            eps,
-            workers,
-        } = self;
-        let cuts = uneven_cuts(alloc, self.len(), *workers)?;
-        let joined = segment_in_pieces(rt, alloc, xs, ys, *eps, &cuts, *workers, &OpenGate)?;
+        let (points, workers) = (self.points(), self.workers);
+        let cuts = uneven_cuts(alloc, self.len(), workers)?;
+        let joined = segment_in_pieces(rt, alloc, points, self.eps, &cuts, workers, &OpenGate)?;
         Ok(joined.len())
     }
 

@@ -1,9 +1,9 @@
 //! What the rows of several crates need.
-ghost use Rattle.std.specs.Prelude.{◌≡◌, IsTrue};
+ghost use Rattle.std.specs.Prelude.{◌≡◌, ◌<◌, IsTrue, length};
 ghost use Rattle.std.specs.List.Sorted.{IsStrictlyIncreasing, IsNonDecreasing};
 
 use budget::NoMemory;
-use exact_cross::MAX_EPSILON;
+use exact_cross::{MAX_EPSILON, PointList};
 use key_points::is_sorted;
 use levels::{Index, Keys};
 use std::process::Abort;
@@ -45,12 +45,27 @@ pub fn never_falls(ys: &[u32]) -> bool
     true
 }
 
+/// The x and the y of points.
+pub type Points<'a> = (&'a [u64], &'a [u32]);
+
+/// Fewer than 100 points of these x and y, asserted to be such.
+pub fn points_of<'a>(rt: &impl Abort, points: Points<'a>) -> PointList<'a>
+    ensures xs { result.xs.now ≡ points.0.now }
+    ensures few { length points.0.now < 100 }
+{
+    let (xs, ys) = points;
+    assert!(rt; ys.len() == xs.len() && xs.len() < 100);
+    assert!(rt; rises(xs));
+    assert!(rt; never_falls(ys));
+    PointList::new(xs, ys)
+}
+
 /// Fails with what was asked, where it wasn't answered as wanted.
 pub fn expect<R: Abort>(rt: &R, name: &str, same: bool) {
     assert!(rt; same, "{name}");
 }
 
-/// The same of keys.
+/// Fails with what was asked of keys, where it wasn't answered as wanted.
 pub fn expect_of<R: Abort>(rt: &R, name: &str, keys: &[u64], same: bool) {
     assert!(rt; same, "{name} of {keys:?}");
 }

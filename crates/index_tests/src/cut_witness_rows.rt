@@ -1,18 +1,14 @@
 // Worked lists: which places are witnesses and which segments pass was found by hand from the
 // definitions.
-use crate::common::expect_of;
-use crate::piece_join_rows::expect_points;
+use crate::common::{Points, expect_of, points_of};
 use cut_witness::{check_cover, holds, is_flat, is_steep, slack};
 use exact_cross::{Line, Segment, Side, Witness};
 use std::process::Abort;
 
-/// Points, their x and their y.
-type Points = (&'static [u64], &'static [u32]);
-
-const FOUR: Points = (&[0, 1, 2, 10], &[0, 1, 2, 3]);
+const FOUR: Points<'static> = (&[0, 1, 2, 10], &[0, 1, 2, 3]);
 
 /// Points, the error bound, three places with the side of the last one, and whether they hold.
-type HoldsRow = (Points, u32, (u32, u32, u32, Side), bool);
+type HoldsRow = (Points<'static>, u32, (u32, u32, u32, Side), bool);
 
 static HOLDS: [HoldsRow; 13] = [
     // At the key 1 the chord from 0 to 10 stands at 0.3, below the rank 1.
@@ -35,11 +31,11 @@ static HOLDS: [HoldsRow; 13] = [
     (LEAP, 1, (0, 1, 2, Side::Under), false),
 ];
 
-const LATE: Points = (&[0, 8, 9], &[0, 1, 2]);
+const LATE: Points<'static> = (&[0, 8, 9], &[0, 1, 2]);
 
-const FLAT: Points = (&[0, 2, 4], &[5, 5, 9]);
+const FLAT: Points<'static> = (&[0, 2, 4], &[5, 5, 9]);
 
-const LEAP: Points = (&[0, 2, 4], &[5, 9, 9]);
+const LEAP: Points<'static> = (&[0, 2, 4], &[5, 9, 9]);
 
 /// Fails with the numbers of a row.
 fn expect_numbers<R: Abort>(rt: &R, name: &str, numbers: &[u32; 4], same: bool) {
@@ -47,10 +43,10 @@ fn expect_numbers<R: Abort>(rt: &R, name: &str, numbers: &[u32; 4], same: bool) 
 }
 
 fn expect_holds<R: Abort>(rt: &R, row: &HoldsRow) {
-    let ((xs, ys), eps, (p, q, r, side), want) = *row;
-    expect_points(rt, xs, ys);
+    let (points, eps, (p, q, r, side), want) = *row;
+    let points = points_of(rt, points);
     assert!(rt; eps <= 1_048_576);
-    let found = holds(&Witness { p, q, r, side }, xs, ys, eps);
+    let found = holds(&Witness { p, q, r, side }, points, eps);
     expect_numbers(rt, "witness and bound", &[p, q, r, eps], found == want);
 }
 
@@ -154,7 +150,13 @@ const OF_ONE_POINT: Segment = Segment {
 };
 
 /// Points, the error bound, segments, and the slack that they show.
-type SlackRow = (&'static str, Points, u32, &'static [Segment], Option<u32>);
+type SlackRow = (
+    &'static str,
+    Points<'static>,
+    u32,
+    &'static [Segment],
+    Option<u32>,
+);
 
 static COVERS: [SlackRow; 12] = [
     ("the cover", FOUR, 0, &[FIRST, LAST], Some(0)),
@@ -173,12 +175,17 @@ static COVERS: [SlackRow; 12] = [
 
 /// Compares the slack that segments show. A least cover is one that shows none.
 fn expect_slack<R: Abort>(rt: &R, row: &SlackRow) {
-    let (name, (xs, ys), eps, segments, want) = *row;
-    expect_points(rt, xs, ys);
+    let (name, points, eps, segments, want) = *row;
+    let points = points_of(rt, points);
     assert!(rt; eps <= 1_048_576);
-    let found = slack(xs, ys, eps, segments);
-    let covers = check_cover(xs, ys, eps, segments);
-    expect_of(rt, name, xs, found == want && covers == (want == Some(0)));
+    let found = slack(points, eps, segments);
+    let covers = check_cover(points, eps, segments);
+    expect_of(
+        rt,
+        name,
+        points.xs,
+        found == want && covers == (want == Some(0)),
+    );
 }
 
 #[test]
@@ -190,7 +197,7 @@ fn worked_covers(rt: HostRuntime) {
 
 /// Points, the error bound, a run, a pair, and whether it is the steep one of the run, and whether
 /// the flat one.
-type PairRow = (Points, u32, (u32, u32), (u32, u32), (bool, bool));
+type PairRow = (Points<'static>, u32, (u32, u32), (u32, u32), (bool, bool));
 
 static PAIRS: [PairRow; 17] = [
     // Of equal slopes the first; no line fits all four exactly.
@@ -217,19 +224,19 @@ static PAIRS: [PairRow; 17] = [
     (ENDS, 1_048_576, (0, 2), (0, 1), (true, true)),
 ];
 
-const EVEN_END: Points = (&[0, 1, 3], &[0, 1, 1]);
+const EVEN_END: Points<'static> = (&[0, 1, 3], &[0, 1, 1]);
 
-const LEAP_END: Points = (&[0, 1, 3], &[0, 1, 5]);
+const LEAP_END: Points<'static> = (&[0, 1, 3], &[0, 1, 5]);
 
-const ENDS: Points = (&[0, u64::MAX], &[0, u32::MAX]);
+const ENDS: Points<'static> = (&[0, u64::MAX], &[0, u32::MAX]);
 
 fn expect_pair<R: Abort>(rt: &R, row: &PairRow) {
-    let ((xs, ys), eps, (s, e), (a, b), (steep, flat)) = *row;
-    expect_points(rt, xs, ys);
+    let (points, eps, (s, e), (a, b), (steep, flat)) = *row;
+    let points = points_of(rt, points);
     assert!(rt; eps <= 1_048_576);
-    assert!(rt; s < e && e as usize <= xs.len());
-    let same_steep = is_steep(xs, ys, eps, s, e, a, b) == steep;
-    let same_flat = e - s == 1 || is_flat(xs, ys, eps, s, e, a, b) == flat;
+    assert!(rt; s < e && e as usize <= points.xs.len());
+    let same_steep = is_steep(points, eps, s, e, a, b) == steep;
+    let same_flat = e - s == 1 || is_flat(points, eps, s, e, a, b) == flat;
     expect_numbers(rt, "run and steep pair", &[s, e, a, b], same_steep);
     expect_numbers(rt, "run and flat pair", &[s, e, a, b], same_flat);
 }

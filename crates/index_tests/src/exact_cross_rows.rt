@@ -1,6 +1,5 @@
 // Lines, their floors, and slopes, at the ends of their types too: all worked out by hand.
-use crate::common::expect;
-use crate::piece_join_rows::expect_points;
+use crate::common::{Points, expect, points_of};
 use exact_cross::{Line, Slope};
 use std::cmp::Ordering;
 use std::process::Abort;
@@ -75,13 +74,7 @@ fn ranges(rt: HostRuntime) {
 
 /// A line, points, their x and their y, the places from and to, the error bound, and whether it
 /// fits.
-type FitRow = (
-    Told,
-    (&'static [u64], &'static [u32]),
-    (u32, u32),
-    u32,
-    bool,
-);
+type FitRow = (Told, Points<'static>, (u32, u32), u32, bool);
 
 const JUMP: (&[u64], &[u32]) = (&[0, 10, 11, 12], &[0, 1, 2, 3]);
 
@@ -112,12 +105,12 @@ fn expect_fit<R: Abort>(rt: &R, row: &FitRow, same: bool) {
 }
 
 fn check_fit<R: Abort>(rt: &R, row: &FitRow) {
-    let (told, (xs, ys), (s, e), eps, want) = *row;
+    let (told, points, (s, e), eps, want) = *row;
     let line = line(told);
-    expect_points(rt, xs, ys);
-    assert!(rt; eps <= 1_048_576 && s <= e && e as usize <= xs.len());
+    let points = points_of(rt, points);
+    assert!(rt; eps <= 1_048_576 && s <= e && e as usize <= points.xs.len());
     assert!(rt; line.in_range());
-    expect_fit(rt, row, line.fits(xs, ys, s, e, eps) == want);
+    expect_fit(rt, row, line.fits(points, s, e, eps) == want);
 }
 
 #[test]

@@ -1,19 +1,14 @@
 // Worked points: how far a run goes, its pair and its cut were found by hand from the definitions.
 ghost use Rattle.std.specs.Prelude.{◌≡◌, ◌<◌, ◌≤◌, IsTrue, length};
-ghost use Rattle.std.specs.List.Sorted.{IsStrictlyIncreasing, IsNonDecreasing};
 
-use crate::common::expect_of;
-use crate::piece_join_rows::expect_points;
+use crate::common::{Points, expect_of, points_of};
 use budget::{NoMemory, Steps};
-use exact_cross::{Line, Side, Witness};
+use exact_cross::{Line, PointList, Side, Witness};
 use hulls::{Hulls, Offer};
 use std::alloc::Global;
 use std::marker::Brand;
 use std::process::Abort;
 use std::sync::ledger::{Blank, Ledger};
-
-/// Points, their x and their y.
-type Points<'a> = (&'a [u64], &'a [u32]);
 
 /// How many points were taken in, the cut if there was one, and the pair and the line after it.
 type Fitted = (u32, Option<Witness>, (u32, u32, Line));
@@ -21,21 +16,17 @@ type Fitted = (u32, Option<Witness>, (u32, u32, Line));
 /// Offers the points one after the other until one is refused.
 fn fit<L: Ledger>(
     alloc: Global,
-    xs: &[u64],
-    ys: &[u32],
+    points: PointList<'_>,
     eps: u32,
     blank: Blank,
 ) -> Result<Fitted, NoMemory>
-    requires same_length { length ys.now ≡ length xs.now }
-    requires rising { IsStrictlyIncreasing xs.now }
-    requires never_falls { IsNonDecreasing ys.now }
-    requires some { 1 ≤ length xs.now }
-    requires few { length xs.now < 1000 }
+    requires some { 1 ≤ length points.xs.now }
     requires bounded { eps ≤ 1048576 }
     requires name { blank.name ≡ L.name }
     requires parts { blank.parts ≡ L.parts }
     requires one { blank.parts ≡ 1 }
 {
+    let (xs, ys) = (points.xs, points.ys);
     let len = xs.len() as u32;
     let mut steps = Steps::<L>::new(blank);
     let mut hulls = Hulls::new(alloc, eps, len)?;
@@ -71,16 +62,15 @@ fn fitted_of(row: &Row) -> Fitted {
 
 /// Whether the points are taken in as the row says.
 fn fits<R: Abort + AllocGlobal>(rt: &R, row: &Row) -> Result<bool, NoMemory> {
-    let (xs, ys) = row.0;
+    let points = points_of(rt, row.0);
     let eps = row.1;
-    expect_points(rt, xs, ys);
-    assert!(rt; !xs.is_empty() && eps <= 1_048_576);
-    Ok(fit::<Brand>(rt.alloc(), xs, ys, eps, Blank::new(1))? == fitted_of(row))
+    assert!(rt; !points.xs.is_empty() && eps <= 1_048_576);
+    Ok(fit::<Brand>(rt.alloc(), points, eps, Blank::new(1))? == fitted_of(row))
 }
 
 const EVEN: [u32; 7] = [0, 1, 2, 3, 4, 5, 6];
 
-const JUMP: Points = (&[0, 10, 11, 12], &[0, 1, 2, 3]);
+const JUMP: Points<'static> = (&[0, 10, 11, 12], &[0, 1, 2, 3]);
 
 static ROWS: [Row; 8] = [
     (

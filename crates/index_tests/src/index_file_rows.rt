@@ -1,9 +1,9 @@
 // Worked files, read from a shelf in memory, worked levels, and saved indexes, right and wrong.
 ghost use Rattle.std.specs.Prelude.{◌≤◌};
 
-use crate::common::{expect, never_falls, rises};
+use crate::common::{Points, expect, never_falls, rises};
 use edge::{MemShelf, Shelf};
-use exact_cross::{Line, Segment, Side, Witness};
+use exact_cross::{Line, PointList, Segment, Side, Witness};
 use index_file::{
     CheckFault, IndexFault, Saved, SavedCut, SavedRun, check, read_index, spell_head, spell_level,
 };
@@ -181,16 +181,13 @@ fn fault_of(
     Ok(read(alloc, bytes, failing, most)?.err())
 }
 
-/// Points, their x and their y.
-type Points = (&'static [u64], &'static [u32]);
-
 // What a saved index is found to be over points, as a letter.
-fn checked(alloc: Global, points: Points, saved: &Saved) -> u8 {
+fn checked(alloc: Global, points: Points<'_>, saved: &Saved) -> u8 {
     let (xs, ys) = points;
     if !rises(xs) || !never_falls(ys) || xs.len() != ys.len() || xs.len() > 1000 {
         return b'?';
     }
-    match check(alloc, xs, ys, saved) {
+    match check(alloc, PointList::new(xs, ys), saved) {
         Ok(()) => b'.',
         Err(CheckFault::Wrong { level }) => b'0' + level.min(9) as u8,
         Err(CheckFault::NoMemory) => b'?',
@@ -198,7 +195,7 @@ fn checked(alloc: Global, points: Points, saved: &Saved) -> u8 {
 }
 
 // What the bytes are found to be over these points, as a letter.
-fn found(alloc: Global, points: Points, bytes: &[u8]) -> Result<u8, Fail> {
+fn found(alloc: Global, points: Points<'_>, bytes: &[u8]) -> Result<u8, Fail> {
     match read(alloc, bytes, &[], 1000)? {
         Ok(saved) => Ok(checked(alloc, points, &saved)),
         Err(fault) => Ok(letter(fault)),
@@ -216,9 +213,9 @@ fn letter(fault: IndexFault) -> u8 {
     }
 }
 
-const FOUR_KEYS: Points = (&[0, 1, 2, 10], &[0, 1, 2, 3]);
+const FOUR_KEYS: Points<'static> = (&[0, 1, 2, 10], &[0, 1, 2, 3]);
 
-const SIX_KEYS: Points = (&[0, 10, 11, 12, 13, 100], &[0, 1, 2, 3, 4, 5]);
+const SIX_KEYS: Points<'static> = (&[0, 10, 11, 12, 13, 100], &[0, 1, 2, 3, 4, 5]);
 
 const RUNS_0: [SavedRun; 2] = [
     SavedRun {
@@ -467,7 +464,7 @@ fn spells(rt: HostRuntime) -> Result<(), Fail> {
 }
 
 // Points, a file, and what it is found to be over them.
-static CHECKED: [(&str, Points, Parts, u8); 9] = [
+static CHECKED: [(&str, Points<'static>, Parts, u8); 9] = [
     ("its four keys", FOUR_KEYS, WHOLE, b'.'),
     (
         "four that one line fits",
@@ -502,7 +499,7 @@ static CHECKED: [(&str, Points, Parts, u8); 9] = [
 const NO_LEVEL: Parts = &[b"PGMINDEX\x07\0\0\0\x04\0\0\0\0\0\0\0"];
 
 // What the file of these parts is found to be.
-fn found_in(alloc: Global, points: Points, parts: Parts) -> Result<u8, Fail> {
+fn found_in(alloc: Global, points: Points<'_>, parts: Parts) -> Result<u8, Fail> {
     let bytes = joined(alloc, parts)?;
     found(alloc, points, &bytes)
 }

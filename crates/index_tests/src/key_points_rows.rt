@@ -57,8 +57,9 @@ fn has_file(keys: &Keys, row: &Row) -> bool {
 
 /// Whether they have the row's points, and as many.
 fn has_points(alloc: Global, keys: &Keys, row: &Row) -> Result<bool, NoMemory> {
-    let points = keys.points(alloc)?;
-    let same = points.xs() == row.xs && points.ys() == row.ys;
+    let made = keys.points(alloc)?;
+    let points = made.points();
+    let same = points.xs == row.xs && points.ys == row.ys;
     Ok(same && keys.point_count() as usize == row.xs.len())
 }
 

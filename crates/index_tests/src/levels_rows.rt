@@ -4,8 +4,8 @@ ghost use Rattle.std.specs.Prelude.{◌^◌, length, vec_len, IfOk};
 ghost use Rattle.key_points.specs.KeyPoints.{xs_of};
 ghost use Rattle.piece_join.specs.Cuttings.{AreCuts};
 
-use crate::common::{expect_answers, expect_none, expect_of, index_of, keys_of};
-use crate::piece_join_rows::{expect_points, has_starts};
+use crate::common::{expect_answers, expect_none, expect_of, index_of, keys_of, points_of};
+use crate::piece_join_rows::has_starts;
 use budget::NoMemory;
 use cut_witness::slack;
 use edge::OpenGate;
@@ -307,8 +307,7 @@ fn slack_of<R: Abort + AllocGlobal>(rt: &R, index: &Index) -> Result<Option<u32>
         return Ok(Some(0));
     }
     let (xs, ys) = (index.list(rt.alloc(), 0)?, index.ranks(rt.alloc(), 0)?);
-    expect_points(rt, &xs, &ys);
-    Ok(slack(&xs, &ys, 0, index.level(0)))
+    Ok(slack(points_of(rt, (&xs, &ys)), 0, index.level(0)))
 }
 
 /// Whether workers build an index with the row's runs and position, and its slack.

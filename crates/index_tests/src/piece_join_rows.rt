@@ -1,16 +1,15 @@
 //! Worked lists, found by hand from the definitions, and pieces of two workers that meet.
 
-ghost use Rattle.std.specs.Prelude.{◌≡◌, ◌^◌, ◌<◌, ◌≤◌, IsTrue, IfOk, length};
-ghost use Rattle.std.specs.List.Sorted.{IsStrictlyIncreasing, IsNonDecreasing};
-ghost use Rattle.exact_cross.specs.Points.{points_of};
+ghost use Rattle.std.specs.Prelude.{◌≤◌, IsTrue, IfOk, length};
+ghost use Rattle.exact_cross.specs.PointLists.{points_in};
 ghost use Rattle.exact_cross.specs.Segmentation.{IsSegmentation};
 ghost use Rattle.piece_join.specs.Cuttings.{AreCuts};
 
-use crate::common::{are_same, expect, never_falls, rises};
+use crate::common::{Points, are_same, expect, points_of};
 use budget::NoMemory;
 use cut_witness::slack;
 use edge::{Gate, OpenGate, Place};
-use exact_cross::Segment;
+use exact_cross::{PointList, Segment};
 use piece_join::{even_cuts, join, relaxed, segment_in_pieces, uneven_cuts};
 use segmenter::segment;
 use std::alloc::Global;
@@ -37,18 +36,6 @@ fn are_cuts(m: usize, cuts: &[u32]) -> bool
     true
 }
 
-/// Asserts that lists are points.
-pub fn expect_points(rt: &impl Abort, xs: &[u64], ys: &[u32])
-    ensures same_length { length ys.now ≡ length xs.now }
-    ensures rising { IsStrictlyIncreasing xs.now }
-    ensures never_falls { IsNonDecreasing ys.now }
-    ensures few { length xs.now < 100 }
-{
-    assert!(rt; ys.len() == xs.len() && xs.len() < 100);
-    assert!(rt; rises(xs));
-    assert!(rt; never_falls(ys));
-}
-
 /// Whether segments have these first places.
 pub fn has_starts(segments: &[Segment], starts: &[u32]) -> bool {
     if segments.len() != starts.len() {
@@ -62,17 +49,9 @@ pub fn has_starts(segments: &[Segment], starts: &[u32]) -> bool {
     true
 }
 
-/// Points, their x and their y.
-type Points = (&'static [u64], &'static [u32]);
-
 /// Whether these are the segments that one thread makes, with `ε = 0`.
-fn are_whole(alloc: Global, xs: &[u64], ys: &[u32], segments: &[Segment]) -> Result<bool, NoMemory>
-    requires same_length { length ys.now ≡ length xs.now }
-    requires rising { IsStrictlyIncreasing xs.now }
-    requires never_falls { IsNonDecreasing ys.now }
-    requires few { length xs.now < 2 ^ 32 }
-{
-    let whole = segment(alloc, xs, ys, 0, 0, xs.len() as u32)?;
+fn are_whole(alloc: Global, points: PointList<'_>, segments: &[Segment]) -> Result<bool, NoMemory> {
+    let whole = segment(alloc, points, 0, 0, points.xs.len() as u32)?;
     Ok(segments == whole.as_slice())
 }
 
@@ -80,18 +59,17 @@ fn are_whole(alloc: Global, xs: &[u64], ys: &[u32], segments: &[Segment]) -> Res
 /// one thread makes.
 fn compared<R: Threads + Abort + AllocGlobal + Sync, G: Gate>(
     rt: &R,
-    points: Points,
+    points: Points<'_>,
     cuts: &[u32],
     workers: u32,
     gate: &G,
     starts: &[u32],
 ) -> Result<(bool, bool), NoMemory> {
-    let (xs, ys) = points;
-    expect_points(rt, xs, ys);
-    assert!(rt; are_cuts(xs.len(), cuts) && cuts.len() < 100);
+    let points = points_of(rt, points);
+    assert!(rt; are_cuts(points.xs.len(), cuts) && cuts.len() < 100);
     assert!(rt; 1 <= workers && workers <= 64);
-    let segments = segment_in_pieces(rt, rt.alloc(), xs, ys, 0, cuts, workers, gate)?;
-    let same = are_whole(rt.alloc(), xs, ys, &segments)?;
+    let segments = segment_in_pieces(rt, rt.alloc(), points, 0, cuts, workers, gate)?;
+    let same = are_whole(rt.alloc(), points, &segments)?;
     Ok((has_starts(&segments, starts), same))
 }
 
@@ -103,7 +81,7 @@ fn expect_same<R: Abort>(rt: &R, cuts: &[u32], workers: u32, same: bool) {
 /// Compares the starts that pieces give, with `ε = 0`, and the segments with those of one thread.
 fn expect_starts<R: Threads + Abort + AllocGlobal + Sync, G: Gate>(
     rt: &R,
-    points: Points,
+    points: Points<'_>,
     cuts: &[u32],
     workers: u32,
     gate: &G,
@@ -115,23 +93,19 @@ fn expect_starts<R: Threads + Abort + AllocGlobal + Sync, G: Gate>(
 }
 
 /// The segments of a part, with `ε = 0`.
-fn part(alloc: Global, xs: &[u64], ys: &[u32], from: u32, to: u32) -> Result<Vec<Segment>, NoMemory>
-    requires same_length { length ys.now ≡ length xs.now }
-    requires rising { IsStrictlyIncreasing xs.now }
-    requires never_falls { IsNonDecreasing ys.now }
-    requires few { length xs.now < 2 ^ 32 }
+fn part(alloc: Global, points: PointList<'_>, from: u32, to: u32) -> Result<Vec<Segment>, NoMemory>
     requires range { from ≤ to }
-    requires within { to ≤ length xs.now }
+    requires within { to ≤ length points.xs.now }
     ensures { IfOk result
-        (λ segments. IsSegmentation (points_of xs.now ys.now) 0 from to segments.items) }
+        (λ segments. IsSegmentation (points_in points.entry) 0 from to segments.items) }
 {
-    segment(alloc, xs, ys, 0, from, to)
+    segment(alloc, points, 0, from, to)
 }
 
-const SQUARE_POINTS: Points = (&SQUARES, &PLACES);
+const SQUARE_POINTS: Points<'static> = (&SQUARES, &PLACES);
 
 /// Points, cuts, how many workers there are, and the starts.
-type PieceRow = (Points, &'static [u32], u32, &'static [u32]);
+type PieceRow = (Points<'static>, &'static [u32], u32, &'static [u32]);
 
 /// Compares the pieces of a row.
 fn check_pieces<R: Threads + Abort + AllocGlobal + Sync>(
@@ -187,15 +161,14 @@ static JOINS: [JoinRow; 2] = [(1, &[0], &[1, 3], &[0, 3]), (4, &[0, 3], &[], &[0
 
 /// Whether the left part, the right part and both joined at an edge have the row's starts.
 fn join_compared<R: Abort + AllocGlobal>(rt: &R, row: &JoinRow) -> Result<[bool; 3], NoMemory> {
-    let (xs, ys) = (&FOUR, &[0, 1, 2, 3]);
     let (edge, left_starts, right_starts, starts) = *row;
-    expect_points(rt, xs, ys);
-    assert!(rt; xs.len() == 4 && 1 <= edge && edge <= 4);
-    let left = part(rt.alloc(), xs, ys, 0, edge)?;
-    let right = part(rt.alloc(), xs, ys, edge, 4)?;
+    let points = points_of(rt, (&FOUR, &[0, 1, 2, 3]));
+    assert!(rt; points.xs.len() == 4 && 1 <= edge && edge <= 4);
+    let left = part(rt.alloc(), points, 0, edge)?;
+    let right = part(rt.alloc(), points, edge, 4)?;
     let same_left = has_starts(&left, left_starts);
     let same_right = has_starts(&right, right_starts);
-    let joined = join(rt.alloc(), xs, ys, 0, left, &right, edge, 4)?;
+    let joined = join(rt.alloc(), points, 0, left, &right, edge, 4)?;
     Ok([same_left, same_right, has_starts(&joined, starts)])
 }
 
@@ -413,14 +386,13 @@ fn compared_side_by_side<R: Threads + Abort + AllocGlobal + Sync>(
     row: &SideBySide,
     workers: u32,
 ) -> Result<(bool, Option<u32>), NoMemory> {
-    let (xs, ys) = (row.xs, row.ys);
-    expect_points(rt, xs, ys);
-    assert!(rt; are_cuts(xs.len(), row.cuts) && row.cuts.len() < 100);
+    let points = points_of(rt, (row.xs, row.ys));
+    assert!(rt; are_cuts(points.xs.len(), row.cuts) && row.cuts.len() < 100);
     assert!(rt; 1 <= workers && workers <= 64);
-    let segments = relaxed(rt, rt.alloc(), xs, ys, 0, row.cuts, workers, &OpenGate)?;
+    let segments = relaxed(rt, rt.alloc(), points, 0, row.cuts, workers, &OpenGate)?;
     Ok((
         has_starts(&segments, row.starts),
-        slack(xs, ys, 0, &segments),
+        slack(points, 0, &segments),
     ))
 }
 

@@ -1,18 +1,14 @@
 // Worked lists: their runs, pairs, lines and cuts were found by hand from the definitions.
-ghost use Rattle.std.specs.Prelude.{◌≡◌, ◌^◌, ◌<◌, ◌≤◌, IsTrue, length};
-ghost use Rattle.std.specs.List.Sorted.{IsStrictlyIncreasing, IsNonDecreasing};
+ghost use Rattle.std.specs.Prelude.{◌≡◌, ◌≤◌, IsTrue, length};
 
-use crate::common::{expect_of, never_falls, rises};
+use crate::common::{Points, expect_of, points_of};
 use budget::{NoMemory, Steps};
-use exact_cross::{Line, Segment, Side, Witness};
+use exact_cross::{Line, PointList, Segment, Side, Witness};
 use segmenter::{segment, segment_counted};
 use std::alloc::Global;
 use std::marker::Brand;
 use std::process::Abort;
 use std::sync::ledger::{Blank, Ledger};
-
-/// Points, their x and their y.
-type Points<'a> = (&'a [u64], &'a [u32]);
 
 /// Three places and the side of the last one.
 type Cut = (u32, u32, u32, Side);
@@ -55,36 +51,31 @@ fn are_rows(segments: &[Segment], rows: &[Row]) -> bool {
 /// Whether a part has these segments.
 fn has_rows(
     alloc: Global,
-    points: Points,
+    points: PointList<'_>,
     eps: u32,
     range: (u32, u32),
     rows: &[Row],
 ) -> Result<bool, NoMemory>
-    requires same_length { length points.1.now ≡ length points.0.now }
-    requires rising { IsStrictlyIncreasing points.0.now }
-    requires never_falls { IsNonDecreasing points.1.now }
-    requires few { length points.0.now < 2 ^ 32 }
     requires bounded { eps ≤ 1048576 }
     requires range { range.0 ≤ range.1 }
-    requires within { range.1 ≤ length points.0.now }
+    requires within { range.1 ≤ length points.xs.now }
 {
-    let segments = segment(alloc, points.0, points.1, eps, range.0, range.1)?;
+    let segments = segment(alloc, points, eps, range.0, range.1)?;
     Ok(are_rows(&segments, rows))
 }
 
 /// Whether a part has these segments, also where steps are counted.
 fn compared<R: Abort + AllocGlobal>(
     rt: &R,
-    points: Points,
+    points: Points<'_>,
     eps: u32,
     range: (u32, u32),
     rows: &[Row],
 ) -> Result<(bool, bool), NoMemory> {
-    let (xs, ys) = points;
+    let points = points_of(rt, points);
     let (from, to) = range;
-    assert!(rt; rises(xs) && never_falls(ys));
-    assert!(rt; eps <= 1_048_576 && xs.len() < 1000 && xs.len() == ys.len());
-    assert!(rt; from <= to && to as usize <= xs.len());
+    assert!(rt; eps <= 1_048_576);
+    assert!(rt; from <= to && to as usize <= points.xs.len());
     let same = has_rows(rt.alloc(), points, eps, range, rows)?;
     let counted = counts_rows::<Brand>(rt.alloc(), points, eps, range, rows, Blank::new(1))?;
     Ok((same, counted))
@@ -93,7 +84,7 @@ fn compared<R: Abort + AllocGlobal>(
 /// Compares the segments of a part, also where steps are counted.
 fn expect_rows<R: Abort + AllocGlobal>(
     rt: &R,
-    points: Points,
+    points: Points<'_>,
     eps: u32,
     range: (u32, u32),
     rows: &[Row],
@@ -114,34 +105,29 @@ fn expect_cases<R: Abort + AllocGlobal>(rt: &R, cases: &[Case]) -> Result<(), No
 /// Whether it has them where a counter of its own counts the steps.
 fn counts_rows<L: Ledger>(
     alloc: Global,
-    points: Points,
+    points: PointList<'_>,
     eps: u32,
     range: (u32, u32),
     rows: &[Row],
     blank: Blank,
 ) -> Result<bool, NoMemory>
-    requires same_length { length points.1.now ≡ length points.0.now }
-    requires rising { IsStrictlyIncreasing points.0.now }
-    requires never_falls { IsNonDecreasing points.1.now }
-    requires few { length points.0.now < 2 ^ 32 }
     requires bounded { eps ≤ 1048576 }
     requires range { range.0 ≤ range.1 }
-    requires within { range.1 ≤ length points.0.now }
+    requires within { range.1 ≤ length points.xs.now }
     requires name { blank.name ≡ L.name }
     requires parts { blank.parts ≡ L.parts }
     requires one { blank.parts ≡ 1 }
 {
     let mut steps = Steps::<L>::new(blank);
-    let (xs, ys) = points;
-    let segments = segment_counted(alloc, xs, ys, eps, range.0, range.1, &mut steps)?;
+    let segments = segment_counted(alloc, points, eps, range.0, range.1, &mut steps)?;
     Ok(are_rows(&segments, rows))
 }
 
-const FOUR: Points = (&[0, 1, 2, 10], &[0, 1, 2, 3]);
+const FOUR: Points<'static> = (&[0, 1, 2, 10], &[0, 1, 2, 3]);
 
-const JUMP: Points = (&[0, 10, 11, 12], &[0, 1, 2, 3]);
+const JUMP: Points<'static> = (&[0, 10, 11, 12], &[0, 1, 2, 3]);
 
-const SQUARES: Points = (&[0, 1, 4, 9, 16, 25], &[0, 1, 2, 3, 4, 5]);
+const SQUARES: Points<'static> = (&[0, 1, 4, 9, 16, 25], &[0, 1, 2, 3, 4, 5]);
 
 static WORKED_LISTS: [Case; 8] = [
     // The line through 0 and 1 fits 2 too, and passes far above the point of 10.
@@ -303,7 +289,7 @@ static MANY_PLACES: [(u32, &[Row]); 2] = [
 #[test]
 fn runs_of_many_places(rt: HostRuntime) -> Result<(), NoMemory> {
     for (jump, rows) in &MANY_PLACES {
-        let points: Points = (&hundred(*jump), &places());
+        let points: Points<'_> = (&hundred(*jump), &places());
         expect_rows(&rt, points, 4, (0, 100), rows)?;
     }
     Ok(())

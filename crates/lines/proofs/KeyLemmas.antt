@@ -1,11 +1,8 @@
 -- The words of a least cover's lines of the keys' points lead to within ε + 2.
-use Rattle.std.proofs.Common.{◌≡◌, inl, inr, ℕ, ◌+◌, ◌^◌, ◌<◌, ◌≤◌, List, length, slice_index, refl, sym, ◌∙◌, subst, arith}
+use Rattle.std.proofs.Common.{◌≡◌, inl, inr, ℕ, ◌+◌, ◌^◌, ◌<◌, ◌≤◌, List, length, slice_index, subst, arith}
 use Rattle.std.proofs.lemmas.Bool.{cases_lt}
-use Rattle.std.proofs.lemmas.List.{length-map}
 use Rattle.std.specs.List.Sorted.{IsNonDecreasing}
 use Rattle.exact_cross.specs.Points.{IsAscending, points_of}
-use Rattle.exact_cross.specs.declared.segment.Segment.{Segment}
-use Rattle.exact_cross.specs.Segments.{starts_of}
 use Rattle.exact_cross.proofs.CallerLemmas.{IsAscending-points_of, IsNonDecreasing-from_neighbours}
 use Rattle.window_search.specs.Searches.{lb, IsPredecessor}
 use Rattle.window_search.specs.Brackets.{IsBracket}
@@ -14,7 +11,6 @@ use Rattle.key_points.specs.KeyPoints.{xs_of, ys_of}
 use Rattle.key_points.proofs.CallerLemmas.{xs-rise, xs-few, xs-first, ys-length, ys-at, ys-never_fall, ys-first, lb-more, next_of_point, close_of_point, lb-past_points}
 use Rattle.lines.specs.Told.{IsTold, IsToldBy, first_xs, lines_in}
 use Rattle.lines.specs.Lookups.{LeadsWithin}
-use Rattle.lines.specs.Leads.{HaveLeastLines}
 use Rattle.lines.specs.Made.{AreLinesOf, AreLinesOver}
 use Rattle.lines.proofs.LeadLemmas.{place_near, place_before, place_within, IsLastPoint, IsClosed}
 
@@ -89,13 +85,3 @@ LeadsWithin-keys keys eps words order over q place fits (inl told) =
     let led = near keys eps _ _ (lines_in words) order over.lines q told.1.0 place fits told.1.1 by in
     omega (arith, led.not_above, led.not_below)
 LeadsWithin-keys keys eps words order over q place fits (inr other) = absurd (other.0 over.whole)
-
-pub HaveLeastLines-keys : (keys : List ℕ) (eps : ℕ) (words : List ℕ) → AreLinesOver (points_of (xs_of keys) (ys_of keys)) eps words → HaveLeastLines keys eps words
-HaveLeastLines-keys keys eps words over = record {
-  starts = starts_of over.segments;
-  cover = over.cover;
-  count = over.count ∙ sym (count_of over.segments);
-}
-  where
-    count_of : (segments : List Segment) → length (starts_of segments) ≡ length segments
-    count_of segments = rw length-map refl

@@ -1,9 +1,10 @@
 // The words of lines that are made of keys.
 ghost use Rattle.std.specs.Prelude.{◌≡◌, ℕ, ◌+◌, ◌*◌, ◌<◌, ◌≤◌, ◌^◌, ◌∷◌, [], ◌++◌, length};
 ghost use Rattle.std.specs.Prelude.{pos, ◌+ℤ◌, ◌≤ℤ◌, ◌<ℤ◌, slice_index, IfOk, OnOk, Err};
-ghost use Rattle.std.specs.List.Sorted.{IsStrictlyIncreasing, IsNonDecreasing};
+ghost use Rattle.std.specs.List.Sorted.{IsNonDecreasing};
 ghost use Rattle.exact_cross.specs.Checked.{IsInRange};
 ghost use Rattle.exact_cross.specs.Points.{points_of};
+ghost use Rattle.exact_cross.specs.PointLists.{points_in};
 ghost use Rattle.key_points.specs.KeyPoints.{xs_of, ys_of};
 ghost use Rattle.key_points.specs.Falls.{IsFirstFall};
 ghost use Rattle.key_points.specs.declared.fault.KeysFault.TheVariants.{Falls, TooMany};
@@ -14,7 +15,7 @@ ghost use Rattle.lines.specs.Made.{start_at, TellsPoints};
 
 use crate::table::head_of;
 use budget::NoMemory;
-use exact_cross::{Line, MAX_EPSILON, Segment};
+use exact_cross::{Line, MAX_EPSILON, PointList, Segment};
 use key_points::{KeyPoints, KeysFault, judge};
 use segmenter::segment;
 use std::alloc::Global;
@@ -58,65 +59,54 @@ fn words_of(alloc: Global, keys: &[u64], eps: u32) -> Result<Vec<u64>, NoMemory>
     ensures { IfOk result (λ words. AreLinesOver (points_of (xs_of keys.now) (ys_of keys.now)) eps
         words.items) }
 {
-    let points = KeyPoints::of(alloc, keys)?;
-    words_over(alloc, points.xs(), points.ys(), eps)
+    let own = KeyPoints::of(alloc, keys)?;
+    words_over(alloc, own.points(), eps)
 }
 
 /// The words of the lines of points.
-fn words_over(alloc: Global, xs: &[u64], ys: &[u32], eps: u32) -> Result<Vec<u64>, NoMemory>
-    requires same_length { length ys.now ≡ length xs.now }
-    requires rising { IsStrictlyIncreasing xs.now }
-    requires never_falls { IsNonDecreasing ys.now }
-    requires few { length xs.now < 2 ^ 32 }
+fn words_over(alloc: Global, points: PointList<'_>, eps: u32) -> Result<Vec<u64>, NoMemory>
     requires bounded { eps ≤ MAX_EPSILON }
-    ensures { IfOk result (λ words. AreLinesOver (points_of xs.now ys.now) eps words.items) }
+    ensures { IfOk result (λ words. AreLinesOver (points_in points.entry) eps words.items) }
 {
-    let segments = segment(alloc, xs, ys, eps, 0, xs.len() as u32)?;
-    let mut words = head_of(alloc, xs, &segments, eps)?;
-    add_lines(&mut words, xs, ys, &segments, eps)?;
+    let segments = segment(alloc, points, eps, 0, points.xs.len() as u32)?;
+    let mut words = head_of(alloc, points.xs, &segments, eps)?;
+    add_lines(&mut words, points, &segments, eps)?;
     Ok(words)
 }
 
 /// Adds the words of the line of each run.
 fn add_lines(
     words: &mut Vec<u64>,
-    xs: &[u64],
-    ys: &[u32],
+    points: PointList<'_>,
     segments: &[Segment],
     eps: u32,
 ) -> Result<(), NoMemory>
-    requires same_length { length ys.now ≡ length xs.now }
-    requires rising { IsStrictlyIncreasing xs.now }
-    requires never_falls { IsNonDecreasing ys.now }
     requires bounded { eps ≤ MAX_EPSILON }
-    requires runs { AreRuns (points_of xs.now ys.now) eps segments.now }
-    ensures { OnOk result (AddsLines (points_of xs.now ys.now) eps
-        (start_at (length xs.now) segments.now) (length segments.now) words.old.items
+    requires runs { AreRuns (points_in points) eps segments.now }
+    ensures { OnOk result (AddsLines (points_in points.entry) eps
+        (start_at (length points.entry.xs.now) segments.now) (length segments.now) words.old.items
         words.new.items) }
 {
     for run in 0..segments.len() {
-        let line = line_of_run(xs, ys, segments, run, eps);
+        let line = line_of_run(points, segments, run, eps);
         push_line(words, &line)?;
     }
     Ok(())
 }
 
 /// The words of the line of a run.
-fn line_of_run(xs: &[u64], ys: &[u32], segments: &[Segment], run: usize, eps: u32) -> LineWords
-    requires same_length { length ys.now ≡ length xs.now }
-    requires rising { IsStrictlyIncreasing xs.now }
-    requires never_falls { IsNonDecreasing ys.now }
+fn line_of_run(points: PointList<'_>, segments: &[Segment], run: usize, eps: u32) -> LineWords
     requires bounded { eps ≤ MAX_EPSILON }
-    requires runs { AreRuns (points_of xs.now ys.now) eps segments.now }
+    requires runs { AreRuns (points_in points) eps segments.now }
     requires inside { run < length segments.now }
-    ensures { TellsPoints (points_of xs.now ys.now) eps result.first result.multiplier
-        result.packed (start_at (length xs.now) segments.now run)
-        (start_at (length xs.now) segments.now (run + 1)) }
+    ensures { TellsPoints (points_in points.entry) eps result.first result.multiplier
+        result.packed (start_at (length points.entry.xs.now) segments.now run)
+        (start_at (length points.entry.xs.now) segments.now (run + 1)) }
 {
     let segment = &segments[run];
-    let end = end_of_run(segments, run, xs.len());
-    let first = xs[segment.start as usize];
-    let last = xs[end - 1];
+    let end = end_of_run(segments, run, points.xs.len());
+    let first = points.xs[segment.start as usize];
+    let last = points.xs[end - 1];
     LineWords::of(&segment.line, first, last, eps)
 }
 

@@ -4,6 +4,7 @@ ghost use Rattle.std.specs.Prelude.{◌≡◌};
 use crate::tombstones_rows::{del, put};
 use boxes::Boxes;
 use cut_witness::check_cover;
+use exact_cross::PointList;
 use levels::{Index, Keys, OpenGate};
 use lines::{lines_of, position, upper_bound};
 use log_levels::{LogMap, Update};
@@ -94,9 +95,9 @@ fn published_example(rt: HostRuntime) -> Result<(), Fail> {
 
 #[test]
 fn cut_witness_example(rt: HostRuntime) -> Result<(), Fail> {
-    let (xs, ys) = ([0, 1, 2, 10], [0, 1, 2, 3]);
-    let segments = segment(rt.alloc(), &xs, &ys, 0, 0, 4)?;
+    let points = PointList::new(&[0, 1, 2, 10], &[0, 1, 2, 3]);
+    let segments = segment(rt.alloc(), points, 0, 0, 4)?;
     assert_eq!(rt; segments.len(), 2);
-    assert!(rt; check_cover(&xs, &ys, 0, &segments));
+    assert!(rt; check_cover(points, 0, &segments));
     Ok(())
 }

@@ -42,8 +42,8 @@ pub fn judged(alloc: Global, sorted: SortedKeys, saved: &Saved) -> Result<Task, 
     ensures { (faults : ℕ) → Answers (judges sorted.keys.items saved.now) task_of faults faults
         result }
 {
-    let points = KeyPoints::of(alloc, &sorted.keys)?;
-    match check(alloc, points.xs(), points.ys(), saved) {
+    let own = KeyPoints::of(alloc, &sorted.keys)?;
+    match check(alloc, own.points(), saved) {
         Ok(()) => Ok(Task::Check {
             levels: saved.levels(),
             runs: saved.run_count(),

@@ -1,11 +1,11 @@
 -- The hulls stand for the points so far.
 use Rattle.std.proofs.Common.{◌≤◌}
-use Rattle.exact_cross.specs.Points.{points_of}
+use Rattle.exact_cross.specs.PointLists.{points_in}
 use Rattle.hulls.specs.Hulls.{room_of, StandsFor}
 use Rattle.index_tests.proofs.hulls_rows.fit.Given as goal
 
 abbrev pub invariant-loop-place : goal.invariant-loop-place
 invariant-loop-place g l = record {
-  stands : StandsFor l.hulls (points_of l.xs l.ys) l.eps 0 l.place;
+  stands : StandsFor l.hulls (points_in l.points) l.eps 0 l.place;
   room : l.len ≤ room_of l.hulls;
 }

@@ -1,14 +1,14 @@
 -- One line more.
 use Rattle.std.proofs.Common.{length}
-use Rattle.exact_cross.specs.Points.{points_of}
+use Rattle.exact_cross.specs.PointLists.{points_in}
 use Rattle.lines.specs.Made.{start_at}
 use Rattle.lines.proofs.WordLemmas.{AddsLines-none, AddsLines-more}
 use Rattle.lines.proofs.made.add_lines.Goals as goal
 
 pub loop-run-init : goal.loop-run-init
-loop-run-init c = AddsLines-none (points_of c.args.xs.now c.args.ys.now) c.args.eps (start_at (length c.args.xs.now) c.args.segments.now) c.args.words.now.items
+loop-run-init c = AddsLines-none (points_in c.args.points) c.args.eps (start_at (length c.args.points.xs.now) c.args.segments.now) c.args.words.now.items
 
 pub loop-run-preserved : goal.loop-run-preserved
 loop-run-preserved c =
-    AddsLines-more (points_of c.args.xs.now c.args.ys.now) c.args.eps (start_at (length c.args.xs.now) c.args.segments.now) c.args.words.now.items c.loop-run.words.items _ c.loop-run.run
+    AddsLines-more (points_in c.args.points) c.args.eps (start_at (length c.args.points.xs.now) c.args.segments.now) c.args.words.now.items c.loop-run.words.items _ c.loop-run.run
     c.line_of_run-line.result.first c.line_of_run-line.result.multiplier c.line_of_run-line.result.packed c.in_ok-push_line.ensures c.loop-run.invariant c.line_of_run-line.ensures

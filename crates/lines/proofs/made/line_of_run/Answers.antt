@@ -1,60 +1,60 @@
 -- The run's line fits it.
 use Rattle.std.proofs.Common.{length, ℕ, sym, subst, arith}
-use Rattle.exact_cross.specs.Points.{points_of}
-use Rattle.exact_cross.proofs.CallerLemmas.{IsAscending-points_of}
+use Rattle.exact_cross.specs.PointLists.{points_in}
+use Rattle.exact_cross.proofs.CallerLemmas.{IsAscending-points_in}
 use Rattle.lines.specs.Made.{start_at, TellsPoints}
 use Rattle.lines.proofs.SegmentLemmas.{HasRun, HasRun-at, no_segment}
 use Rattle.lines.proofs.made.line_of_run.Goals as goal
 
-pub bounds-xs-segment : goal.bounds-xs-segment
-bounds-xs-segment c =
-    let p = points_of c.args.xs.now c.args.ys.now in
-    let ascends = IsAscending-points_of c.args.xs.now c.args.ys.now c.requires.same_length c.requires.rising c.requires.never_falls in
-    let run = HasRun-at p c.args.eps c.args.segments.now c.args.run no_segment ascends (λ j inside. omega (arith, c.type_inv.ys j)) c.requires.bounded c.requires.runs c.requires.inside in
+pub bounds-points-segment : goal.bounds-points-segment
+bounds-points-segment c =
+    let p = points_in c.args.points in
+    let ascends = IsAscending-points_in c.args.points in
+    let run = HasRun-at p c.args.eps c.args.segments.now c.args.run no_segment ascends (λ j inside. omega (arith, c.args.points.low j)) c.requires.bounded c.requires.runs c.requires.inside in
     omega (arith, run.start, run.some, run.within)
 
 pub overflow_sub-last : goal.overflow_sub-last
 overflow_sub-last c =
-    let p = points_of c.args.xs.now c.args.ys.now in
-    let ascends = IsAscending-points_of c.args.xs.now c.args.ys.now c.requires.same_length c.requires.rising c.requires.never_falls in
-    let run = HasRun-at p c.args.eps c.args.segments.now c.args.run no_segment ascends (λ j inside. omega (arith, c.type_inv.ys j)) c.requires.bounded c.requires.runs c.requires.inside in
+    let p = points_in c.args.points in
+    let ascends = IsAscending-points_in c.args.points in
+    let run = HasRun-at p c.args.eps c.args.segments.now c.args.run no_segment ascends (λ j inside. omega (arith, c.args.points.low j)) c.requires.bounded c.requires.runs c.requires.inside in
     omega (arith, run.some, c.end_of_run-end.ensures)
 
-pub offset_bounds-xs-end : goal.offset_bounds-xs-end
-offset_bounds-xs-end c =
-    let p = points_of c.args.xs.now c.args.ys.now in
-    let ascends = IsAscending-points_of c.args.xs.now c.args.ys.now c.requires.same_length c.requires.rising c.requires.never_falls in
-    let run = HasRun-at p c.args.eps c.args.segments.now c.args.run no_segment ascends (λ j inside. omega (arith, c.type_inv.ys j)) c.requires.bounded c.requires.runs c.requires.inside in
+pub offset_bounds-points-end : goal.offset_bounds-points-end
+offset_bounds-points-end c =
+    let p = points_in c.args.points in
+    let ascends = IsAscending-points_in c.args.points in
+    let run = HasRun-at p c.args.eps c.args.segments.now c.args.run no_segment ascends (λ j inside. omega (arith, c.args.points.low j)) c.requires.bounded c.requires.runs c.requires.inside in
     omega (arith, run.within, c.end_of_run-end.ensures)
 
-pub bounds-xs-end : goal.bounds-xs-end
-bounds-xs-end c =
-    let p = points_of c.args.xs.now c.args.ys.now in
-    let ascends = IsAscending-points_of c.args.xs.now c.args.ys.now c.requires.same_length c.requires.rising c.requires.never_falls in
-    let run = HasRun-at p c.args.eps c.args.segments.now c.args.run no_segment ascends (λ j inside. omega (arith, c.type_inv.ys j)) c.requires.bounded c.requires.runs c.requires.inside in
+pub bounds-points-end : goal.bounds-points-end
+bounds-points-end c =
+    let p = points_in c.args.points in
+    let ascends = IsAscending-points_in c.args.points in
+    let run = HasRun-at p c.args.eps c.args.segments.now c.args.run no_segment ascends (λ j inside. omega (arith, c.args.points.low j)) c.requires.bounded c.requires.runs c.requires.inside in
     omega (arith, run.some, run.within, c.end_of_run-end.ensures)
 
 pub of-requires-clause-in_range : goal.of-requires-clause-in_range
 of-requires-clause-in_range c =
-    let p = points_of c.args.xs.now c.args.ys.now in
-    let ascends = IsAscending-points_of c.args.xs.now c.args.ys.now c.requires.same_length c.requires.rising c.requires.never_falls in
-    let run = HasRun-at p c.args.eps c.args.segments.now c.args.run no_segment ascends (λ j inside. omega (arith, c.type_inv.ys j)) c.requires.bounded c.requires.runs c.requires.inside in
+    let p = points_in c.args.points in
+    let ascends = IsAscending-points_in c.args.points in
+    let run = HasRun-at p c.args.eps c.args.segments.now c.args.run no_segment ascends (λ j inside. omega (arith, c.args.points.low j)) c.requires.bounded c.requires.runs c.requires.inside in
     run.in_range
 
 pub of-requires-clause-short : goal.of-requires-clause-short
 of-requires-clause-short c =
-    let p = points_of c.args.xs.now c.args.ys.now in
-    let ascends = IsAscending-points_of c.args.xs.now c.args.ys.now c.requires.same_length c.requires.rising c.requires.never_falls in
-    let at = HasRun-at p c.args.eps c.args.segments.now c.args.run no_segment ascends (λ j inside. omega (arith, c.type_inv.ys j)) c.requires.bounded c.requires.runs c.requires.inside in
-    let run = subst (λ (e : ℕ). HasRun p c.args.eps c.args.segments.now c.args.run no_segment (start_at (length c.args.xs.now) c.args.segments.now c.args.run) e) (sym c.end_of_run-end.ensures) at in
+    let p = points_in c.args.points in
+    let ascends = IsAscending-points_in c.args.points in
+    let at = HasRun-at p c.args.eps c.args.segments.now c.args.run no_segment ascends (λ j inside. omega (arith, c.args.points.low j)) c.requires.bounded c.requires.runs c.requires.inside in
+    let run = subst (λ (e : ℕ). HasRun p c.args.eps c.args.segments.now c.args.run no_segment (start_at (length c.args.points.xs.now) c.args.segments.now c.args.run) e) (sym c.end_of_run-end.ensures) at in
     run.short
 
 pub returns : goal.returns
 returns c =
-    let p = points_of c.args.xs.now c.args.ys.now in
-    let ascends = IsAscending-points_of c.args.xs.now c.args.ys.now c.requires.same_length c.requires.rising c.requires.never_falls in
-    let at = HasRun-at p c.args.eps c.args.segments.now c.args.run no_segment ascends (λ j inside. omega (arith, c.type_inv.ys j)) c.requires.bounded c.requires.runs c.requires.inside in
-    let start = start_at (length c.args.xs.now) c.args.segments.now c.args.run in
-    let run = subst (λ (e : ℕ). HasRun p c.args.eps c.args.segments.now c.args.run no_segment (start_at (length c.args.xs.now) c.args.segments.now c.args.run) e) (sym c.end_of_run-end.ensures) at in
-    subst (λ (e : ℕ). TellsPoints p c.args.eps c.of.result.first c.of.result.multiplier c.of.result.packed (start_at (length c.args.xs.now) c.args.segments.now c.args.run) e) c.end_of_run-end.ensures
+    let p = points_in c.args.points in
+    let ascends = IsAscending-points_in c.args.points in
+    let at = HasRun-at p c.args.eps c.args.segments.now c.args.run no_segment ascends (λ j inside. omega (arith, c.args.points.low j)) c.requires.bounded c.requires.runs c.requires.inside in
+    let start = start_at (length c.args.points.xs.now) c.args.segments.now c.args.run in
+    let run = subst (λ (e : ℕ). HasRun p c.args.eps c.args.segments.now c.args.run no_segment (start_at (length c.args.points.xs.now) c.args.segments.now c.args.run) e) (sym c.end_of_run-end.ensures) at in
+    subst (λ (e : ℕ). TellsPoints p c.args.eps c.of.result.first c.of.result.multiplier c.of.result.packed (start_at (length c.args.points.xs.now) c.args.segments.now c.args.run) e) c.end_of_run-end.ensures
     (run.tells c.of.result.first c.of.result.multiplier c.of.result.packed c.of.ensures.first c.of.ensures.words)
