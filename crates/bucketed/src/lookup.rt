@@ -1,5 +1,6 @@
 // Lookups through the table.
 ghost use Rattle.std.specs.Prelude.{◌≡◌, ◌-◌};
+ghost use Rattle.budget.specs.Ledgers.{IsNewLedger};
 ghost use Rattle.window_search.specs.Searches.{lb};
 ghost use Rattle.radix_table.specs.Tables.{IsBetween};
 ghost use Rattle.levels.specs.Costs.{TakesAtMost};
@@ -54,9 +55,7 @@ impl<'a> Buckets<'a> {
 
 /// The position of `q` in the file, the steps counted in a new ledger.
 fn position_from<L: Ledger>(buckets: &Buckets<'_>, q: u64, blank: Blank) -> u32
-    requires name { blank.name ≡ L.name }
-    requires parts { blank.parts ≡ L.parts }
-    requires one { blank.parts ≡ 1 }
+    requires { IsNewLedger blank L.name L.parts }
     ensures { result ≡ lb buckets.now.index.keys q }
 {
     let mut steps = Steps::<L>::new(blank);

@@ -1,6 +1,7 @@
 // The place of one question.
 ghost use Rattle.std.specs.Prelude.{◌≡◌, ◌+◌, ◌<◌, ◌≤◌, ◌^◌, ℕ, length};
 ghost use Rattle.std.specs.List.Sorted.{IsNonDecreasing};
+ghost use Rattle.budget.specs.Ledgers.{IsNewLedger};
 ghost use Rattle.window_search.specs.Brackets.{IsBracket};
 ghost use Rattle.window_search.specs.Searches.{lb};
 ghost use Rattle.lines.specs.Lookups.{IsPosition, LeadsWithin, ReadsWithin};
@@ -79,9 +80,7 @@ pub fn position_at<K: KeyList>(keys: K, hint: usize, q: u64) -> usize
 /// with a counter of its own, from a new ledger.
 #[inline(never)]
 fn position_off<K: KeyList, L: Ledger>(keys: K, hint: usize, q: u64, blank: Blank) -> usize
-    requires name { blank.name ≡ L.name }
-    requires parts { blank.parts ≡ L.parts }
-    requires one { blank.parts ≡ 1 }
+    requires { IsNewLedger blank L.name L.parts }
     ensures { IsPosition (K.listed keys) q result }
 {
     let mut steps = Steps::<L>::new(blank);

@@ -1,5 +1,6 @@
 // Joining: from the last run known to be right until a run ends at a start of the next piece.
 ghost use Rattle.std.specs.Prelude.{◌≡◌, ℕ, ◌+◌, ◌*◌, ◌<◌, ◌≤◌, ◌^◌, List, length, IfOk};
+ghost use Rattle.budget.specs.Ledgers.{IsNewLedger};
 ghost use Rattle.exact_cross.specs.declared.segment.Segment.{Segment};
 ghost use Rattle.exact_cross.specs.PointLists.{points_in};
 ghost use Rattle.exact_cross.specs.Segmentation.{IsSegmentation};
@@ -71,9 +72,7 @@ fn join_from<L: Ledger>(
     requires within { to ≤ length points.xs.now }
     requires left { IsSegmentation (points_in points) eps 0 edge left.items }
     requires right { IsSegmentation (points_in points) eps edge to right.now }
-    requires name { blank.name ≡ L.name }
-    requires parts { blank.parts ≡ L.parts }
-    requires one { blank.parts ≡ 1 }
+    requires ledger { IsNewLedger blank L.name L.parts }
     ensures { IfOk result
         (λ segments. IsSegmentation (points_in points.entry) eps 0 to segments.items) }
 {

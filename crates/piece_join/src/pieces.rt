@@ -1,6 +1,7 @@
 // Segmentation by pieces.
 ghost use Rattle.std.specs.Prelude.{◌≡◌, ℕ, ◌+◌, ◌*◌, ◌<◌, ◌≤◌, ◌^◌, List, length, vec_len};
 ghost use Rattle.std.specs.Prelude.{All, IfOk, OnOk};
+ghost use Rattle.budget.specs.Ledgers.{IsNewLedger};
 ghost use Rattle.exact_cross.specs.declared.segment.Segment.{Segment};
 ghost use Rattle.exact_cross.specs.PointLists.{points_in};
 ghost use Rattle.exact_cross.specs.Segmentation.{IsSegmentation};
@@ -179,9 +180,7 @@ fn joined_from<L: Ledger>(
     blank: Blank,
 ) -> Result<Vec<Segment>, NoMemory>
     requires placed { ArePlaced work.now parts.now }
-    requires name { blank.name ≡ L.name }
-    requires parts { blank.parts ≡ L.parts }
-    requires one { blank.parts ≡ 1 }
+    requires ledger { IsNewLedger blank L.name L.parts }
     ensures { IfOk result (λ segments. IsSegmentation (points_in work.now.points)
         work.now.eps 0 (length work.now.points.xs.now) segments.items) }
 {

@@ -10,6 +10,7 @@
 #![tactic(auto)]
 
 ghost use Rattle.std.specs.Prelude.{◌≡◌, ℕ, ◌+◌, ◌-◌, ◌*◌, ◌≤◌, List, length, IfOk};
+ghost use Rattle.budget.specs.Ledgers.{IsNewLedger};
 ghost use Rattle.exact_cross.specs.declared.segment.Segment.{Segment};
 ghost use Rattle.exact_cross.specs.Points.{Points, IsAscending};
 ghost use Rattle.exact_cross.specs.PointLists.{points_in};
@@ -110,9 +111,7 @@ fn segment_from<L: Ledger>(
     requires bounded { eps ≤ MAX_EPSILON }
     requires range { from ≤ to }
     requires within { to ≤ length points.xs.now }
-    requires name { blank.name ≡ L.name }
-    requires parts { blank.parts ≡ L.parts }
-    requires one { blank.parts ≡ 1 }
+    requires ledger { IsNewLedger blank L.name L.parts }
     ensures least { IfOk result (λ segments.
         IsLeastSegmentation (points_in points.entry) eps from to segments.items) }
 {
