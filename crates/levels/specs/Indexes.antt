@@ -1,7 +1,8 @@
 -- The one index of a key list: levels of segments, each over the first x of the runs below it. And a relaxed one, whose level 0
 -- is made in pieces that aren't joined.
 -- Source: P. Ferragina and G. Vinciguerra, The PGM-index, PVLDB 13(8), 2020, section 2.
-use Rattle.std.specs.Prelude.{◌≡◌, ℕ, zero, suc, ◌+◌, ◌<◌, List, length}
+use Rattle.std.specs.Prelude.{◌≡◌, ℕ, zero, suc, ◌+◌, ◌<◌, ◌^◌, List, length}
+use Rattle.std.specs.List.Sorted.{IsNonDecreasing}
 use Rattle.exact_cross.specs.declared.segment.Segment.{Segment}
 use Rattle.exact_cross.specs.Points.{Points, points_of}
 use Rattle.exact_cross.specs.IndexLevels.{level_at, level_xs, level_ys, level_points, eps_at, IsLevelOver, AreLevelled}
@@ -53,6 +54,12 @@ pub record IsLaidLevel (keys : List ℕ) (eps eps_rec : ℕ) (levels : List (Lis
 -- what a lookup needs of levels: an index has it, and a relaxed one too
 abbrev pub IsLaidIndex : (keys : List ℕ) (eps eps_rec : ℕ) (levels : List (List Segment)) → Type 0
 IsLaidIndex keys eps eps_rec levels = AreLevelled (λ i. IsLaidLevel keys eps eps_rec levels i) (length keys) levels
+
+-- what is known of each index: sorted keys, fewer than 2^32, and what a lookup needs of levels. No public clause cites it
+pub record IsLaidFile (file : PgmIndex) : Type 0 where
+  pub never_falls : IsNonDecreasing file.keys
+  pub few : length file.keys < 2 ^ 32
+  pub index : IsLaidIndex file.keys file.eps file.eps_rec file.levels
 
 -- how many places the lists of the first n levels have together
 unfoldable pub places_below : List ℕ → List (List Segment) → ℕ → ℕ

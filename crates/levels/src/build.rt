@@ -2,6 +2,7 @@
 ghost use Rattle.std.specs.Prelude.{◌≡◌, ℕ, ◌+◌, ◌*◌, ◌<◌};
 ghost use Rattle.std.specs.Prelude.{◌≤◌, ◌^◌, length, vec_len};
 ghost use Rattle.std.specs.Prelude.{◌-◌, slice_index, slice_index_or, IfOk};
+ghost use Rattle.budget.specs.Ledgers.{IsNewLedger};
 ghost use Rattle.exact_cross.specs.Points.{points_of, places};
 ghost use Rattle.exact_cross.specs.PointLists.{points_in};
 ghost use Rattle.key_points.specs.KeyPoints.{xs_of, ys_of};
@@ -217,9 +218,7 @@ impl Index {
     ) -> Result<Index, NoMemory>
         requires bounded { eps ≤ MAX_EPSILON }
         requires bounded_rec { eps_rec ≤ MAX_EPSILON }
-        requires name { blank.name ≡ L.name }
-        requires parts { blank.parts ≡ L.parts }
-        requires one { blank.parts ≡ 1 }
+        requires ledger { IsNewLedger blank L.name L.parts }
         ensures keys { IfOk result (λ index. index.keys ≡ keys) }
         ensures eps { IfOk result (λ index. index.eps ≡ eps) }
         ensures eps_rec { IfOk result (λ index. index.eps_rec ≡ eps_rec) }
@@ -322,9 +321,7 @@ fn levels_uncounted<L: Ledger>(
     requires bounded_rec { eps_rec ≤ MAX_EPSILON }
     requires segments { IsLaid (points_of (xs_of points.now) (ys_of points.now)) eps 0
         (length (xs_of points.now)) segments.items }
-    requires name { blank.name ≡ L.name }
-    requires parts { blank.parts ≡ L.parts }
-    requires one { blank.parts ≡ 1 }
+    requires ledger { IsNewLedger blank L.name L.parts }
     ensures stored { IfOk result (λ levels. AreStored points.now eps eps_rec levels.items) }
     ensures base { IfOk result (λ levels. 0 < vec_len levels →
         level_at (segments_of levels.items) 0 ≡ segments.items) }

@@ -1,13 +1,13 @@
 // The lookup, from the last level down.
 ghost use Rattle.std.specs.Prelude.{◌≡◌, ◌+◌, ◌-◌, ◌*◌, ◌<◌, ◌≤◌};
 ghost use Rattle.std.specs.Prelude.{◌^◌, ℕ, length, slice_index, slice_index_or};
-ghost use Rattle.std.specs.List.Sorted.{IsNonDecreasing};
+ghost use Rattle.budget.specs.Ledgers.{IsNewLedger};
 ghost use Rattle.exact_cross.specs.declared.segment.Segment.{Segment};
 ghost use Rattle.window_search.specs.Searches.{lb, IsPredecessor};
 ghost use Rattle.levels.specs.Costs.{TakesAtMost, lookup_bound};
 ghost use Rattle.levels.specs.Entries.{IsEntry, share_of};
 ghost use Rattle.exact_cross.specs.IndexLevels.{level_at, eps_at};
-ghost use Rattle.levels.specs.Indexes.{IsLaidIndex, xs_at, ys_at, points_at};
+ghost use Rattle.levels.specs.Indexes.{IsLaidFile, xs_at, ys_at, points_at};
 ghost use Rattle.levels.specs.Models.{IsEndOf};
 ghost use Rattle.levels.specs.Lookups.{IsWindowAt, IsNarrow, HoldsAnswers, extent_at};
 
@@ -67,9 +67,7 @@ impl Index {
     /// that the table leads to, or by the levels above.
     #[inline(always)]
     pub(crate) fn run_of<L: Ledger>(&self, q: u64, steps: &mut Steps<L>) -> u32
-        requires never_falls { IsNonDecreasing self.now.keys }
-        requires few { length self.now.keys < 2 ^ 32 }
-        requires index { IsLaidIndex self.now.keys self.now.eps self.now.eps_rec self.now.levels }
+        requires laid { IsLaidFile self.now }
         requires some { 0 < length self.now.levels }
         requires from_first { slice_index self.now.keys 0 ≤ q }
         ensures found { IsPredecessor (xs_at self.now.keys self.now.levels 1) q result }
@@ -87,9 +85,7 @@ impl Index {
     /// The run of level 0 that begins last at or before `q`, by the levels above.
     #[inline(never)]
     fn run_by_levels<L: Ledger>(&self, q: u64, steps: &mut Steps<L>) -> u32
-        requires never_falls { IsNonDecreasing self.now.keys }
-        requires few { length self.now.keys < 2 ^ 32 }
-        requires index { IsLaidIndex self.now.keys self.now.eps self.now.eps_rec self.now.levels }
+        requires laid { IsLaidFile self.now }
         requires some { 0 < length self.now.levels }
         requires from_first { slice_index self.now.keys 0 ≤ q }
         ensures found { IsPredecessor (xs_at self.now.keys self.now.levels 1) q result }
@@ -107,9 +103,7 @@ impl Index {
 
     /// The run of the entry level, found among the first x of all its runs.
     fn entry_run<L: Ledger>(&self, entry: u32, q: u64, steps: &mut Steps<L>) -> u32
-        requires never_falls { IsNonDecreasing self.now.keys }
-        requires few { length self.now.keys < 2 ^ 32 }
-        requires index { IsLaidIndex self.now.keys self.now.eps self.now.eps_rec self.now.levels }
+        requires laid { IsLaidFile self.now }
         requires some { 0 < length self.now.levels }
         requires entry { IsEntry self.now.keys self.now.eps_rec self.now.levels entry }
         requires from_first { slice_index self.now.keys 0 ≤ q }
@@ -133,9 +127,7 @@ impl Index {
         q: u64,
         steps: &mut Steps<L>,
     ) -> u32
-        requires never_falls { IsNonDecreasing self.now.keys }
-        requires few { length self.now.keys < 2 ^ 32 }
-        requires index { IsLaidIndex self.now.keys self.now.eps self.now.eps_rec self.now.levels }
+        requires laid { IsLaidFile self.now }
         requires above { 0 < level }
         requires inside { level < length self.now.levels }
         requires run { IsPredecessor (xs_at self.now.keys self.now.levels (level + 1)) q run }
@@ -151,9 +143,7 @@ impl Index {
     /// higher, and, where the line passes below the run's first point, up to ε places lower.
     #[inline(always)]
     pub(crate) fn window_by_model(&self, level: u32, run: u32, q: u64) -> (u32, u32)
-        requires never_falls { IsNonDecreasing self.now.keys }
-        requires few { length self.now.keys < 2 ^ 32 }
-        requires index { IsLaidIndex self.now.keys self.now.eps self.now.eps_rec self.now.levels }
+        requires laid { IsLaidFile self.now }
         requires inside { level < length self.now.levels }
         requires run { IsPredecessor (xs_at self.now.keys self.now.levels (level + 1)) q run }
         ensures order { result.0 ≤ result.1 }
@@ -168,9 +158,7 @@ impl Index {
 
     /// The window of `q` in a run of a level, by the run's line, as [`Index::windows`] gives it.
     pub(crate) fn window_of(&self, level: u32, run: u32, q: u64) -> (u32, u32)
-        requires never_falls { IsNonDecreasing self.now.keys }
-        requires few { length self.now.keys < 2 ^ 32 }
-        requires index { IsLaidIndex self.now.keys self.now.eps self.now.eps_rec self.now.levels }
+        requires laid { IsLaidFile self.now }
         requires inside { level < length self.now.levels }
         requires run { IsPredecessor (xs_at self.now.keys self.now.levels (level + 1)) q run }
         ensures exact { IsWindowAt self.now.keys self.now.eps self.now.eps_rec self.now.levels level
@@ -193,9 +181,7 @@ impl Index {
     /// The y of the first and of the last point of a run. At level 0 the first one is the position
     /// of the run's first x, which is searched; the last one stands in the run's model.
     fn heights_of(&self, level: u32, run: u32) -> (u32, u32)
-        requires never_falls { IsNonDecreasing self.now.keys }
-        requires few { length self.now.keys < 2 ^ 32 }
-        requires index { IsLaidIndex self.now.keys self.now.eps self.now.eps_rec self.now.levels }
+        requires laid { IsLaidFile self.now }
         requires inside { level < length self.now.levels }
         requires run { run < length (level_at self.now.levels level) }
         ensures { (e : ℕ) (d : Segment) → IsEndOf (level_at self.now.levels level)
@@ -243,9 +229,7 @@ pub fn end_of_run(segments: &[Segment], run: usize, len: usize) -> usize
 
 /// The position of `q` in the file, the steps counted in a new ledger.
 fn position_from<L: Ledger>(index: &Index, q: u64, blank: Blank) -> u32
-    requires name { blank.name ≡ L.name }
-    requires parts { blank.parts ≡ L.parts }
-    requires one { blank.parts ≡ 1 }
+    requires { IsNewLedger blank L.name L.parts }
     ensures { result ≡ lb index.now.keys q }
 {
     let mut steps = Steps::<L>::new(blank);

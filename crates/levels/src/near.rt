@@ -1,6 +1,7 @@
 // Where a question's position is, for callers that interleave searches of several files.
 ghost use Rattle.std.specs.Prelude.{◌≡◌, ◌+◌, ◌*◌, ◌<◌, ◌≤◌, min, length, IsTrue};
 ghost use Rattle.std.specs.List.Sorted.{IsNonDecreasing};
+ghost use Rattle.budget.specs.Ledgers.{IsNewLedger};
 ghost use Rattle.levels.specs.Interleaved.{HasBound};
 ghost use Rattle.window_search.specs.Searches.{lb};
 
@@ -114,9 +115,7 @@ fn is_bound(keys: &[u64], place: usize, q: u64) -> bool
 #[inline(always)]
 fn start_from<L: Ledger>(index: &Index, q: u64, blank: Blank) -> u32
     requires some { 0 < length index.now.keys }
-    requires name { blank.name ≡ L.name }
-    requires parts { blank.parts ≡ L.parts }
-    requires one { blank.parts ≡ 1 }
+    requires ledger { IsNewLedger blank L.name L.parts }
     ensures { HasBound index.now.keys q result (min (2 * index.now.eps + 3)
         (length index.now.keys + 1)) }
 {

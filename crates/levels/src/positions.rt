@@ -1,10 +1,9 @@
 // The positions of many questions.
-ghost use Rattle.std.specs.Prelude.{◌≡◌, ◌+◌, ◌*◌, ◌++◌, ◌<◌, ◌≤◌, ◌^◌, ℕ, length};
+ghost use Rattle.std.specs.Prelude.{◌≡◌, ◌+◌, ◌*◌, ◌++◌, ◌<◌, ◌≤◌, ℕ, length};
 ghost use Rattle.std.specs.Prelude.{map, min, slice_index, vec_len, vec_capacity, IfSome};
-ghost use Rattle.std.specs.List.Sorted.{IsNonDecreasing};
 ghost use Rattle.window_search.specs.Searches.{lb, IsPredecessor};
 ghost use Rattle.exact_cross.specs.IndexLevels.{eps_at};
-ghost use Rattle.levels.specs.Indexes.{IsLaidIndex, xs_at};
+ghost use Rattle.levels.specs.Indexes.{IsLaidFile, xs_at};
 ghost use Rattle.levels.specs.Interleaved.{IsAmong, HasBound, AreNear, AreRuns};
 
 use crate::index::Index;
@@ -54,6 +53,7 @@ impl Index {
         ensures capacity { vec_capacity into.old ≤ vec_capacity into.new }
     {
         let first = self.keys().file()[0];
+        let _levels = self.levels();
         let mut asked = [0; LANES];
         for lane in 0..LANES {
             asked[lane] = qs[lane].max(first);
@@ -68,8 +68,7 @@ impl Index {
     /// The positions of sixteen questions, none of them below the first key.
     #[inline(always)]
     fn find_block(&self, qs: &[u64; 16], places: &mut [u32; 16])
-        requires never_falls { IsNonDecreasing self.now.keys }
-        requires few { length self.now.keys < 2 ^ 32 }
+        requires laid { IsLaidFile self.now }
         requires some { 0 < length self.now.keys }
         requires zeros { (k : ℕ) → k < 16 → slice_index places.old k ≡ 0 }
         requires from_first { (k : ℕ) → k < 16 →
@@ -78,7 +77,6 @@ impl Index {
         ensures found { (k : ℕ) → k < 16 → slice_index places.new k ≡ lb self.now.keys
             (slice_index qs.now k) }
     {
-        let _levels = self.levels();
         let mut lows = [0; LANES];
         match self.spans_near(qs, &mut lows) {
             Some(count) => self.runs_among(qs, &lows, count, places),
@@ -91,9 +89,7 @@ impl Index {
     /// they are at most. None where it doesn't say.
     #[inline(always)]
     fn spans_near(&self, qs: &[u64; 16], lows: &mut [u32; 16]) -> Option<u32>
-        requires never_falls { IsNonDecreasing self.now.keys }
-        requires few { length self.now.keys < 2 ^ 32 }
-        requires index { IsLaidIndex self.now.keys self.now.eps self.now.eps_rec self.now.levels }
+        requires laid { IsLaidFile self.now }
         requires some { 0 < length self.now.keys }
         requires from_first { (k : ℕ) → k < 16 →
             slice_index self.now.keys 0 ≤ slice_index qs.now k }
@@ -124,9 +120,7 @@ impl Index {
         count: u32,
         runs: &mut [u32; 16],
     )
-        requires never_falls { IsNonDecreasing self.now.keys }
-        requires few { length self.now.keys < 2 ^ 32 }
-        requires index { IsLaidIndex self.now.keys self.now.eps self.now.eps_rec self.now.levels }
+        requires laid { IsLaidFile self.now }
         requires some { 0 < length self.now.keys }
         requires above { 1 < length self.now.levels }
         requires from_first { (k : ℕ) → k < 16 →
@@ -145,9 +139,7 @@ impl Index {
     /// The runs of level 0 by the levels above.
     #[inline(never)]
     pub(crate) fn runs_by_levels_interleaved(&self, qs: &[u64; 16], places: &mut [u32; 16])
-        requires never_falls { IsNonDecreasing self.now.keys }
-        requires few { length self.now.keys < 2 ^ 32 }
-        requires index { IsLaidIndex self.now.keys self.now.eps self.now.eps_rec self.now.levels }
+        requires laid { IsLaidFile self.now }
         requires some { 0 < length self.now.keys }
         requires zeros { (k : ℕ) → k < 16 → slice_index places.old k ≡ 0 }
         requires from_first { (k : ℕ) → k < 16 →
@@ -165,9 +157,7 @@ impl Index {
     /// predecessors in the level's list.
     #[inline(always)]
     fn runs_below(&self, level: u32, qs: &[u64; 16], runs: &mut [u32; 16])
-        requires never_falls { IsNonDecreasing self.now.keys }
-        requires few { length self.now.keys < 2 ^ 32 }
-        requires index { IsLaidIndex self.now.keys self.now.eps self.now.eps_rec self.now.levels }
+        requires laid { IsLaidFile self.now }
         requires above { 0 < level }
         requires inside { level < length self.now.levels }
         requires runs { AreRuns (xs_at self.now.keys self.now.levels (level + 1)) qs.now runs.old }
@@ -184,9 +174,7 @@ impl Index {
     /// Where `count` places begin that hold the predecessor in the list of a level.
     #[inline(always)]
     fn start_among(&self, level: u32, run: u32, q: u64, count: u32) -> u32
-        requires never_falls { IsNonDecreasing self.now.keys }
-        requires few { length self.now.keys < 2 ^ 32 }
-        requires index { IsLaidIndex self.now.keys self.now.eps self.now.eps_rec self.now.levels }
+        requires laid { IsLaidFile self.now }
         requires above { 0 < level }
         requires inside { level < length self.now.levels }
         requires run { IsPredecessor (xs_at self.now.keys self.now.levels (level + 1)) q run }
@@ -201,9 +189,7 @@ impl Index {
     /// From runs of level 0 to the positions in the file.
     #[inline(always)]
     pub(crate) fn bounds_below(&self, qs: &[u64; 16], runs: &mut [u32; 16])
-        requires never_falls { IsNonDecreasing self.now.keys }
-        requires few { length self.now.keys < 2 ^ 32 }
-        requires index { IsLaidIndex self.now.keys self.now.eps self.now.eps_rec self.now.levels }
+        requires laid { IsLaidFile self.now }
         requires inside { 0 < length self.now.levels }
         requires runs { AreRuns (xs_at self.now.keys self.now.levels 1) qs.now runs.old }
         ensures lanes { length runs.new ≡ 16 }
@@ -221,9 +207,7 @@ impl Index {
     /// Where `count` places begin that hold the position in the file.
     #[inline(always)]
     pub(crate) fn start_bound(&self, run: u32, q: u64, count: u64) -> u32
-        requires never_falls { IsNonDecreasing self.now.keys }
-        requires few { length self.now.keys < 2 ^ 32 }
-        requires index { IsLaidIndex self.now.keys self.now.eps self.now.eps_rec self.now.levels }
+        requires laid { IsLaidFile self.now }
         requires inside { 0 < length self.now.levels }
         requires run { IsPredecessor (xs_at self.now.keys self.now.levels 1) q run }
         requires count { count ≡ min (2 * self.now.eps + 3) (length self.now.keys + 1) }

@@ -1,11 +1,12 @@
 // The windows along a lookup.
-ghost use Rattle.std.specs.Prelude.{◌≡◌, ◌+◌, ◌<◌, ◌≤◌, ◌^◌};
+ghost use Rattle.std.specs.Prelude.{◌≡◌, ◌+◌, ◌<◌, ◌≤◌};
 ghost use Rattle.std.specs.Prelude.{ℕ, List, All, IfOk, length};
 ghost use Rattle.std.specs.Prelude.{slice_index, vec_len, vec_capacity};
 ghost use Rattle.std.specs.List.Sorted.{IsNonDecreasing};
+ghost use Rattle.budget.specs.Ledgers.{IsNewLedger};
 ghost use Rattle.exact_cross.specs.declared.segment.Segment.{Segment};
 ghost use Rattle.window_search.specs.Searches.{IsPredecessor};
-ghost use Rattle.levels.specs.Indexes.{IsIndex, IsLaidIndex, xs_at};
+ghost use Rattle.levels.specs.Indexes.{IsIndex, IsLaidFile, IsLaidIndex, xs_at};
 ghost use Rattle.levels.specs.Lookups.{AreWindows, HoldsAnswers, HasWindowsTo, IsNarrow};
 
 use crate::index::Index;
@@ -65,8 +66,7 @@ impl Index {
 
     /// The windows of the levels, where `q` isn't below the first key.
     fn windows_down<L: Ledger>(&self, q: u64, into: &mut Vec<(u32, u32, u32)>, steps: &mut Steps<L>)
-        requires never_falls { IsNonDecreasing self.now.keys }
-        requires few { length self.now.keys < 2 ^ 32 }
+        requires laid { IsLaidFile self.now }
         requires some { 0 < length self.now.keys }
         requires from_first { slice_index self.now.keys 0 ≤ q }
         requires empty { vec_len into.old ≡ 0 }
@@ -93,9 +93,7 @@ impl Index {
         q: u64,
         into: &mut Vec<(u32, u32, u32)>,
     ) -> (u32, u32)
-        requires never_falls { IsNonDecreasing self.now.keys }
-        requires few { length self.now.keys < 2 ^ 32 }
-        requires index { IsLaidIndex self.now.keys self.now.eps self.now.eps_rec self.now.levels }
+        requires laid { IsLaidFile self.now }
         requires inside { level < length self.now.levels }
         requires run { IsPredecessor (xs_at self.now.keys self.now.levels (level + 1)) q run }
         requires room { length self.now.levels ≤ vec_capacity into.old }
@@ -117,9 +115,7 @@ impl Index {
 
 /// The windows of `q`, the steps counted in a new ledger.
 fn windows_from<L: Ledger>(index: &Index, q: u64, into: &mut Vec<(u32, u32, u32)>, blank: Blank)
-    requires name { blank.name ≡ L.name }
-    requires parts { blank.parts ≡ L.parts }
-    requires one { blank.parts ≡ 1 }
+    requires ledger { IsNewLedger blank L.name L.parts }
     requires empty { vec_len into.old ≡ 0 }
     requires room { length index.now.levels ≤ vec_capacity into.old }
     ensures windows { AreWindows index.now.keys index.now.eps index.now.eps_rec index.now.levels q
@@ -134,6 +130,7 @@ fn windows_from<L: Ledger>(index: &Index, q: u64, into: &mut Vec<(u32, u32, u32)
     if keys.is_empty() || q < keys[0] {
         return;
     }
+    let _levels = index.levels();
     let mut steps = Steps::<L>::new(blank);
     index.windows_down(q, into, &mut steps);
 }

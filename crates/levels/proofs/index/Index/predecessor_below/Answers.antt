@@ -10,7 +10,7 @@ use Rattle.levels.proofs.index.Index.predecessor_below.Goals as goal
 pub predecessor_in-requires-clause-order : goal.predecessor_in-requires-clause-order
 predecessor_in-requires-clause-order g c =
     let value = c.args.self.now in
-    let here = ascends value.keys value.eps value.eps_rec value.levels c.requires.never_falls c.requires.index c.args.level (omega (arith, c.requires.inside)) in
+    let here = ascends value.keys value.eps value.eps_rec value.levels c.requires.laid.never_falls c.requires.laid.index c.args.level (omega (arith, c.requires.inside)) in
     subst IsNonDecreasing (sym c.firsts.ensures) (IsNonDecreasing-from_rising (xs_at value.keys value.levels c.args.level) here.rises)
 
 pub predecessor_in-requires-clause-within : goal.predecessor_in-requires-clause-within
@@ -19,7 +19,7 @@ predecessor_in-requires-clause-within g c = omega (arith, ap length c.firsts.ens
 pub predecessor_in-requires-clause-answer : goal.predecessor_in-requires-clause-answer
 predecessor_in-requires-clause-answer g c =
     let value = c.args.self.now in
-    let found = has_predecessor value.keys value.eps value.eps_rec value.levels c.requires.never_falls c.requires.index no_segment c.args.level c.args.run c.args.q c.requires.inside c.requires.run in
+    let found = has_predecessor value.keys value.eps value.eps_rec value.levels c.requires.laid.never_falls c.requires.laid.index no_segment c.args.level c.args.run c.args.q c.requires.inside c.requires.run in
     let held = c.window_by_model-low.ensures.holds.predecessor found.0 c.requires.above found.1 in
     (found.0, subst (λ (xs : List ℕ). IsPredecessor xs c.args.q found.0) (sym c.firsts.ensures) found.1, held.0, held.1)
 

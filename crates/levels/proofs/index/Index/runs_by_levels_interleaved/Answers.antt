@@ -13,7 +13,7 @@ loop-level-init c =
       runs = record {
         lanes = c.told-places;
         each = λ k inside. rw (c.requires.zeros k inside)
-            (top_run value.keys value.eps value.eps_rec value.levels c.requires.never_falls index no_segment (c.levels-level.result - 1) (slice_index c.args.qs.now k) last c.requires.some
+            (top_run value.keys value.eps value.eps_rec value.levels c.requires.laid.never_falls index no_segment (c.levels-level.result - 1) (slice_index c.args.qs.now k) last c.requires.some
             (c.requires.from_first k inside));
       };
     }

@@ -15,7 +15,7 @@ loop-lane-init c =
     record {
       lanes = omega (arith, c.told-lows);
       some = omega arith;
-      most = omega (arith, (first_run value.keys value.eps value.eps_rec value.levels c.requires.never_falls c.requires.index c.requires.some).0);
+      most = omega (arith, (first_run value.keys value.eps value.eps_rec value.levels c.requires.laid.never_falls c.requires.laid.index c.requires.some).0);
       each = λ k less. absurd (omega arith);
     }
 
@@ -31,12 +31,12 @@ fits keys eps eps_rec levels q most low high order few index some above first le
 pub overflow_sub-high : goal.overflow_sub-high
 overflow_sub-high c =
     let value = c.args.self.now in
-    (fits value.keys value.eps value.eps_rec value.levels (slice_index c.args.qs.now c.loop-lane.lane) _ c.in-Some.low c.in-Some.high c.requires.never_falls c.requires.few c.requires.index c.requires.some
+    (fits value.keys value.eps value.eps_rec value.levels (slice_index c.args.qs.now c.loop-lane.lane) _ c.in-Some.low c.in-Some.high c.requires.laid.never_falls c.requires.laid.few c.requires.laid.index c.requires.some
     (omega (arith, c.levels.ensures.count, c.if-levels-lt2.false)) (c.requires.from_first c.loop-lane.lane (omega (arith, c.loop-lane-test.true, c.loop-lane.auto.lane-end))) c.in-Some.ensures).0
 
 pub overflow_add-high : goal.overflow_add-high
 overflow_add-high c =
     let value = c.args.self.now in
-    let all = fits value.keys value.eps value.eps_rec value.levels (slice_index c.args.qs.now c.loop-lane.lane) _ c.in-Some.low c.in-Some.high c.requires.never_falls c.requires.few c.requires.index c.requires.some
+    let all = fits value.keys value.eps value.eps_rec value.levels (slice_index c.args.qs.now c.loop-lane.lane) _ c.in-Some.low c.in-Some.high c.requires.laid.never_falls c.requires.laid.few c.requires.laid.index c.requires.some
     (omega (arith, c.levels.ensures.count, c.if-levels-lt2.false)) (c.requires.from_first c.loop-lane.lane (omega (arith, c.loop-lane-test.true, c.loop-lane.auto.lane-end))) c.in-Some.ensures in
     omega (arith, all.0, all.1, all.2)

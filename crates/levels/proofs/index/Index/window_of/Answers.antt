@@ -14,7 +14,7 @@ use Rattle.levels.proofs.index.Index.window_of.Goals as goal
 pub heights_of-low-requires-clause-run : goal.heights_of-low-requires-clause-run
 heights_of-low-requires-clause-run c =
     let value = c.args.self.now in
-    run_there value.keys value.eps value.eps_rec value.levels c.requires.never_falls c.requires.index c.args.level c.args.run c.args.q c.requires.run
+    run_there value.keys value.eps value.eps_rec value.levels c.requires.laid.never_falls c.requires.laid.index c.args.level c.args.run c.args.q c.requires.run
 
 pub bounds-segments-run : goal.bounds-segments-run
 bounds-segments-run c =
@@ -23,8 +23,8 @@ bounds-segments-run c =
 pub extent_of-len-requires-clause-few : goal.extent_of-len-requires-clause-few
 extent_of-len-requires-clause-few c =
     let value = c.args.self.now in
-    let here = ascends value.keys value.eps value.eps_rec value.levels c.requires.never_falls c.requires.index c.args.level (omega (arith, c.requires.inside)) in
-    omega (arith, here.few, c.requires.few)
+    let here = ascends value.keys value.eps value.eps_rec value.levels c.requires.laid.never_falls c.requires.laid.index c.args.level (omega (arith, c.requires.inside)) in
+    omega (arith, here.few, c.requires.laid.few)
 
 pub window-requires-clause-in_range : goal.window-requires-clause-in_range
 window-requires-clause-in_range c =
@@ -33,10 +33,10 @@ window-requires-clause-in_range c =
     let eps_rec = c.args.self.now.eps_rec in
     let levels = c.args.self.now.levels in
     let level = c.args.level in
-    let order = c.requires.never_falls in
-    let index = c.requires.index in
+    let order = c.requires.laid.never_falls in
+    let index = c.requires.laid.index in
     let there = run_there keys eps eps_rec levels order index level c.args.run c.args.q c.requires.run in
-    let line = line_there keys eps eps_rec levels order index c.requires.few level c.args.run no_segment c.level-segments.result.now
+    let line = line_there keys eps eps_rec levels order index c.requires.laid.few level c.args.run no_segment c.level-segments.result.now
     (omega (arith, c.eps_of-eps.ensures.bound, c.eps_of-eps.ensures.bounded)) c.requires.inside there c.level-segments.ensures.segments in
     let segment = slice_index_or c.level-segments.result.now c.args.run no_segment in
     let end = end_at (level_at levels level) c.args.run (length (xs_at keys levels level)) in
@@ -49,10 +49,10 @@ window-requires-clause-rises c =
     let eps_rec = c.args.self.now.eps_rec in
     let levels = c.args.self.now.levels in
     let level = c.args.level in
-    let order = c.requires.never_falls in
-    let index = c.requires.index in
+    let order = c.requires.laid.never_falls in
+    let index = c.requires.laid.index in
     let there = run_there keys eps eps_rec levels order index level c.args.run c.args.q c.requires.run in
-    let line = line_there keys eps eps_rec levels order index c.requires.few level c.args.run no_segment c.level-segments.result.now
+    let line = line_there keys eps eps_rec levels order index c.requires.laid.few level c.args.run no_segment c.level-segments.result.now
     (omega (arith, c.eps_of-eps.ensures.bound, c.eps_of-eps.ensures.bounded)) c.requires.inside there c.level-segments.ensures.segments in
     let segment = slice_index_or c.level-segments.result.now c.args.run no_segment in
     let end = end_at (level_at levels level) c.args.run (length (xs_at keys levels level)) in
@@ -70,10 +70,10 @@ window-requires-clause-within c =
     let eps_rec = c.args.self.now.eps_rec in
     let levels = c.args.self.now.levels in
     let level = c.args.level in
-    let order = c.requires.never_falls in
-    let index = c.requires.index in
+    let order = c.requires.laid.never_falls in
+    let index = c.requires.laid.index in
     let there = run_there keys eps eps_rec levels order index level c.args.run c.args.q c.requires.run in
-    let line = line_there keys eps eps_rec levels order index c.requires.few level c.args.run no_segment c.level-segments.result.now
+    let line = line_there keys eps eps_rec levels order index c.requires.laid.few level c.args.run no_segment c.level-segments.result.now
     (omega (arith, c.eps_of-eps.ensures.bound, c.eps_of-eps.ensures.bounded)) c.requires.inside there c.level-segments.ensures.segments in
     let segment = slice_index_or c.level-segments.result.now c.args.run no_segment in
     let end = end_at (level_at levels level) c.args.run (length (xs_at keys levels level)) in
@@ -95,10 +95,10 @@ returns-clause-exact c =
     let eps_rec = c.args.self.now.eps_rec in
     let levels = c.args.self.now.levels in
     let level = c.args.level in
-    let order = c.requires.never_falls in
-    let index = c.requires.index in
+    let order = c.requires.laid.never_falls in
+    let index = c.requires.laid.index in
     let there = run_there keys eps eps_rec levels order index level c.args.run c.args.q c.requires.run in
-    let line = line_there keys eps eps_rec levels order index c.requires.few level c.args.run no_segment c.level-segments.result.now
+    let line = line_there keys eps eps_rec levels order index c.requires.laid.few level c.args.run no_segment c.level-segments.result.now
     (omega (arith, c.eps_of-eps.ensures.bound, c.eps_of-eps.ensures.bounded)) c.requires.inside there c.level-segments.ensures.segments in
     let segment = slice_index_or c.level-segments.result.now c.args.run no_segment in
     let end = end_at (level_at levels level) c.args.run (length (xs_at keys levels level)) in
@@ -119,10 +119,10 @@ returns-clause-holds c =
     let eps_rec = c.args.self.now.eps_rec in
     let levels = c.args.self.now.levels in
     let level = c.args.level in
-    let order = c.requires.never_falls in
-    let index = c.requires.index in
+    let order = c.requires.laid.never_falls in
+    let index = c.requires.laid.index in
     let there = run_there keys eps eps_rec levels order index level c.args.run c.args.q c.requires.run in
-    let line = line_there keys eps eps_rec levels order index c.requires.few level c.args.run no_segment c.level-segments.result.now
+    let line = line_there keys eps eps_rec levels order index c.requires.laid.few level c.args.run no_segment c.level-segments.result.now
     (omega (arith, c.eps_of-eps.ensures.bound, c.eps_of-eps.ensures.bounded)) c.requires.inside there c.level-segments.ensures.segments in
     let segment = slice_index_or c.level-segments.result.now c.args.run no_segment in
     let end = end_at (level_at levels level) c.args.run (length (xs_at keys levels level)) in
