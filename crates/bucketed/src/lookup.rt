@@ -52,7 +52,7 @@ impl<'a> Buckets<'a> {
     }
 }
 
-/// The same with a counter of its own, from a new ledger.
+/// The position of `q` in the file, the steps counted in a new ledger.
 fn position_from<L: Ledger>(buckets: &Buckets<'_>, q: u64, blank: Blank) -> u32
     requires name { blank.name ≡ L.name }
     requires parts { blank.parts ≡ L.parts }

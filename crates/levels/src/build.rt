@@ -2,8 +2,8 @@
 ghost use Rattle.std.specs.Prelude.{◌≡◌, ℕ, ◌+◌, ◌*◌, ◌<◌};
 ghost use Rattle.std.specs.Prelude.{◌≤◌, ◌^◌, length, vec_len};
 ghost use Rattle.std.specs.Prelude.{◌-◌, slice_index, slice_index_or, IfOk};
-ghost use Rattle.std.specs.List.Sorted.{IsStrictlyIncreasing, IsNonDecreasing};
 ghost use Rattle.exact_cross.specs.Points.{points_of, places};
+ghost use Rattle.exact_cross.specs.PointLists.{points_in};
 ghost use Rattle.key_points.specs.KeyPoints.{xs_of, ys_of};
 ghost use Rattle.exact_cross.specs.declared.segment.Segment.{Segment};
 ghost use Rattle.exact_cross.specs.Segmentation.{IsSegmentation};
@@ -25,7 +25,7 @@ use crate::lookup::end_of_run;
 use crate::model::RunModel;
 use budget::{NoMemory, Steps};
 use edge::Gate;
-use exact_cross::{MAX_EPSILON, Segment};
+use exact_cross::{MAX_EPSILON, PointList, Segment};
 use key_points::{KeyPoints, Keys};
 use piece_join::{relaxed, segment_in_pieces, uneven_cuts};
 use segmenter::segment_counted;
@@ -57,7 +57,7 @@ impl Index {
         Index::here::<Brand>(alloc, keys, eps, eps_rec, Blank::new(1))
     }
 
-    /// The same index as [`Index::of`] gives, level 0 built by several workers.
+    /// The index of keys that [`Index::of`] gives, its level 0 built by several workers.
     ///
     /// The points of the keys are cut into 8 uneven pieces a worker, and each of the `workers`, 1
     /// to 64, draws pieces until there are none left. Where a thread can't be started the caller
@@ -247,25 +247,9 @@ fn levels_here<L: Ledger>(
         + 12 * places_below keys.now (segments_of levels.items) (vec_len levels)) }
 {
     let points = keys.points(alloc)?;
-    let segments = level_0_here(alloc, &points, eps, steps)?;
+    let list = points.points();
+    let segments = segment_counted(alloc, list, eps, 0, list.xs.len() as u32, steps)?;
     levels_over(alloc, &points, segments, eps, eps_rec, steps)
-}
-
-/// The segments of level 0, made on the calling thread.
-fn level_0_here<L: Ledger>(
-    alloc: Global,
-    points: &KeyPoints,
-    eps: u32,
-    steps: &mut Steps<L>,
-) -> Result<Vec<Segment>, NoMemory>
-    requires bounded { eps ≤ MAX_EPSILON }
-    ensures segments { IfOk result (λ segments. IsSegmentation
-        (points_of (xs_of points.now) (ys_of points.now)) eps 0 (length (xs_of points.now))
-        segments.items) }
-    ensures cost { steps.new ≤ steps.old + 12 * length (xs_of points.now) }
-{
-    let (xs, ys) = (points.xs(), points.ys());
-    segment_counted(alloc, xs, ys, eps, 0, xs.len() as u32, steps)
 }
 
 /// All levels of keys, level 0 made piece by piece. The points are dropped then.
@@ -290,39 +274,9 @@ fn levels_in_pieces<R: Threads + Sync, G: Gate>(
         (λ levels. IsIndex keys.now eps eps_rec (segments_of levels.items)) }
 {
     let points = keys.points(alloc)?;
-    let segments = level_0_in_pieces(rt, alloc, &points, eps, cuts, workers, gate)?;
+    let list = points.points();
+    let segments = segment_in_pieces(rt, alloc, list, eps, cuts, workers, gate)?;
     levels_uncounted::<Brand>(alloc, &points, segments, eps, eps_rec, Blank::new(1))
-}
-
-/// The segments of level 0, made piece by piece.
-fn level_0_in_pieces<R: Threads + Sync, G: Gate>(
-    rt: &R,
-    alloc: Global,
-    points: &KeyPoints,
-    eps: u32,
-    cuts: &[u32],
-    workers: u32,
-    gate: &G,
-) -> Result<Vec<Segment>, NoMemory>
-    requires bounded { eps ≤ MAX_EPSILON }
-    requires cuts { AreCuts (length (xs_of points.now)) cuts.now }
-    requires few_cuts { length cuts.now ≤ 65535 }
-    requires staffed { 1 ≤ workers }
-    requires few_workers { workers ≤ 64 }
-    ensures { IfOk result (λ segments. IsSegmentation
-        (points_of (xs_of points.now) (ys_of points.now)) eps 0 (length (xs_of points.now))
-        segments.items) }
-{
-    segment_in_pieces(
-        rt,
-        alloc,
-        points.xs(),
-        points.ys(),
-        eps,
-        cuts,
-        workers,
-        gate,
-    )
 }
 
 /// All levels of keys, level 0 made piece by piece and put side by side. The points are dropped
@@ -350,33 +304,9 @@ fn levels_side_by_side<R: Threads + Sync, G: Gate>(
         uncut (level_at (segments_of levels.items) 0) ≡ length cuts.now + 1) }
 {
     let points = keys.points(alloc)?;
-    let segments = level_0_side_by_side(rt, alloc, &points, eps, cuts, workers, gate)?;
+    let list = points.points();
+    let segments = relaxed(rt, alloc, list, eps, cuts, workers, gate)?;
     levels_uncounted::<Brand>(alloc, &points, segments, eps, eps_rec, Blank::new(1))
-}
-
-/// The segments of level 0, made piece by piece and put side by side.
-fn level_0_side_by_side<R: Threads + Sync, G: Gate>(
-    rt: &R,
-    alloc: Global,
-    points: &KeyPoints,
-    eps: u32,
-    cuts: &[u32],
-    workers: u32,
-    gate: &G,
-) -> Result<Vec<Segment>, NoMemory>
-    requires bounded { eps ≤ MAX_EPSILON }
-    requires cuts { AreCuts (length (xs_of points.now)) cuts.now }
-    requires few_cuts { length cuts.now ≤ 65535 }
-    requires staffed { 1 ≤ workers }
-    requires few_workers { workers ≤ 64 }
-    ensures relaxed { IfOk result (λ segments. IsRelaxed
-        (points_of (xs_of points.now) (ys_of points.now)) eps 0 (length (xs_of points.now))
-        cuts.now segments.items) }
-    ensures slack { IfOk result (λ segments. 0 < length (xs_of points.now) →
-        uncut segments.items ≡ length cuts.now + 1) }
-{
-    let (xs, ys) = (points.xs(), points.ys());
-    relaxed(rt, alloc, xs, ys, eps, cuts, workers, gate)
 }
 
 /// All levels over the segments of level 0, the steps counted from a new ledger.
@@ -452,7 +382,7 @@ fn level_0(
         (points_of (xs_of points.now) (ys_of points.now)) eps (length (xs_of points.now))
         segments.items level.models.items) }
 {
-    let models = models_over(alloc, points.xs(), points.ys(), &segments, eps)?;
+    let models = models_over(alloc, points.points(), &segments, eps)?;
     Ok(Level {
         segments,
         models,
@@ -490,7 +420,8 @@ fn level_above<L: Ledger>(
     let level = &levels[below];
     let xs = first_xs_of(alloc, list_at(points, levels, below), &level.segments)?;
     let ys = places_of(alloc, xs.as_slice())?;
-    let runs = runs_over(alloc, xs.as_slice(), ys.as_slice(), eps_rec, steps)?;
+    let list = PointList::new(xs.as_slice(), ys.as_slice());
+    let runs = runs_over(alloc, list, eps_rec, steps)?;
     let Runs { segments, models } = runs;
     Ok(Level {
         segments,
@@ -506,75 +437,63 @@ fn list_at<'a>(points: &'a KeyPoints, levels: &'a [Level], i: usize) -> &'a [u64
     ensures { result.now ≡ xs_at points.now (segments_of levels.now) i }
 {
     if i == 0 {
-        return points.xs();
+        return points.points().xs;
     }
     firsts_at(levels, i)
 }
 
-/// The segmentation of all points of two lists, with the models of its runs.
+/// The segmentation of all points of a list, with the models of its runs.
 fn runs_over<L: Ledger>(
     alloc: Global,
-    xs: &[u64],
-    ys: &[u32],
+    points: PointList<'_>,
     eps: u32,
     steps: &mut Steps<L>,
 ) -> Result<Runs, NoMemory>
-    requires same_length { length ys.now ≡ length xs.now }
-    requires rising { IsStrictlyIncreasing xs.now }
-    requires never_falls { IsNonDecreasing ys.now }
-    requires few { length xs.now < 2 ^ 32 }
     requires bounded { eps ≤ MAX_EPSILON }
-    ensures segments { IfOk result (λ runs. IsSegmentation (points_of xs.now ys.now) eps 0
-        (length xs.now) runs.segments.items) }
-    ensures models { IfOk result (λ runs. AreModels (points_of xs.now ys.now) eps (length xs.now)
-        runs.segments.items runs.models.items) }
-    ensures cost { steps.new ≤ steps.old + 12 * length xs.now }
+    ensures segments { IfOk result (λ runs. IsSegmentation (points_in points.entry) eps 0
+        (length points.entry.xs.now) runs.segments.items) }
+    ensures models { IfOk result (λ runs. AreModels (points_in points.entry) eps
+        (length points.entry.xs.now) runs.segments.items runs.models.items) }
+    ensures cost { steps.new ≤ steps.old + 12 * length points.entry.xs.now }
 {
-    let segments = segment_counted(alloc, xs, ys, eps, 0, xs.len() as u32, steps)?;
-    let models = models_over(alloc, xs, ys, &segments, eps)?;
+    let segments = segment_counted(alloc, points, eps, 0, points.xs.len() as u32, steps)?;
+    let models = models_over(alloc, points, &segments, eps)?;
     Ok(Runs { segments, models })
 }
 
 /// The model of each run.
 fn models_over(
     alloc: Global,
-    xs: &[u64],
-    ys: &[u32],
+    points: PointList<'_>,
     segments: &[Segment],
     eps: u32,
 ) -> Result<Vec<RunModel>, NoMemory>
-    requires same_length { length ys.now ≡ length xs.now }
-    requires rising { IsStrictlyIncreasing xs.now }
-    requires never_falls { IsNonDecreasing ys.now }
     requires bounded { eps ≤ MAX_EPSILON }
-    requires segments { IsLaid (points_of xs.now ys.now) eps 0 (length xs.now) segments.now }
-    ensures { IfOk result (λ models. AreModels (points_of xs.now ys.now) eps (length xs.now)
-        segments.now models.items) }
+    requires segments { IsLaid (points_in points) eps 0 (length points.xs.now) segments.now }
+    ensures { IfOk result (λ models. AreModels (points_in points.entry) eps
+        (length points.entry.xs.now) segments.now models.items) }
 {
     let mut models = Vec::with_capacity(alloc, segments.len())?;
     for run in 0..segments.len() {
-        models.push(model_at(xs, ys, segments, eps, run))?;
+        models.push(model_at(points, segments, eps, run))?;
     }
     Ok(models)
 }
 
 /// The model of a run.
-fn model_at(xs: &[u64], ys: &[u32], segments: &[Segment], eps: u32, run: usize) -> RunModel
-    requires same_length { length ys.now ≡ length xs.now }
-    requires rising { IsStrictlyIncreasing xs.now }
-    requires never_falls { IsNonDecreasing ys.now }
+fn model_at(points: PointList<'_>, segments: &[Segment], eps: u32, run: usize) -> RunModel
     requires bounded { eps ≤ MAX_EPSILON }
-    requires segments { IsLaid (points_of xs.now ys.now) eps 0 (length xs.now) segments.now }
+    requires segments { IsLaid (points_in points) eps 0 (length points.xs.now) segments.now }
     requires inside { run < length segments.now }
-    ensures { (e : ℕ) (d : Segment) → IsEndOf segments.now (length xs.now) run e →
+    ensures { (e : ℕ) (d : Segment) → IsEndOf segments.now (length points.entry.xs.now) run e →
         IsModelOf (slice_index_or segments.now run d).line
-        (slice_index xs.now (slice_index_or segments.now run d).start)
-        (slice_index ys.now (e - 1)) eps result }
+        (slice_index points.entry.xs.now (slice_index_or segments.now run d).start)
+        (slice_index points.entry.ys.now (e - 1)) eps result }
 {
     let segment = &segments[run];
-    let end = end_of_run(segments, run, xs.len());
-    let first = xs[segment.start as usize];
-    let high = ys[end - 1];
+    let end = end_of_run(segments, run, points.xs.len());
+    let first = points.xs[segment.start as usize];
+    let high = points.ys[end - 1];
     RunModel::of(&segment.line, first, high, eps)
 }
 

@@ -209,7 +209,8 @@ impl Index {
     {
         if i == 0 {
             let points = self.keys.points(alloc)?;
-            return Ok(Vec::from_slice(alloc, points.xs())?);
+            let list = points.points();
+            return Ok(Vec::from_slice(alloc, list.xs)?);
         }
         Ok(Vec::from_slice(alloc, self.firsts(i))?)
     }
@@ -226,7 +227,8 @@ impl Index {
     {
         if i == 0 {
             let points = self.keys.points(alloc)?;
-            return Ok(Vec::from_slice(alloc, points.ys())?);
+            let list = points.points();
+            return Ok(Vec::from_slice(alloc, list.ys)?);
         }
         places_of(alloc, self.firsts(i))
     }

@@ -84,7 +84,7 @@ impl Index {
         self.run_by_levels(q, steps)
     }
 
-    /// The same by the levels above.
+    /// The run of level 0 that begins last at or before `q`, by the levels above.
     #[inline(never)]
     fn run_by_levels<L: Ledger>(&self, q: u64, steps: &mut Steps<L>) -> u32
         requires never_falls { IsNonDecreasing self.now.keys }
@@ -241,7 +241,7 @@ pub fn end_of_run(segments: &[Segment], run: usize, len: usize) -> usize
     }
 }
 
-/// The same with a counter of its own, from a new ledger.
+/// The position of `q` in the file, the steps counted in a new ledger.
 fn position_from<L: Ledger>(index: &Index, q: u64, blank: Blank) -> u32
     requires name { blank.name ≡ L.name }
     requires parts { blank.parts ≡ L.parts }

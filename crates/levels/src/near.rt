@@ -12,16 +12,16 @@ use std::sync::ledger::{Blank, Ledger};
 /// The error bound of level 0, in places, for which [`Index::position_near`] is made.
 pub const EPS: u32 = 64;
 
-/// That of the levels above it, in places.
+/// The error bound of the levels above level 0, in places, that goes with [`EPS`].
 pub const EPS_REC: u32 = 4;
 
-/// So many keys are a group.
+/// How many keys are a group.
 const GROUP: usize = 8;
 
-/// So many groups have the `2ε + 3` places of a window.
+/// How many groups have the `2ε + 3` places of a window.
 const GROUPS: usize = 17;
 
-/// So many keys they have.
+/// How many keys those groups have.
 const NEAR: usize = GROUP * GROUPS;
 
 impl Index {
@@ -110,7 +110,7 @@ fn is_bound(keys: &[u64], place: usize, q: u64) -> bool
     place == keys.len() || keys[place] >= q
 }
 
-/// The same with a counter of its own, from a new ledger.
+/// Where the places of `q` begin, as [`Index::start_near`] says, the steps counted in a new ledger.
 #[inline(always)]
 fn start_from<L: Ledger>(index: &Index, q: u64, blank: Blank) -> u32
     requires some { 0 < length index.now.keys }

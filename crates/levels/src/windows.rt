@@ -115,7 +115,7 @@ impl Index {
     }
 }
 
-/// The windows, with a counter of its own, from a new ledger.
+/// The windows of `q`, the steps counted in a new ledger.
 fn windows_from<L: Ledger>(index: &Index, q: u64, into: &mut Vec<(u32, u32, u32)>, blank: Blank)
     requires name { blank.name ≡ L.name }
     requires parts { blank.parts ≡ L.parts }

@@ -1,6 +1,5 @@
 -- The level stands on the first x of the runs of the last one.
-use Rattle.std.proofs.Common.{◌≡◌, ◌+◌, ◌-◌, length, sym, ap, subst, arith}
-use Rattle.std.specs.List.Sorted.{IsStrictlyIncreasing, IsNonDecreasing}
+use Rattle.std.proofs.Common.{◌≡◌, ◌+◌, ◌-◌, length, ap, arith}
 use Rattle.levels.proofs.StoredLemmas.{ascends_next, above_xs, above_ys, above_level, level_models, eps_at-above, starts_inside, ascends_list}
 use Rattle.levels.proofs.build.level_above.Goals as goal
 
@@ -19,8 +18,8 @@ places_of-requires g c =
     let ascends = ascends_next keys c.args.eps c.args.eps_rec levels c.requires.levels (length levels) (omega arith) in
     omega (arith, ap length c.as_slice.ensures.value, ap length xs_are, ascends.few, c.requires.levels.few)
 
-pub runs_over-requires-clause-same_length : goal.runs_over-requires-clause-same_length
-runs_over-requires-clause-same_length g c =
+pub new-list-requires : goal.new-list-requires
+new-list-requires g c =
     let keys = c.args.points.now in
     let levels = c.args.levels.now in
     let last : length levels - 1 + 1 ≡ length levels = omega (arith, c.requires.some) in
@@ -28,40 +27,7 @@ runs_over-requires-clause-same_length g c =
     c.index-levels-below.is c.deref.ensures.value c.list_at.ensures c.in_ok-xs.ensures in
     let ys_are = above_ys keys levels (length levels - 1) c.in_ok-xs.xs.items c.in_ok-ys.ys.items last xs_are (rw c.as_slice.ensures.value at c.in_ok-ys.ensures) in
     let ascends = ascends_list keys c.args.eps c.args.eps_rec levels c.in_ok-xs.xs.items c.in_ok-ys.ys.items c.requires.levels xs_are ys_are in
-    rw (c.as_slice-2.ensures.value, c.as_slice-3.ensures.value) ascends.0
-
-pub runs_over-requires-clause-rising : goal.runs_over-requires-clause-rising
-runs_over-requires-clause-rising g c =
-    let keys = c.args.points.now in
-    let levels = c.args.levels.now in
-    let last : length levels - 1 + 1 ≡ length levels = omega (arith, c.requires.some) in
-    let xs_are = above_xs keys levels (length levels - 1) c.index-levels-below.result c.list_at.result.now c.in_ok-xs.xs.items c.deref.result.now last
-    c.index-levels-below.is c.deref.ensures.value c.list_at.ensures c.in_ok-xs.ensures in
-    let ys_are = above_ys keys levels (length levels - 1) c.in_ok-xs.xs.items c.in_ok-ys.ys.items last xs_are (rw c.as_slice.ensures.value at c.in_ok-ys.ensures) in
-    let ascends = ascends_list keys c.args.eps c.args.eps_rec levels c.in_ok-xs.xs.items c.in_ok-ys.ys.items c.requires.levels xs_are ys_are in
-    subst IsStrictlyIncreasing (sym c.as_slice-2.ensures.value) ascends.1
-
-pub runs_over-requires-clause-never_falls : goal.runs_over-requires-clause-never_falls
-runs_over-requires-clause-never_falls g c =
-    let keys = c.args.points.now in
-    let levels = c.args.levels.now in
-    let last : length levels - 1 + 1 ≡ length levels = omega (arith, c.requires.some) in
-    let xs_are = above_xs keys levels (length levels - 1) c.index-levels-below.result c.list_at.result.now c.in_ok-xs.xs.items c.deref.result.now last
-    c.index-levels-below.is c.deref.ensures.value c.list_at.ensures c.in_ok-xs.ensures in
-    let ys_are = above_ys keys levels (length levels - 1) c.in_ok-xs.xs.items c.in_ok-ys.ys.items last xs_are (rw c.as_slice.ensures.value at c.in_ok-ys.ensures) in
-    let ascends = ascends_list keys c.args.eps c.args.eps_rec levels c.in_ok-xs.xs.items c.in_ok-ys.ys.items c.requires.levels xs_are ys_are in
-    subst IsNonDecreasing (sym c.as_slice-3.ensures.value) ascends.2
-
-pub runs_over-requires-clause-few : goal.runs_over-requires-clause-few
-runs_over-requires-clause-few g c =
-    let keys = c.args.points.now in
-    let levels = c.args.levels.now in
-    let last : length levels - 1 + 1 ≡ length levels = omega (arith, c.requires.some) in
-    let xs_are = above_xs keys levels (length levels - 1) c.index-levels-below.result c.list_at.result.now c.in_ok-xs.xs.items c.deref.result.now last
-    c.index-levels-below.is c.deref.ensures.value c.list_at.ensures c.in_ok-xs.ensures in
-    let ys_are = above_ys keys levels (length levels - 1) c.in_ok-xs.xs.items c.in_ok-ys.ys.items last xs_are (rw c.as_slice.ensures.value at c.in_ok-ys.ensures) in
-    let ascends = ascends_list keys c.args.eps c.args.eps_rec levels c.in_ok-xs.xs.items c.in_ok-ys.ys.items c.requires.levels xs_are ys_are in
-    omega (arith, ap length c.as_slice-2.ensures.value, ascends.3)
+    rw (c.as_slice-2.ensures.value, c.as_slice-3.ensures.value) (record { same_length = ascends.0; rising = ascends.1; never_falls = ascends.2; few = ascends.3 })
 
 pub returns-clause-segments : goal.returns-clause-segments
 returns-clause-segments g c =
@@ -72,7 +38,7 @@ returns-clause-segments g c =
     c.index-levels-below.is c.deref.ensures.value c.list_at.ensures c.in_ok-xs.ensures in
     let ys_are = above_ys keys levels (length levels - 1) c.in_ok-xs.xs.items c.in_ok-ys.ys.items last xs_are (rw c.as_slice.ensures.value at c.in_ok-ys.ensures) in
     above_level keys c.args.eps c.args.eps_rec levels c.in_ok-xs.xs.items c.in_ok-ys.ys.items c.in_ok-runs.runs.segments.items (omega (arith, last)) xs_are ys_are
-    (rw (c.as_slice-2.ensures.value, c.as_slice-3.ensures.value) at c.in_ok-runs.ensures.segments)
+    (rw (c.new-list.ensures.xs, c.new-list.ensures.ys, c.as_slice-2.ensures.value, c.as_slice-3.ensures.value) at c.in_ok-runs.ensures.segments)
 
 pub returns-clause-models : goal.returns-clause-models
 returns-clause-models g c =
@@ -84,7 +50,7 @@ returns-clause-models g c =
     let ys_are = above_ys keys levels (length levels - 1) c.in_ok-xs.xs.items c.in_ok-ys.ys.items last xs_are (rw c.as_slice.ensures.value at c.in_ok-ys.ensures) in
     level_models keys c.args.eps c.args.eps_rec levels c.in_ok-xs.xs.items c.in_ok-ys.ys.items c.args.eps_rec c.in_ok-runs.runs.segments.items c.in_ok-runs.runs.models.items
     xs_are ys_are (eps_at-above c.args.eps c.args.eps_rec (length levels) (omega (arith, last)))
-    (rw (c.as_slice-2.ensures.value, c.as_slice-3.ensures.value) at c.in_ok-runs.ensures.models)
+    (rw (c.new-list.ensures.xs, c.new-list.ensures.ys, c.as_slice-2.ensures.value, c.as_slice-3.ensures.value) at c.in_ok-runs.ensures.models)
 
 pub returns-clause-xs : goal.returns-clause-xs
 returns-clause-xs g c =
@@ -102,4 +68,4 @@ returns-clause-cost g c =
     let last : length levels - 1 + 1 ≡ length levels = omega (arith, c.requires.some) in
     let xs_are = above_xs keys levels (length levels - 1) c.index-levels-below.result c.list_at.result.now c.in_ok-xs.xs.items c.deref.result.now last
     c.index-levels-below.is c.deref.ensures.value c.list_at.ensures c.in_ok-xs.ensures in
-    omega (arith, c.in_ok-runs.ensures.cost, ap length c.as_slice-2.ensures.value, ap length xs_are)
+    omega (arith, c.in_ok-runs.ensures.cost, ap length c.new-list.ensures.xs, ap length c.as_slice-2.ensures.value, ap length xs_are)

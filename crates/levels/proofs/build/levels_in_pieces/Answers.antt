@@ -12,7 +12,8 @@ use Rattle.levels.proofs.build.levels_in_pieces.Goals as goal
 pub levels_uncounted-requires-clause-segments : goal.levels_uncounted-requires-clause-segments
 levels_uncounted-requires-clause-segments g c =
     let keys = c.in_ok-points.points in
-    IsLaid-from_piece (points_of (xs_of keys) (ys_of keys)) c.args.eps 0 (length (xs_of keys)) c.in_ok-segments.segments.items (omega arith) c.in_ok-segments.ensures
+    IsLaid-from_piece (points_of (xs_of keys) (ys_of keys)) c.args.eps 0 (length (xs_of keys)) c.in_ok-segments.segments.items (omega arith)
+    (rw (c.points-list.ensures.xs, c.points-list.ensures.ys) at c.in_ok-segments.ensures.segmentation)
 
 pub returns-clause-stored : goal.returns-clause-stored
 returns-clause-stored g c = rw (← c.in_ok-points.ensures) c.levels_uncounted.ensures.stored
@@ -21,5 +22,6 @@ pub returns-clause-index : goal.returns-clause-index
 returns-clause-index g c =
     rw (← c.in_ok-points.ensures)
     (IfOk-weaker c.levels_uncounted.result _ _ (λ levels own. IsIndex-over c.in_ok-points.points c.args.eps c.args.eps_rec (segments_of levels.items) c.in_ok-segments.segments.items own.0.index
-    (λ some. own.1 (omega (arith, segments_of-count levels.items, levels.ok.0, some))) c.in_ok-segments.ensures)
+    (λ some. own.1 (omega (arith, segments_of-count levels.items, levels.ok.0, some)))
+    (rw (c.points-list.ensures.xs, c.points-list.ensures.ys) at c.in_ok-segments.ensures.segmentation))
     (IfOk-both c.levels_uncounted.result _ _ c.levels_uncounted.ensures.stored c.levels_uncounted.ensures.base))

@@ -14,7 +14,8 @@ use Rattle.levels.proofs.build.levels_side_by_side.Goals as goal
 pub levels_uncounted-requires-clause-segments : goal.levels_uncounted-requires-clause-segments
 levels_uncounted-requires-clause-segments g c =
     let keys = c.in_ok-points.points in
-    IsLaid-from_cuts (points_of (xs_of keys) (ys_of keys)) c.args.eps c.args.cuts.now c.in_ok-segments.segments.items (rw c.in_ok-points.ensures c.requires.cuts) c.in_ok-segments.ensures.relaxed
+    IsLaid-from_cuts (points_of (xs_of keys) (ys_of keys)) c.args.eps c.args.cuts.now c.in_ok-segments.segments.items (rw c.in_ok-points.ensures c.requires.cuts)
+    (rw (c.points-list.ensures.xs, c.points-list.ensures.ys) at c.in_ok-segments.ensures.relaxed)
 
 pub returns-clause-stored : goal.returns-clause-stored
 returns-clause-stored g c = rw (← c.in_ok-points.ensures) c.levels_uncounted.ensures.stored
@@ -23,12 +24,13 @@ pub returns-clause-relaxed : goal.returns-clause-relaxed
 returns-clause-relaxed g c =
     rw (← c.in_ok-points.ensures)
     (IfOk-weaker c.levels_uncounted.result _ _ (λ levels own. IsRelaxedIndex-over c.in_ok-points.points c.args.eps c.args.eps_rec c.args.cuts.now (segments_of levels.items)
-    c.in_ok-segments.segments.items own.0.index (λ some. own.1 (omega (arith, segments_of-count levels.items, levels.ok.0, some))) c.in_ok-segments.ensures.relaxed)
+    c.in_ok-segments.segments.items own.0.index (λ some. own.1 (omega (arith, segments_of-count levels.items, levels.ok.0, some)))
+    (rw (c.points-list.ensures.xs, c.points-list.ensures.ys) at c.in_ok-segments.ensures.relaxed))
     (IfOk-both c.levels_uncounted.result _ _ c.levels_uncounted.ensures.stored c.levels_uncounted.ensures.base))
 
 pub returns-clause-slack : goal.returns-clause-slack
 returns-clause-slack g c =
     rw (← c.in_ok-points.ensures)
     (IfOk-weaker c.levels_uncounted.result _ _ (λ levels own some. ap uncut (own.1 (omega (arith, segments_of-count levels.items, levels.ok.0, own.0.index.some some)))
-    ∙ c.in_ok-segments.ensures.slack (xs-first c.in_ok-points.points some).0)
+    ∙ (rw c.points-list.ensures.xs at c.in_ok-segments.ensures.slack) (xs-first c.in_ok-points.points some).0)
     (IfOk-both c.levels_uncounted.result _ _ c.levels_uncounted.ensures.stored c.levels_uncounted.ensures.base))

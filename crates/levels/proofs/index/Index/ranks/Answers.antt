@@ -11,7 +11,7 @@ use Rattle.levels.proofs.index.Index.ranks.Goals as goal
 
 pub returns-then-i-eq0 : goal.returns-then-i-eq0
 returns-then-i-eq0 c =
-    rw (c.if-i-eq0.true, ys_at-base, ← c.self.view_is) (c.in_ok-from_slice.ensures.items ∙ c.ys.ensures.points ∙ ap ys_of c.in_ok-points.ensures)
+    rw (c.if-i-eq0.true, ys_at-base, ← c.self.view_is) (c.in_ok-from_slice.ensures.items ∙ c.points-list.ensures.ys ∙ ap ys_of c.in_ok-points.ensures)
 
 pub places_of-requires : goal.places_of-requires
 places_of-requires c =
