@@ -1,9 +1,9 @@
 -- Words that `clap` takes name a command, whose options hold what their parsers let through.
 --
--- Main results: what was entered is a command of the definition, with rows that passed (`command_met`), and is a request
--- (`words_ask`).
+-- Main results: what was entered is a command of the definition, with rows that passed (`command_met`), which tells what the
+-- options of a name hold (`options_of`), and is a request (`words_ask`).
 use Rattle.std.proofs.Common.{◌≡◌, ◌⊎◌, inl, inr, rules, Bool, true, false, not, cond, ◌&&◌, List, [], ◌∷◌, Option, Some, None, is_some, refl, sym, ap, ap₂, subst, ◌∙◌}
-use Rattle.std.specs.Prelude.{find, codes, option_map, option_and_then, ok_or, Err, IsSome, ⊤}
+use Rattle.std.specs.Prelude.{find, map, codes, option_map, option_and_then, ok_or, Err, IsSome}
 use Rattle.std.specs.List.{list_all, list_any}
 use Rattle.std.specs.Option.{option_map_or}
 use Rattle.std.specs.Str.{bytes_eq}
@@ -12,7 +12,7 @@ use Rattle.clap.proofs.WalkLemmas.{both}
 use Rattle.clap.proofs.OnLiterals.{clap_on_literals}
 use Rattle.clap.specs.Walk.{Text, Rule, Row, Held, answers_to, finished, nothing_held, settled, walk, walk_from}
 use Rattle.clap.specs.Kinds.{check_kinds}
-use Rattle.clap.specs.Simple.{App, Shape, argument_words, built, entered, filled_from, label_of, names_of, rows_at, subcommand_of, is_simple}
+use Rattle.clap.specs.Simple.{App, Shape, argument_words, built, entered, label_of, names_of, rows_at, subcommand_of, is_simple}
 use Rattle.clap.specs.Faults.{built_fault, check_fault, defaults_fault, entered_fault, is_simple_and_free, level_fault, settle_fault, walk_fault}
 use Rattle.clap.specs.Facts.{explicit_source}
 use Rattle.clap.specs.Takes.{is_given}
@@ -25,9 +25,9 @@ use Rattle.clap.specs.declared.parser.matches.ArgMatches.{ArgMatches}
 use Rattle.clap.specs.declared.parser.matches.ArgMatches.TheViews.{out-ArgMatches, out-SubCommand}
 use Rattle.clap.specs.declared.parser.matches.SubCommand.{SubCommand}
 use Rattle.exact_cross.specs.declared.TheConstants.{MAX_EPSILON}
-use Rattle.command_line.specs.Application.{application, build_rules, check_rules, drill_rules, find_rules, lines_rules, points_rules, query_rules, relax_rules, replay_rules, mix_rules}
+use Rattle.command_line.specs.Commands.{Command, application, commands, request_for}
 use Rattle.command_line.specs.declared.request.Request as declared
-use Rattle.command_line.specs.Requests.{Request, asked_of, request_for}
+use Rattle.command_line.specs.Requests.{Request, asked_of}
 use Rattle.command_line.specs.Words.{AreTaken, AskFor, request_of}
 use Rattle.command_line.specs.Passed.{ArePassed, AreDrillOptions, AreIndexOptions, AreLineOptions, AreQueryOptions, AreReplayOptions, IsDimensionOption, IsNarrowOption, IsPiecesOption, IsSendersOption}
 use Rattle.command_line.proofs.PassedRows.{all_set, level_good, quiet}
@@ -115,21 +115,56 @@ module _ (a : App) (once : list_all sets_once a.subs ≡ true) (required : a.top
 
 -- ---- the commands of the definition
 
--- a command of the definition, with what its options hold
+-- a command of the definition
 abbrev pub IsCommand : Text × List Row → Type 0
-IsCommand p = ((p.0 ≡ codes "build") × AreIndexOptions p.1)
-    ⊎ ((p.0 ≡ codes "explain") × AreIndexOptions p.1)
-    ⊎ ((p.0 ≡ codes "query") × AreIndexOptions p.1 × AreQueryOptions p.1)
-    ⊎ ((p.0 ≡ codes "relax") × AreIndexOptions p.1 × IsPiecesOption p.1)
-    ⊎ ((p.0 ≡ codes "box") × IsDimensionOption p.1)
-    ⊎ ((p.0 ≡ codes "near") × IsDimensionOption p.1)
-    ⊎ ((p.0 ≡ codes "replay") × AreReplayOptions p.1)
-    ⊎ ((p.0 ≡ codes "mix") × AreReplayOptions p.1 × IsSendersOption p.1)
-    ⊎ ((p.0 ≡ codes "lines") × AreLineOptions p.1)
-    ⊎ ((p.0 ≡ codes "find") × IsNarrowOption p.1)
-    ⊎ ((p.0 ≡ codes "drill") × AreDrillOptions p.1)
-    ⊎ ((p.0 ≡ codes "save") × AreIndexOptions p.1)
-    ⊎ ((p.0 ≡ codes "check") × IsNarrowOption p.1)
+IsCommand p = SomeShape (built application).subs (IsOfCommand p)
+
+-- a command's name is that of no other
+abbrev differs : Text → List Shape → Bool
+differs name subs = list_all (λ s. not (bytes_eq s.name name)) subs
+
+abbrev are_apart : List Shape → Bool
+are_apart [] = true
+are_apart (s ∷ rest) = differs s.name rest && are_apart rest
+
+-- the rules of the command of a name
+abbrev rules_in : Text → List Shape → List Rule
+rules_in name subs = option_map_or (λ s. s.rules) (find (λ s. bytes_eq s.name name) subs) []
+
+none_named : (name : Text) (subs : List Shape) (p : Text × List Row) → p.0 ≡ name → differs name subs ≡ true → SomeShape subs (IsOfCommand p) → ⊥
+none_named name [] p is apart some = some
+none_named name (s ∷ rest) p is apart (inl here) =
+    let same : bytes_eq s.name name ≡ true = (bytes_eq-Decides s.name name).1 (sym here.name ∙ is) in
+    let other = both (not (bytes_eq s.name name)) (differs name rest) apart in
+    absurd (cc (other.0, same))
+none_named name (s ∷ rest) p is apart (inr later) = none_named name rest p is (both (not (bytes_eq s.name name)) (differs name rest) apart).1 later
+
+passed_in : (name : Text) (subs : List Shape) (p : Text × List Row) → p.0 ≡ name → are_apart subs ≡ true → SomeShape subs (IsOfCommand p) → ArePassed (rules_in name subs) p.1
+passed_in name [] p is apart some = absurd some
+passed_in name (s ∷ rest) p is apart some =
+    let parts = both (differs s.name rest) (are_apart rest) apart in
+    go (bytes_eq s.name name) refl parts.0 (passed_in name rest p is parts.1) some
+  where
+    go : (t : Bool) → bytes_eq s.name name ≡ t → differs s.name rest ≡ true → (SomeShape rest (IsOfCommand p) → ArePassed (rules_in name rest) p.1) →
+        SomeShape (s ∷ rest) (IsOfCommand p) → ArePassed (option_map_or (λ s. s.rules) (cond t (Some s) (find (λ s. bytes_eq s.name name) rest)) []) p.1
+    go true same apart others (inl here) = here.passed
+    go true same apart others (inr later) = absurd (none_named s.name rest p (is ∙ sym ((bytes_eq-Decides s.name name).0 same)) apart later)
+    go false other apart others (inl here) =
+        let same : bytes_eq s.name name ≡ true = (bytes_eq-Decides s.name name).1 (sym here.name ∙ is) in
+        absurd (cc (other, same))
+    go false other apart others (inr later) = others later
+
+-- the rules of the command of a name, with what they leave out
+abbrev pub rules_of : Text → List Rule
+rules_of name = rules_in name (built application).subs
+
+all_apart : are_apart (built application).subs ≡ true
+unfolding clap_on_literals
+all_apart = refl
+
+-- what holds of the rows that pass the rules of the command of this name
+abbrev pub Holds : Text → (List Row → Type 0) → Type 0
+Holds name P = (rows : List Row) → ArePassed (rules_of name) rows → P rows
 
 index_options : (rules : List Rule) (rows : List Row) → (list_all (takes_numbers 0 MAX_EPSILON (codes "eps")) rules ≡ true) →
     (list_all (takes_numbers 0 MAX_EPSILON (codes "rec")) rules ≡ true) → (list_all (takes_numbers 1 64 (codes "workers")) rules ≡ true) → (list_all (takes_flag (codes "narrow")) rules ≡ true) →
@@ -140,32 +175,6 @@ index_options rules rows eps eps_rec workers narrow passed = record {
   workers = number_reads rules 1 64 (codes "workers") rows workers passed;
   narrow = flag_reads rules (codes "narrow") rows narrow passed;
 }
-
--- the rules of the commands, with what they leave out
-abbrev build_filled : List Rule
-build_filled = filled_from 1 build_rules
-
-abbrev query_filled : List Rule
-query_filled = filled_from 1 query_rules
-
-abbrev relax_filled : List Rule
-relax_filled = filled_from 1 relax_rules
-
-query_options : (rows : List Row) → ArePassed query_filled rows → AreQueryOptions rows
-unfolding clap_on_literals
-query_options rows passed = record {
-  windows = flag_reads query_filled (codes "windows") rows refl passed;
-  buckets = number_reads query_filled 0 20 (codes "buckets") rows refl passed;
-}
-
-abbrev points_filled : List Rule
-points_filled = filled_from 1 points_rules
-
-abbrev replay_filled : List Rule
-replay_filled = filled_from 1 replay_rules
-
-abbrev mix_filled : List Rule
-mix_filled = filled_from 1 mix_rules
 
 -- of rules that let these numbers through
 replay_options : (rules : List Rule) (rows : List Row) → (list_all (takes_numbers 1 26 (codes "levels")) rules ≡ true) →
@@ -178,51 +187,69 @@ replay_options rules rows levels batch readers workers passed = record {
   workers = number_reads rules 1 64 (codes "workers") rows workers passed;
 }
 
-abbrev lines_filled : List Rule
-lines_filled = filled_from 1 lines_rules
+pub build_options : Holds (codes "build") AreIndexOptions
+unfolding clap_on_literals
+build_options rows passed = index_options (rules_of (codes "build")) rows refl refl refl refl passed
 
-line_options : (rows : List Row) → ArePassed lines_filled rows → AreLineOptions rows
+pub explain_options : Holds (codes "explain") AreIndexOptions
+unfolding clap_on_literals
+explain_options rows passed = index_options (rules_of (codes "explain")) rows refl refl refl refl passed
+
+pub save_options : Holds (codes "save") AreIndexOptions
+unfolding clap_on_literals
+save_options rows passed = index_options (rules_of (codes "save")) rows refl refl refl refl passed
+
+pub query_options : Holds (codes "query") (λ rows. AreIndexOptions rows × AreQueryOptions rows)
+unfolding clap_on_literals
+query_options rows passed = (index_options (rules_of (codes "query")) rows refl refl refl refl passed, record {
+  windows = flag_reads (rules_of (codes "query")) (codes "windows") rows refl passed;
+  buckets = number_reads (rules_of (codes "query")) 0 20 (codes "buckets") rows refl passed;
+})
+
+pub relax_options : Holds (codes "relax") (λ rows. AreIndexOptions rows × IsPiecesOption rows)
+unfolding clap_on_literals
+relax_options rows passed = (index_options (rules_of (codes "relax")) rows refl refl refl refl passed, number_reads (rules_of (codes "relax")) 1 65536 (codes "pieces") rows refl passed)
+
+pub box_options : Holds (codes "box") IsDimensionOption
+unfolding clap_on_literals
+box_options rows passed = number_reads (rules_of (codes "box")) 2 4 (codes "dims") rows refl passed
+
+pub near_options : Holds (codes "near") IsDimensionOption
+unfolding clap_on_literals
+near_options rows passed = number_reads (rules_of (codes "near")) 2 4 (codes "dims") rows refl passed
+
+pub replaying_options : Holds (codes "replay") AreReplayOptions
+unfolding clap_on_literals
+replaying_options rows passed = replay_options (rules_of (codes "replay")) rows refl refl refl refl passed
+
+pub mix_options : Holds (codes "mix") (λ rows. AreReplayOptions rows × IsSendersOption rows)
+unfolding clap_on_literals
+mix_options rows passed = (replay_options (rules_of (codes "mix")) rows refl refl refl refl passed, number_reads (rules_of (codes "mix")) 1 16 (codes "senders") rows refl passed)
+
+pub line_options : Holds (codes "lines") AreLineOptions
 unfolding clap_on_literals
 line_options rows passed = record {
-  eps = number_reads lines_filled 0 MAX_EPSILON (codes "eps") rows refl passed;
-  narrow = flag_reads lines_filled (codes "narrow") rows refl passed;
+  eps = number_reads (rules_of (codes "lines")) 0 MAX_EPSILON (codes "eps") rows refl passed;
+  narrow = flag_reads (rules_of (codes "lines")) (codes "narrow") rows refl passed;
 }
 
-abbrev find_filled : List Rule
-find_filled = filled_from 1 find_rules
+pub find_options : Holds (codes "find") IsNarrowOption
+unfolding clap_on_literals
+find_options rows passed = flag_reads (rules_of (codes "find")) (codes "narrow") rows refl passed
 
-abbrev drill_filled : List Rule
-drill_filled = filled_from 1 drill_rules
-
-drill_options : (rows : List Row) → ArePassed drill_filled rows → AreDrillOptions rows
+pub drill_options : Holds (codes "drill") AreDrillOptions
 unfolding clap_on_literals
 drill_options rows passed = record {
-  number = number_reads drill_filled 1 1000000 (codes "N") rows refl passed;
-  seed = number_reads drill_filled 0 2147483647 (codes "SEED") rows refl passed;
-  eps = number_reads drill_filled 0 MAX_EPSILON (codes "eps") rows refl passed;
-  eps_rec = number_reads drill_filled 0 MAX_EPSILON (codes "rec") rows refl passed;
-  workers = number_reads drill_filled 1 64 (codes "workers") rows refl passed;
+  number = number_reads (rules_of (codes "drill")) 1 1000000 (codes "N") rows refl passed;
+  seed = number_reads (rules_of (codes "drill")) 0 2147483647 (codes "SEED") rows refl passed;
+  eps = number_reads (rules_of (codes "drill")) 0 MAX_EPSILON (codes "eps") rows refl passed;
+  eps_rec = number_reads (rules_of (codes "drill")) 0 MAX_EPSILON (codes "rec") rows refl passed;
+  workers = number_reads (rules_of (codes "drill")) 1 64 (codes "workers") rows refl passed;
 }
 
-abbrev check_filled : List Rule
-check_filled = filled_from 1 check_rules
-
-is_command : (p : Text × List Row) → SomeShape (built application).subs (IsOfCommand p) → IsCommand p
+pub check_options : Holds (codes "check") IsNarrowOption
 unfolding clap_on_literals
-is_command p (inl s) = inl (s.name, index_options build_filled p.1 refl refl refl refl s.passed)
-is_command p (inr (inl s)) = inr (inl (s.name, index_options build_filled p.1 refl refl refl refl s.passed))
-is_command p (inr (inr (inl s))) = inr (inr (inl (s.name, index_options query_filled p.1 refl refl refl refl s.passed, query_options p.1 s.passed)))
-is_command p (inr (inr (inr (inl s)))) = inr (inr (inr (inl (s.name, index_options relax_filled p.1 refl refl refl refl s.passed, number_reads relax_filled 1 65536 (codes "pieces") p.1 refl s.passed))))
-is_command p (inr (inr (inr (inr (inl s))))) = inr (inr (inr (inr (inl (s.name, number_reads points_filled 2 4 (codes "dims") p.1 refl s.passed)))))
-is_command p (inr (inr (inr (inr (inr (inl s)))))) = inr (inr (inr (inr (inr (inl (s.name, number_reads points_filled 2 4 (codes "dims") p.1 refl s.passed))))))
-is_command p (inr (inr (inr (inr (inr (inr (inl s))))))) = inr (inr (inr (inr (inr (inr (inl (s.name, replay_options replay_filled p.1 refl refl refl refl s.passed)))))))
-is_command p (inr (inr (inr (inr (inr (inr (inr (inl s)))))))) = inr (inr (inr (inr (inr (inr (inr (inl (s.name, replay_options mix_filled p.1 refl refl refl refl s.passed, number_reads mix_filled 1 16 (codes "senders") p.1 refl s.passed))))))))
-is_command p (inr (inr (inr (inr (inr (inr (inr (inr (inl s))))))))) = inr (inr (inr (inr (inr (inr (inr (inr (inl (s.name, line_options p.1 s.passed)))))))))
-is_command p (inr (inr (inr (inr (inr (inr (inr (inr (inr (inl s)))))))))) = inr (inr (inr (inr (inr (inr (inr (inr (inr (inl (s.name, flag_reads find_filled (codes "narrow") p.1 refl s.passed))))))))))
-is_command p (inr (inr (inr (inr (inr (inr (inr (inr (inr (inr (inl s))))))))))) = inr (inr (inr (inr (inr (inr (inr (inr (inr (inr (inl (s.name, drill_options p.1 s.passed)))))))))))
-is_command p (inr (inr (inr (inr (inr (inr (inr (inr (inr (inr (inr (inl s)))))))))))) = inr (inr (inr (inr (inr (inr (inr (inr (inr (inr (inr (inl (s.name, index_options build_filled p.1 refl refl refl refl s.passed))))))))))))
-is_command p (inr (inr (inr (inr (inr (inr (inr (inr (inr (inr (inr (inr (inl s))))))))))))) = inr (inr (inr (inr (inr (inr (inr (inr (inr (inr (inr (inr (s.name, flag_reads check_filled (codes "narrow") p.1 refl s.passed))))))))))))
-is_command p (inr (inr (inr (inr (inr (inr (inr (inr (inr (inr (inr (inr (inr none))))))))))))) = absurd none
+check_options rows passed = flag_reads (rules_of (codes "check")) (codes "narrow") rows refl passed
 
 once_all : list_all sets_once (built application).subs ≡ true
 unfolding clap_on_literals
@@ -231,22 +258,37 @@ once_all = refl
 pub command_met : (words : List Text) (p : Text × List Row) → AreTaken words → subcommand_of application words ≡ Some p → IsCommand p
 command_met words p taken is =
     let parts = fault_parts (built application) once_all refl refl (argument_words application words) taken in
-    is_command p (entered_one (built application) once_all refl refl (Stop (built application) once_all refl refl (argument_words application words)) p parts.0 is)
+    (entered_one (built application) once_all refl refl (Stop (built application) once_all refl refl (argument_words application words)) p parts.0 is)
+
+-- some name of the list is that of the command
+abbrev IsAmong : Text → List Text → Type 0
+IsAmong name [] = ⊥
+IsAmong name (n ∷ rest) = (name ≡ n) ⊎ IsAmong name rest
+
+named_among : (subs : List Shape) (p : Text × List Row) → SomeShape subs (IsOfCommand p) → IsAmong p.0 (map (λ s. s.name) subs)
+named_among [] p some = some
+named_among (s ∷ rest) p (inl here) = inl here.name
+named_among (s ∷ rest) p (inr later) = inr (named_among rest p later)
+
+found_among : (name : Text) (rows : List Command) → IsAmong name (map (λ c. c.name) rows) → (c : Command) × (find (λ c. bytes_eq name c.name) rows ≡ Some c)
+found_among name [] some = absurd some
+found_among name (c ∷ rest) some = go (bytes_eq name c.name) refl (found_among name rest) some
+  where
+    go : (t : Bool) → bytes_eq name c.name ≡ t → (IsAmong name (map (λ c. c.name) rest) → (found : Command) × (find (λ c. bytes_eq name c.name) rest ≡ Some found)) →
+        IsAmong name (map (λ c. c.name) (c ∷ rest)) → (found : Command) × (cond t (Some c) (find (λ c. bytes_eq name c.name) rest) ≡ Some found)
+    go true same others _ = (c, refl)
+    go false other others (inl is) = let same : bytes_eq name c.name ≡ true = (bytes_eq-Decides name c.name).1 is in absurd (cc (other, same))
+    go false other others (inr later) = others later
+
+same_names : map (λ s. s.name) (built application).subs ≡ map (λ c. c.name) commands
+unfolding clap_on_literals
+same_names = refl
 
 asks : (p : Text × List Row) → IsCommand p → (request : Request) × (request_for p.0 p.1 ≡ Some request)
-asks p (inl c) = (_, ap (λ (name : Text). request_for name p.1) c.0)
-asks p (inr (inl c)) = (_, ap (λ (name : Text). request_for name p.1) c.0)
-asks p (inr (inr (inl c))) = (_, ap (λ (name : Text). request_for name p.1) c.0)
-asks p (inr (inr (inr (inl c)))) = (_, ap (λ (name : Text). request_for name p.1) c.0)
-asks p (inr (inr (inr (inr (inl c))))) = (_, ap (λ (name : Text). request_for name p.1) c.0)
-asks p (inr (inr (inr (inr (inr (inl c)))))) = (_, ap (λ (name : Text). request_for name p.1) c.0)
-asks p (inr (inr (inr (inr (inr (inr (inl c))))))) = (_, ap (λ (name : Text). request_for name p.1) c.0)
-asks p (inr (inr (inr (inr (inr (inr (inr (inl c)))))))) = (_, ap (λ (name : Text). request_for name p.1) c.0)
-asks p (inr (inr (inr (inr (inr (inr (inr (inr (inl c))))))))) = (_, ap (λ (name : Text). request_for name p.1) c.0)
-asks p (inr (inr (inr (inr (inr (inr (inr (inr (inr (inl c)))))))))) = (_, ap (λ (name : Text). request_for name p.1) c.0)
-asks p (inr (inr (inr (inr (inr (inr (inr (inr (inr (inr (inl c))))))))))) = (_, ap (λ (name : Text). request_for name p.1) c.0)
-asks p (inr (inr (inr (inr (inr (inr (inr (inr (inr (inr (inr (inl c)))))))))))) = (_, ap (λ (name : Text). request_for name p.1) c.0)
-asks p (inr (inr (inr (inr (inr (inr (inr (inr (inr (inr (inr (inr c)))))))))))) = (_, ap (λ (name : Text). request_for name p.1) c.0)
+asks p is =
+    let among = subst (IsAmong p.0) same_names (named_among (built application).subs p is) in
+    let found = found_among p.0 commands among in
+    (_, ap (option_map (λ c. c.asks p.1)) found.1)
 
 pub words_ask : (words : List Text) → AreTaken words → (request : Request) × AskFor words request
 words_ask words taken = go (subcommand_of application words) refl
@@ -282,44 +324,9 @@ pub is_met : (m : ArgMatches) (name : Text) (rows : List Row) → Some name ≡ 
     (words : List Text) → AreTaken words → subcommand_rows_of m ≡ subcommand_of application words → IsCommand (name, rows)
 is_met m name rows named found words taken is = command_met words (name, rows) taken (sym is ∙ met_rows m name rows named found)
 
--- what the options of the command of a name hold
-abbrev pub OptionsOf : Text → List Row → Type 0
-OptionsOf name rows =
-    cond (bytes_eq name (codes "build")) (AreIndexOptions rows)
-    (cond (bytes_eq name (codes "explain")) (AreIndexOptions rows)
-    (cond (bytes_eq name (codes "query")) (AreIndexOptions rows × AreQueryOptions rows)
-    (cond (bytes_eq name (codes "relax")) (AreIndexOptions rows × IsPiecesOption rows)
-    (cond (bytes_eq name (codes "box")) (IsDimensionOption rows)
-    (cond (bytes_eq name (codes "near")) (IsDimensionOption rows)
-    (cond (bytes_eq name (codes "replay")) (AreReplayOptions rows)
-    (cond (bytes_eq name (codes "mix")) (AreReplayOptions rows × IsSendersOption rows)
-    (cond (bytes_eq name (codes "lines")) (AreLineOptions rows)
-    (cond (bytes_eq name (codes "find")) (IsNarrowOption rows)
-    (cond (bytes_eq name (codes "drill")) (AreDrillOptions rows)
-    (cond (bytes_eq name (codes "save")) (AreIndexOptions rows)
-    (cond (bytes_eq name (codes "check")) (IsNarrowOption rows) ⊤))))))))))))
-
-named : (p : Text × List Row) (name : Text) → p.0 ≡ name → OptionsOf name p.1 → OptionsOf p.0 p.1
-named p name is holds = subst (λ (n : Text). OptionsOf n p.1) (sym is) holds
-
-has_options : (p : Text × List Row) → IsCommand p → OptionsOf p.0 p.1
-has_options p (inl c) = named p (codes "build") c.0 c.1
-has_options p (inr (inl c)) = named p (codes "explain") c.0 c.1
-has_options p (inr (inr (inl c))) = named p (codes "query") c.0 (c.1, c.2)
-has_options p (inr (inr (inr (inl c)))) = named p (codes "relax") c.0 (c.1, c.2)
-has_options p (inr (inr (inr (inr (inl c))))) = named p (codes "box") c.0 c.1
-has_options p (inr (inr (inr (inr (inr (inl c)))))) = named p (codes "near") c.0 c.1
-has_options p (inr (inr (inr (inr (inr (inr (inl c))))))) = named p (codes "replay") c.0 c.1
-has_options p (inr (inr (inr (inr (inr (inr (inr (inl c)))))))) = named p (codes "mix") c.0 (c.1, c.2)
-has_options p (inr (inr (inr (inr (inr (inr (inr (inr (inl c))))))))) = named p (codes "lines") c.0 c.1
-has_options p (inr (inr (inr (inr (inr (inr (inr (inr (inr (inl c)))))))))) = named p (codes "find") c.0 c.1
-has_options p (inr (inr (inr (inr (inr (inr (inr (inr (inr (inr (inl c))))))))))) = named p (codes "drill") c.0 c.1
-has_options p (inr (inr (inr (inr (inr (inr (inr (inr (inr (inr (inr (inl c)))))))))))) = named p (codes "save") c.0 c.1
-has_options p (inr (inr (inr (inr (inr (inr (inr (inr (inr (inr (inr (inr c)))))))))))) = named p (codes "check") c.0 c.1
-
--- by the name that was asked for
-pub options_of : (p : Text × List Row) (asked : Text) → IsCommand p → bytes_eq p.0 asked ≡ true → OptionsOf asked p.1
-options_of p asked is same = subst (λ (n : Text). OptionsOf n p.1) ((bytes_eq-Decides p.0 asked).0 same) (has_options p is)
+-- what the options of the command of a name hold, by the name that was asked for
+pub options_of : {P : List Row → Type 0} (p : Text × List Row) (asked : Text) → Holds asked P → IsCommand p → bytes_eq p.0 asked ≡ true → P p.1
+options_of p asked holds is same = holds p.1 (passed_in asked (built application).subs p ((bytes_eq-Decides p.0 asked).0 same) all_apart is)
 
 -- words that are taken are never refused for their command
 pub never_refused : {E : Type 0} (words : List Text) (found : Option declared.Request) (e : E) → AreTaken words → option_map asked_of found ≡ request_of words →

@@ -1,4 +1,4 @@
--- The command line: the one definition that `clap` is given, and so which words it takes.
+-- What `clap` is told: the arguments of each command, and the program with its commands.
 use Rattle.std.specs.Prelude.{ℕ, List, [], ◌∷◌, ◌++◌, Some, true, false, pos, codes}
 use Rattle.clap.specs.Words.{Text, Rule, Shape, App, new_rule}
 use Rattle.clap.specs.Simple.{new_shape}
@@ -88,25 +88,6 @@ lines_rules = positional (codes "FILE") ∷ number (codes "eps") 0 MAX_EPSILON (
 abbrev pub find_rules : List Rule
 find_rules = positional (codes "FILE") ∷ positional (codes "LINES") ∷ positional (codes "SCRIPT") ∷ flag (codes "narrow") ∷ []
 
--- the commands over the index of a key file
-abbrev pub index_commands : List Shape
-index_commands = command (codes "build") build_rules ∷ command (codes "explain") build_rules
-    ∷ command (codes "query") query_rules ∷ command (codes "relax") relax_rules ∷ []
-
--- over points, and over a map
-abbrev pub script_commands : List Shape
-script_commands = command (codes "box") points_rules ∷ command (codes "near") points_rules
-    ∷ command (codes "replay") replay_rules ∷ command (codes "mix") mix_rules ∷ []
-
--- over lines of a key file
-abbrev pub line_commands : List Shape
-line_commands = command (codes "lines") lines_rules ∷ command (codes "find") find_rules ∷ []
-
--- and the others
-abbrev pub commands : List Shape
-commands = index_commands ++ script_commands ++ line_commands ++ command (codes "drill") drill_rules
-    ∷ command (codes "save") build_rules ∷ command (codes "check") check_rules ∷ []
-
 -- the program before its commands. No public clause cites it
 abbrev pub bare_program : App
 bare_program = record {
@@ -131,6 +112,3 @@ program_with commands = record {
   };
   subs = commands;
 }
-
-abbrev pub application : App
-application = program_with commands

@@ -1,5 +1,5 @@
--- What the words of a command line ask for, as a function of what `clap` makes of them.
-use Rattle.std.specs.Prelude.{ℕ, Bool, false, List, Option, Some, None, codes, bytes_eq, if◌then◌else◌, unwrap_or}
+-- What a command line asks for, by what `clap` found for its arguments.
+use Rattle.std.specs.Prelude.{ℕ, Bool, false, List, Option, Some, None, codes, bytes_eq, unwrap_or}
 use Rattle.std.specs.Option.{option_map_or}
 use Rattle.std.specs.Str.Parse.{digits_value, without_leading_plus}
 use Rattle.clap.specs.Words.{Text, Row, first_of, one_of}
@@ -146,23 +146,6 @@ checking_of rows = record {
   index = name_in (codes "INDEX") rows;
   narrow = is_given (codes "narrow") rows;
 }
-
--- what a command asks for, by what was found for its arguments
-abbrev pub request_for : Text → List Row → Option Request
-request_for name rows =
-    if bytes_eq name (codes "build") then Some (build (building_of rows))
-    else (if bytes_eq name (codes "explain") then Some (explain (building_of rows))
-    else (if bytes_eq name (codes "query") then Some (query_of rows)
-    else (if bytes_eq name (codes "relax") then Some (relax_of rows)
-    else (if bytes_eq name (codes "box") then Some (box (searching_of rows))
-    else (if bytes_eq name (codes "near") then Some (near (searching_of rows))
-    else (if bytes_eq name (codes "replay") then Some (replay (replaying_of rows))
-    else (if bytes_eq name (codes "mix") then Some (mix_of rows)
-    else (if bytes_eq name (codes "lines") then Some (lines (lining_of rows))
-    else (if bytes_eq name (codes "find") then Some (find (finding_of rows))
-    else (if bytes_eq name (codes "drill") then Some (drill (drilling_of rows))
-    else (if bytes_eq name (codes "save") then Some (save (building_of rows))
-    else (if bytes_eq name (codes "check") then Some (check (checking_of rows)) else None))))))))))))
 
 -- the request that the program's own type stands for
 abbrev pub built_of : declared_building.Building → Building

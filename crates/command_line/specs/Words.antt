@@ -1,8 +1,8 @@
 -- Which words ask for what.
 use Rattle.std.specs.Prelude.{◌≡◌, ◌≢◌, List, [], Option, Some, option_and_then}
 use Rattle.clap.specs.Words.{Text, fault_of, subcommand_of}
-use Rattle.command_line.specs.Application.{application}
-use Rattle.command_line.specs.Requests.{Request, request_for}
+use Rattle.command_line.specs.Requests.{Request}
+use Rattle.command_line.specs.Commands.{application, request_for}
 
 -- `clap` finds nothing wrong with the words
 abbrev pub AreTaken : List Text → Type 0

@@ -2,8 +2,9 @@
 ghost use Rattle.std.specs.Prelude.{◌≡◌, ◌++◌, [], IfOk, false, codes};
 ghost use Rattle.clap.specs.Words.{App, Shape, app_of, rule_of, with_subcommand};
 ghost use Rattle.clap.specs.declared.builder.command.Command.TheViews.{out-Command};
-ghost use Rattle.command_line.specs.Application.{application, build_rules, index_rules};
-ghost use Rattle.command_line.specs.Application.{index_commands, program_with, script_commands};
+ghost use Rattle.command_line.specs.Application.{build_rules, index_rules, program_with};
+ghost use Rattle.command_line.specs.Commands.{application, index_commands, line_commands};
+ghost use Rattle.command_line.specs.Commands.{script_commands, shapes_of};
 ghost use Rattle.command_line.specs.Application.{query_rules, relax_rules, points_rules};
 ghost use Rattle.command_line.specs.Application.{mix_rules, replay_rules, command};
 ghost use Rattle.command_line.specs.Application.{flag, number, positional};
@@ -11,7 +12,7 @@ ghost use Rattle.command_line.specs.Application.{bare_program, batch_rules};
 ghost use Rattle.command_line.specs.Application.{drawn_rules, drill_rules};
 ghost use Rattle.command_line.specs.Application.{positional_number, ranged};
 ghost use Rattle.command_line.specs.Application.{check_rules};
-ghost use Rattle.command_line.specs.Application.{find_rules, line_commands, lines_rules};
+ghost use Rattle.command_line.specs.Application.{find_rules, lines_rules};
 ghost use Rattle.exact_cross.specs.declared.TheConstants.{MAX_EPSILON};
 
 use clap::{Arg, ArgAction, Command, value_parser};
@@ -51,7 +52,7 @@ pub fn application<'a>(alloc: Global) -> Result<Command<'a>, AllocError>
 // The program with its commands over an index, over points, over a map and over lines.
 fn with_line_commands<'a>(alloc: Global) -> Result<Command<'a>, AllocError>
     ensures { IfOk result (λ program. app_of program
-        ≡ program_with (index_commands ++ script_commands ++ line_commands)) }
+        ≡ program_with (shapes_of (index_commands ++ script_commands ++ line_commands))) }
 {
     let program = added(with_script_commands(alloc)?, lines_command(alloc))?;
     added(program, find_command(alloc))
@@ -59,8 +60,8 @@ fn with_line_commands<'a>(alloc: Global) -> Result<Command<'a>, AllocError>
 
 // The program with its commands over an index, over points and over a map.
 fn with_script_commands<'a>(alloc: Global) -> Result<Command<'a>, AllocError>
-    ensures { IfOk result
-        (λ program. app_of program ≡ program_with (index_commands ++ script_commands)) }
+    ensures { IfOk result (λ program. app_of program
+        ≡ program_with (shapes_of (index_commands ++ script_commands))) }
 {
     let program = added(with_index_commands(alloc)?, points_command(alloc, "box"))?;
     let program = added(program, points_command(alloc, "near"))?;
@@ -70,7 +71,7 @@ fn with_script_commands<'a>(alloc: Global) -> Result<Command<'a>, AllocError>
 
 // The program with its commands over the index of a key file.
 fn with_index_commands<'a>(alloc: Global) -> Result<Command<'a>, AllocError>
-    ensures { IfOk result (λ program. app_of program ≡ program_with index_commands) }
+    ensures { IfOk result (λ program. app_of program ≡ program_with (shapes_of index_commands)) }
 {
     let program = added(bare_program(alloc), index_command(alloc, "build"))?;
     let program = added(program, index_command(alloc, "explain"))?;

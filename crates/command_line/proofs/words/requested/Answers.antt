@@ -3,7 +3,8 @@ use Rattle.std.specs.Prelude.{option_and_then, option_map, ok_or, IfOk, List, Op
 use Rattle.std.specs.String.{string_bytes}
 use Rattle.clap.specs.Words.{Text, App, HasKind, Kinds, fault_of, is_simple, is_simple_and_free, subcommand_of}
 use Rattle.command_line.specs.declared.request.Request as declared
-use Rattle.command_line.specs.Requests.{asked_of, request_for}
+use Rattle.command_line.specs.Requests.{asked_of}
+use Rattle.command_line.specs.Commands.{request_for}
 use Rattle.command_line.specs.Words.{AreTaken, AskFor, request_of}
 use Rattle.command_line.proofs.TakenWords.{is_free_application, is_simple_application, never_refused}
 use Rattle.command_line.proofs.words.requested.Goals as goal
