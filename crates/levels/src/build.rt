@@ -119,7 +119,11 @@ impl Index {
         ensures cost { IfOk result (λ index. steps.new ≤ steps.old
             + 12 * places_below keys index.levels (length index.levels)) }
     {
-        let stored = levels_here(alloc, &keys, eps, eps_rec, steps)?;
+        let points = keys.points(alloc)?;
+        let list = points.points();
+        let segments = segment_counted(alloc, list, eps, 0, list.xs.len() as u32, steps)?;
+        let stored = levels_over(alloc, &points, segments, eps, eps_rec, steps)?;
+        drop(points);
         Index::from_levels(alloc, keys, eps, eps_rec, stored)
     }
 
@@ -160,7 +164,12 @@ impl Index {
         ensures eps_rec { IfOk result (λ index. index.eps_rec ≡ eps_rec) }
         ensures index { IfOk result (λ index. IsIndex keys eps eps_rec index.levels) }
     {
-        let stored = levels_in_pieces(rt, alloc, &keys, eps, eps_rec, cuts, workers, gate)?;
+        let points = keys.points(alloc)?;
+        let list = points.points();
+        let segments = segment_in_pieces(rt, alloc, list, eps, cuts, workers, gate)?;
+        let ledger = Blank::new(1);
+        let stored = levels_from::<Brand>(alloc, &points, segments, eps, eps_rec, ledger)?;
+        drop(points);
         Index::from_levels(alloc, keys, eps, eps_rec, stored)
     }
 
@@ -204,7 +213,12 @@ impl Index {
             (points_of (xs_of keys) (ys_of keys)) eps 0 (length (xs_of keys))
             (starts_of (level_at index.levels 0))) }
     {
-        let stored = levels_side_by_side(rt, alloc, &keys, eps, eps_rec, cuts, workers, gate)?;
+        let points = keys.points(alloc)?;
+        let list = points.points();
+        let segments = relaxed(rt, alloc, list, eps, cuts, workers, gate)?;
+        let ledger = Blank::new(1);
+        let stored = levels_from::<Brand>(alloc, &points, segments, eps, eps_rec, ledger)?;
+        drop(points);
         Index::from_levels(alloc, keys, eps, eps_rec, stored)
     }
 
@@ -229,87 +243,8 @@ impl Index {
     }
 }
 
-/// All levels of keys, made on the calling thread. Their points are dropped then.
-fn levels_here<L: Ledger>(
-    alloc: Global,
-    keys: &Keys,
-    eps: u32,
-    eps_rec: u32,
-    steps: &mut Steps<L>,
-) -> Result<Vec<Level>, NoMemory>
-    requires bounded { eps ≤ MAX_EPSILON }
-    requires bounded_rec { eps_rec ≤ MAX_EPSILON }
-    ensures stored { IfOk result (λ levels. AreStored keys.now eps eps_rec levels.items) }
-    ensures index { IfOk result
-        (λ levels. IsIndex keys.now eps eps_rec (segments_of levels.items)) }
-    ensures cost { IfOk result (λ levels. steps.new ≤ steps.old
-        + 12 * places_below keys.now (segments_of levels.items) (vec_len levels)) }
-{
-    let points = keys.points(alloc)?;
-    let list = points.points();
-    let segments = segment_counted(alloc, list, eps, 0, list.xs.len() as u32, steps)?;
-    levels_over(alloc, &points, segments, eps, eps_rec, steps)
-}
-
-/// All levels of keys, level 0 made piece by piece. The points are dropped then.
-fn levels_in_pieces<R: Threads + Sync, G: Gate>(
-    rt: &R,
-    alloc: Global,
-    keys: &Keys,
-    eps: u32,
-    eps_rec: u32,
-    cuts: &[u32],
-    workers: u32,
-    gate: &G,
-) -> Result<Vec<Level>, NoMemory>
-    requires bounded { eps ≤ MAX_EPSILON }
-    requires bounded_rec { eps_rec ≤ MAX_EPSILON }
-    requires cuts { AreCuts (length (xs_of keys.now)) cuts.now }
-    requires few_cuts { length cuts.now ≤ 65535 }
-    requires staffed { 1 ≤ workers }
-    requires few_workers { workers ≤ 64 }
-    ensures stored { IfOk result (λ levels. AreStored keys.now eps eps_rec levels.items) }
-    ensures index { IfOk result
-        (λ levels. IsIndex keys.now eps eps_rec (segments_of levels.items)) }
-{
-    let points = keys.points(alloc)?;
-    let list = points.points();
-    let segments = segment_in_pieces(rt, alloc, list, eps, cuts, workers, gate)?;
-    levels_uncounted::<Brand>(alloc, &points, segments, eps, eps_rec, Blank::new(1))
-}
-
-/// All levels of keys, level 0 made piece by piece and put side by side. The points are dropped
-/// then.
-fn levels_side_by_side<R: Threads + Sync, G: Gate>(
-    rt: &R,
-    alloc: Global,
-    keys: &Keys,
-    eps: u32,
-    eps_rec: u32,
-    cuts: &[u32],
-    workers: u32,
-    gate: &G,
-) -> Result<Vec<Level>, NoMemory>
-    requires bounded { eps ≤ MAX_EPSILON }
-    requires bounded_rec { eps_rec ≤ MAX_EPSILON }
-    requires cuts { AreCuts (length (xs_of keys.now)) cuts.now }
-    requires few_cuts { length cuts.now ≤ 65535 }
-    requires staffed { 1 ≤ workers }
-    requires few_workers { workers ≤ 64 }
-    ensures stored { IfOk result (λ levels. AreStored keys.now eps eps_rec levels.items) }
-    ensures relaxed { IfOk result (λ levels.
-        IsRelaxedIndex keys.now eps eps_rec cuts.now (segments_of levels.items)) }
-    ensures slack { IfOk result (λ levels. 0 < length keys.now →
-        uncut (level_at (segments_of levels.items) 0) ≡ length cuts.now + 1) }
-{
-    let points = keys.points(alloc)?;
-    let list = points.points();
-    let segments = relaxed(rt, alloc, list, eps, cuts, workers, gate)?;
-    levels_uncounted::<Brand>(alloc, &points, segments, eps, eps_rec, Blank::new(1))
-}
-
-/// All levels over the segments of level 0, the steps counted from a new ledger.
-fn levels_uncounted<L: Ledger>(
+/// All levels over the segments of level 0, the steps counted in a new ledger.
+fn levels_from<L: Ledger>(
     alloc: Global,
     points: &KeyPoints,
     segments: Vec<Segment>,
@@ -392,20 +327,20 @@ fn level_above<L: Ledger>(
     alloc: Global,
     points: &KeyPoints,
     levels: &[Level],
-    eps: u32,
+    _eps: u32,
     eps_rec: u32,
     steps: &mut Steps<L>,
 ) -> Result<Level, NoMemory>
-    requires levels { AreLevels points.now eps eps_rec levels.now }
+    requires levels { AreLevels points.now _eps eps_rec levels.now }
     requires some { 0 < length levels.now }
     ensures segments { IfOk result (λ level. IsSegmentation
         (points_at points.now (segments_of levels.now) (length levels.now))
-        (eps_at eps eps_rec (length levels.now)) 0
+        (eps_at _eps eps_rec (length levels.now)) 0
         (length (xs_at points.now (segments_of levels.now) (length levels.now)))
         level.segments.items) }
     ensures models { IfOk result (λ level. AreModels
         (points_at points.now (segments_of levels.now) (length levels.now))
-        (eps_at eps eps_rec (length levels.now))
+        (eps_at _eps eps_rec (length levels.now))
         (length (xs_at points.now (segments_of levels.now) (length levels.now)))
         level.segments.items level.models.items) }
     ensures xs { IfOk result (λ level.

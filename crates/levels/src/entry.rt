@@ -11,9 +11,9 @@ const HALVED_TO_RUNS: u64 = 1 << 18;
 
 /// The lowest level at which a lookup may start. The first x of its runs are halved in place of the
 /// levels above, where that takes no more steps than they may.
-pub fn entry_of(keys: &Keys, eps_rec: u32, levels: &[Level]) -> u32
-    requires stored { (eps : ℕ) × AreStored keys.now eps eps_rec levels.now }
-    ensures { IsEntry keys.now eps_rec (segments_of levels.now) result }
+pub fn entry_of(_keys: &Keys, eps_rec: u32, levels: &[Level]) -> u32
+    requires stored { (eps : ℕ) × AreStored _keys.now eps eps_rec levels.now }
+    ensures { IsEntry _keys.now eps_rec (segments_of levels.now) result }
 {
     let share = 4 * (2 * u64::from(eps_rec) + 3);
     let mut top = levels.len().saturating_sub(1);

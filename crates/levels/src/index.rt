@@ -280,12 +280,12 @@ impl Index {
 /// level.
 fn table_of(
     alloc: Global,
-    keys: &Keys,
+    _keys: &Keys,
     eps_rec: u32,
     levels: &[Level],
 ) -> Result<RadixTable, NoMemory>
-    requires stored { (eps : ℕ) × AreStored keys.now eps eps_rec levels.now }
-    ensures { IfOk result (IsTableOf (xs_at keys.now (segments_of levels.now) 1)
+    requires stored { (eps : ℕ) × AreStored _keys.now eps eps_rec levels.now }
+    ensures { IfOk result (IsTableOf (xs_at _keys.now (segments_of levels.now) 1)
         (share_of eps_rec (length levels.now))) }
 {
     if levels.len() < 2 {

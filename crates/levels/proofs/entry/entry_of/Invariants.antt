@@ -7,7 +7,7 @@ use Rattle.levels.proofs.entry.entry_of.Given as goal
 abbrev pub invariant-loop-top : goal.invariant-loop-top
 invariant-loop-top l = record {
   from : l.top ≤ length l.levels - 1;
-  entry : IsEntry l.keys l.eps_rec (segments_of l.levels) l.top;
+  entry : IsEntry l._keys l.eps_rec (segments_of l.levels) l.top;
   share : l.most ≤ (4 * (2 * l.eps_rec + 3)) ^ (length l.levels - 1 - l.top);
 }
 

@@ -1,27 +1,57 @@
--- The index is made of its levels.
-use Rattle.std.proofs.Common.{List, sym, ◌∙◌, ap, subst}
+-- The pieces side by side are level 0.
+use Rattle.std.proofs.Common.{◌<◌, ℕ, List, length, sym, ◌∙◌, ap, subst, arith}
 use Rattle.std.proofs.lemmas.Result.{IfOk-weaker}
 use Rattle.exact_cross.specs.declared.segment.Segment.{Segment}
+use Rattle.exact_cross.specs.Points.{points_of}
 use Rattle.exact_cross.specs.Checked.{uncut}
 use Rattle.exact_cross.specs.IndexLevels.{level_at}
+use Rattle.key_points.specs.KeyPoints.{xs_of, ys_of}
+use Rattle.key_points.proofs.CallerLemmas.{xs-first}
+use Rattle.piece_join.proofs.RelaxedLemmas.{IsLaid-from_cuts}
 use Rattle.levels.specs.Indexes.{IsRelaxedIndex}
+use Rattle.levels.specs.Stored.{segments_of}
 use Rattle.levels.proofs.IndexLemmas.{relaxed-within}
+use Rattle.levels.proofs.LevelLemmas.{IsRelaxedIndex-over}
+use Rattle.levels.proofs.StoredLemmas.{segments_of-count}
 use Rattle.levels.proofs.index.Index.build_relaxed.Goals as goal
+
+pub levels_from-requires-clause-segments : goal.levels_from-requires-clause-segments
+levels_from-requires-clause-segments g c =
+    let keys = c.in_ok-points.points in
+    IsLaid-from_cuts (points_of (xs_of keys) (ys_of keys)) c.args.eps c.args.cuts.now c.in_ok-segments.segments.items (rw c.in_ok-points.ensures c.requires.cuts)
+    (rw (c.points-list.ensures.xs, c.points-list.ensures.ys) at c.in_ok-segments.ensures.relaxed)
+
+pub from_levels-requires : goal.from_levels-requires
+from_levels-requires g c = rw (← c.in_ok-points.ensures) c.in_ok-stored.ensures.stored
 
 pub returns-clause-relaxed : goal.returns-clause-relaxed
 returns-clause-relaxed g c =
+    let own = c.in_ok-stored.ensures in
+    let stored = c.in_ok-stored.stored in
+    let index = IsRelaxedIndex-over c.in_ok-points.points c.args.eps c.args.eps_rec c.args.cuts.now (segments_of stored.items) c.in_ok-segments.segments.items own.stored.index
+    (λ some. own.base (omega (arith, segments_of-count stored.items, stored.ok.0, some))) (rw (c.points-list.ensures.xs, c.points-list.ensures.ys) at c.in_ok-segments.ensures.relaxed) in
     IfOk-weaker c.from_levels.result _ _ (λ built levels. subst (λ (l : List (List Segment)). IsRelaxedIndex c.args.keys c.args.eps c.args.eps_rec c.args.cuts.now l) (sym levels)
-    c.in_ok-stored.ensures.relaxed) c.from_levels.ensures.levels
+    (subst (λ (k : List ℕ). IsRelaxedIndex k c.args.eps c.args.eps_rec c.args.cuts.now (segments_of stored.items)) c.in_ok-points.ensures index)) c.from_levels.ensures.levels
 
 pub returns-clause-slack : goal.returns-clause-slack
 returns-clause-slack g c =
-    IfOk-weaker c.from_levels.result _ _ (λ built levels some. ap (λ (l : List (List Segment)). uncut (level_at l 0)) levels ∙ c.in_ok-stored.ensures.slack some) c.from_levels.ensures.levels
+    let own = c.in_ok-stored.ensures in
+    let stored = c.in_ok-stored.stored in
+    IfOk-weaker c.from_levels.result _ _ (λ built levels some. let some : 0 < length c.in_ok-points.points = rw c.in_ok-points.ensures some in
+    ap (λ (l : List (List Segment)). uncut (level_at l 0)) levels
+    ∙ ap uncut (own.base (omega (arith, segments_of-count stored.items, stored.ok.0, own.stored.index.some some)))
+    ∙ (rw c.points-list.ensures.xs at c.in_ok-segments.ensures.slack) (xs-first c.in_ok-points.points some).0) c.from_levels.ensures.levels
 
 pub returns-clause-within : goal.returns-clause-within
 returns-clause-within g c =
     let keys = c.args.keys in
-    let stored = c.in_ok-stored.ensures.stored.first in
+    let own = c.in_ok-stored.ensures in
+    let stored = c.in_ok-stored.stored in
+    let index = IsRelaxedIndex-over c.in_ok-points.points c.args.eps c.args.eps_rec c.args.cuts.now (segments_of stored.items) c.in_ok-segments.segments.items own.stored.index
+    (λ some. own.base (omega (arith, segments_of-count stored.items, stored.ok.0, some))) (rw (c.points-list.ensures.xs, c.points-list.ensures.ys) at c.in_ok-segments.ensures.relaxed) in
     IfOk-weaker c.from_levels.result _ _ (λ built levels some.
-    let index = subst (λ (l : List (List Segment)). IsRelaxedIndex keys c.args.eps c.args.eps_rec c.args.cuts.now l) (sym levels) c.in_ok-stored.ensures.relaxed in
-    relaxed-within keys c.args.eps c.args.eps_rec c.args.cuts.now built.levels stored.never_falls stored.few c.requires.bounded c.requires.bounded_rec c.requires.cuts index some)
+    let whole = subst (λ (l : List (List Segment)). IsRelaxedIndex keys c.args.eps c.args.eps_rec c.args.cuts.now l) (sym levels)
+    (subst (λ (k : List ℕ). IsRelaxedIndex k c.args.eps c.args.eps_rec c.args.cuts.now (segments_of stored.items)) c.in_ok-points.ensures index) in
+    let first = rw c.in_ok-points.ensures at own.stored.first in
+    relaxed-within keys c.args.eps c.args.eps_rec c.args.cuts.now built.levels first.never_falls first.few c.requires.bounded c.requires.bounded_rec c.requires.cuts whole some)
     c.from_levels.ensures.levels
