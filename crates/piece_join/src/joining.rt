@@ -55,23 +55,23 @@ pub fn join(
     join_from::<Brand>(alloc, points, eps, left, right, edge, to, Blank::new(1))
 }
 
-/// The same where the right has a place, with a counter of its own from a new ledger.
+/// The segments of [`join`] where the right has a place, the steps counted in a new ledger.
 fn join_from<L: Ledger>(
     alloc: Global,
     points: PointList<'_>,
     eps: u32,
     left: Vec<Segment>,
     right: &[Segment],
-    edge: u32,
+    _edge: u32,
     to: u32,
     blank: Blank,
 ) -> Result<Vec<Segment>, NoMemory>
     requires bounded { eps ≤ MAX_EPSILON }
-    requires some { 1 ≤ edge }
-    requires edge { edge < to }
+    requires some { 1 ≤ _edge }
+    requires edge { _edge < to }
     requires within { to ≤ length points.xs.now }
-    requires left { IsSegmentation (points_in points) eps 0 edge left.items }
-    requires right { IsSegmentation (points_in points) eps edge to right.now }
+    requires left { IsSegmentation (points_in points) eps 0 _edge left.items }
+    requires right { IsSegmentation (points_in points) eps _edge to right.now }
     requires ledger { IsNewLedger blank L.name L.parts }
     ensures { IfOk result
         (λ segments. IsSegmentation (points_in points.entry) eps 0 to segments.items) }
