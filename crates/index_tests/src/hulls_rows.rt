@@ -1,5 +1,6 @@
 // Worked points: how far a run goes, its pair and its cut were found by hand from the definitions.
 ghost use Rattle.std.specs.Prelude.{◌≡◌, ◌<◌, ◌≤◌, IsTrue, length};
+ghost use Rattle.budget.specs.Ledgers.{IsNewLedger};
 
 use crate::common::{Points, expect_of, points_of};
 use budget::{NoMemory, Steps};
@@ -22,9 +23,7 @@ fn fit<L: Ledger>(
 ) -> Result<Fitted, NoMemory>
     requires some { 1 ≤ length points.xs.now }
     requires bounded { eps ≤ 1048576 }
-    requires name { blank.name ≡ L.name }
-    requires parts { blank.parts ≡ L.parts }
-    requires one { blank.parts ≡ 1 }
+    requires ledger { IsNewLedger blank L.name L.parts }
 {
     let (xs, ys) = (points.xs, points.ys);
     let len = xs.len() as u32;

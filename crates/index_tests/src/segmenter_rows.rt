@@ -1,5 +1,6 @@
 // Worked lists: their runs, pairs, lines and cuts were found by hand from the definitions.
 ghost use Rattle.std.specs.Prelude.{◌≡◌, ◌≤◌, IsTrue, length};
+ghost use Rattle.budget.specs.Ledgers.{IsNewLedger};
 
 use crate::common::{Points, expect_of, points_of};
 use budget::{NoMemory, Steps};
@@ -114,9 +115,7 @@ fn counts_rows<L: Ledger>(
     requires bounded { eps ≤ 1048576 }
     requires range { range.0 ≤ range.1 }
     requires within { range.1 ≤ length points.xs.now }
-    requires name { blank.name ≡ L.name }
-    requires parts { blank.parts ≡ L.parts }
-    requires one { blank.parts ≡ 1 }
+    requires ledger { IsNewLedger blank L.name L.parts }
 {
     let mut steps = Steps::<L>::new(blank);
     let segments = segment_counted(alloc, points, eps, range.0, range.1, &mut steps)?;

@@ -2,6 +2,7 @@
 
 ghost use Rattle.std.specs.Prelude.{◌≡◌, ◌<◌, length};
 ghost use Rattle.std.specs.List.Sorted.{IsNonDecreasing};
+ghost use Rattle.budget.specs.Ledgers.{IsNewLedger};
 
 use crate::common::expect_of;
 use budget::Steps;
@@ -83,9 +84,7 @@ fn predecessor<L: Ledger>(keys: &[u64], q: u64, steps: &mut Steps<L>) -> Option<
 
 /// Whether the lower bound and the predecessor of a question are the row's.
 fn finds<L: Ledger>(rt: &impl Abort, row: &Row, blank: Blank) -> bool
-    requires name { blank.name ≡ L.name }
-    requires parts { blank.parts ≡ L.parts }
-    requires one { blank.parts ≡ 1 }
+    requires ledger { IsNewLedger blank L.name L.parts }
 {
     let (keys, q, lower, place) = *row;
     assert!(rt; is_sorted(keys) && keys.len() < 1000);
