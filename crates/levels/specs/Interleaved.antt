@@ -33,3 +33,7 @@ pub record AreNear (list qs lows : List ℕ) (count : ℕ) : Type 0 where
   pub some : 1 ≤ count
   pub most : count ≤ length list
   pub each : (k : ℕ) → k < 16 → (place : ℕ) → IsPredecessor list (slice_index qs k) place → (slice_index lows k ≤ place) × (place < slice_index lows k + count)
+
+-- no question is below the first key
+abbrev pub AreFromFirst : (keys qs : List ℕ) → Type 0
+AreFromFirst keys qs = (k : ℕ) → k < 16 → slice_index keys 0 ≤ slice_index qs k

@@ -3,6 +3,7 @@ use Rattle.std.specs.Prelude.{◌≡◌, ◌≢◌, ℕ, ◌+◌, ◌<◌, ◌�
 use Rattle.std.specs.List.Sorted.{IsNonDecreasing}
 use Rattle.exact_cross.specs.declared.segment.Segment.{Segment}
 use Rattle.levels.specs.declared.level.Level.{Level}
+use Rattle.exact_cross.specs.Segmentation.{IsSegmentation}
 use Rattle.exact_cross.specs.IndexLevels.{level_at, eps_at}
 use Rattle.levels.specs.Indexes.{IsLaidIndex, IsLaidLevel, xs_at, points_at}
 use Rattle.levels.specs.Models.{AreModels}
@@ -27,3 +28,9 @@ pub record AreLevels (keys : List ℕ) (eps eps_rec : ℕ) (levels : List Level)
 pub record AreStored (keys : List ℕ) (eps eps_rec : ℕ) (levels : List Level) : Type 0 where
   pub first : AreLevels keys eps eps_rec levels
   pub index : IsLaidIndex keys eps eps_rec (segments_of levels)
+
+-- the level above those so far: the segmentation of the first x of the last one's runs, with its models and these x
+pub record IsNextLevel (keys : List ℕ) (eps eps_rec : ℕ) (levels : List Level) (level : Level) : Type 0 where
+  pub segments : IsSegmentation (points_at keys (segments_of levels) (length levels)) (eps_at eps eps_rec (length levels)) 0 (length (xs_at keys (segments_of levels) (length levels))) level.segments.items
+  pub models : AreModels (points_at keys (segments_of levels) (length levels)) (eps_at eps eps_rec (length levels)) (length (xs_at keys (segments_of levels) (length levels))) level.segments.items level.models.items
+  pub xs : level.xs.items ≡ xs_at keys (segments_of levels) (length levels)

@@ -12,13 +12,10 @@ ghost use Rattle.exact_cross.specs.Checked.{IsCoverWithin, uncut};
 ghost use Rattle.exact_cross.specs.Segments.{starts_of};
 ghost use Rattle.piece_join.specs.Cuttings.{AreCuts};
 ghost use Rattle.piece_join.specs.Laid.{IsLaid};
-ghost use Rattle.piece_join.specs.Relaxed.{IsRelaxed};
 ghost use Rattle.exact_cross.specs.IndexLevels.{first_xs, level_at};
-ghost use Rattle.levels.specs.Indexes.{IsIndex, IsRelaxedIndex, IsLaidIndex};
-ghost use Rattle.exact_cross.specs.IndexLevels.{eps_at};
-ghost use Rattle.levels.specs.Indexes.{xs_at, points_at, places_below};
+ghost use Rattle.levels.specs.Indexes.{IsIndex, IsRelaxedIndex, xs_at, places_below};
 ghost use Rattle.levels.specs.Models.{AreModels, IsEndOf, IsModelOf};
-ghost use Rattle.levels.specs.Stored.{AreLevels, AreStored, segments_of};
+ghost use Rattle.levels.specs.Stored.{AreLevels, AreStored, IsNextLevel, segments_of};
 
 use crate::index::{Index, firsts_at};
 use crate::level::{Level, Runs};
@@ -333,18 +330,7 @@ fn level_above<L: Ledger>(
 ) -> Result<Level, NoMemory>
     requires levels { AreLevels points.now _eps eps_rec levels.now }
     requires some { 0 < length levels.now }
-    ensures segments { IfOk result (λ level. IsSegmentation
-        (points_at points.now (segments_of levels.now) (length levels.now))
-        (eps_at _eps eps_rec (length levels.now)) 0
-        (length (xs_at points.now (segments_of levels.now) (length levels.now)))
-        level.segments.items) }
-    ensures models { IfOk result (λ level. AreModels
-        (points_at points.now (segments_of levels.now) (length levels.now))
-        (eps_at _eps eps_rec (length levels.now))
-        (length (xs_at points.now (segments_of levels.now) (length levels.now)))
-        level.segments.items level.models.items) }
-    ensures xs { IfOk result (λ level.
-        level.xs.items ≡ xs_at points.now (segments_of levels.now) (length levels.now)) }
+    ensures next { IfOk result (IsNextLevel points.now _eps eps_rec levels.now) }
     ensures cost { IfOk result (λ level. steps.new ≤ steps.old
         + 12 * length (xs_at points.now (segments_of levels.now) (length levels.now))) }
 {

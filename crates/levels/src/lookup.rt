@@ -6,8 +6,8 @@ ghost use Rattle.exact_cross.specs.declared.segment.Segment.{Segment};
 ghost use Rattle.window_search.specs.Searches.{lb, IsPredecessor};
 ghost use Rattle.levels.specs.Costs.{TakesAtMost, lookup_bound};
 ghost use Rattle.levels.specs.Entries.{IsEntry, share_of};
-ghost use Rattle.exact_cross.specs.IndexLevels.{level_at, eps_at};
-ghost use Rattle.levels.specs.Indexes.{IsLaidFile, xs_at, ys_at, points_at};
+ghost use Rattle.exact_cross.specs.IndexLevels.{level_at};
+ghost use Rattle.levels.specs.Indexes.{IsLaidFile, xs_at, ys_at};
 ghost use Rattle.levels.specs.Models.{IsEndOf};
 ghost use Rattle.levels.specs.Lookups.{IsWindowAt, IsNarrow, HoldsAnswers, extent_at};
 

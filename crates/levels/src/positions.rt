@@ -4,7 +4,7 @@ ghost use Rattle.std.specs.Prelude.{map, min, slice_index, vec_len, vec_capacity
 ghost use Rattle.window_search.specs.Searches.{lb, IsPredecessor};
 ghost use Rattle.exact_cross.specs.IndexLevels.{eps_at};
 ghost use Rattle.levels.specs.Indexes.{IsLaidFile, xs_at};
-ghost use Rattle.levels.specs.Interleaved.{IsAmong, HasBound, AreNear, AreRuns};
+ghost use Rattle.levels.specs.Interleaved.{IsAmong, HasBound, AreFromFirst, AreNear, AreRuns};
 
 use crate::index::Index;
 use crate::interleaved::{LANES, bounds_interleaved, predecessors_interleaved};
@@ -71,8 +71,7 @@ impl Index {
         requires laid { IsLaidFile self.now }
         requires some { 0 < length self.now.keys }
         requires zeros { (k : ℕ) → k < 16 → slice_index places.old k ≡ 0 }
-        requires from_first { (k : ℕ) → k < 16 →
-            slice_index self.now.keys 0 ≤ slice_index qs.now k }
+        requires from_first { AreFromFirst self.now.keys qs.now }
         ensures lanes { length places.new ≡ 16 }
         ensures found { (k : ℕ) → k < 16 → slice_index places.new k ≡ lb self.now.keys
             (slice_index qs.now k) }
@@ -91,8 +90,7 @@ impl Index {
     fn spans_near(&self, qs: &[u64; 16], lows: &mut [u32; 16]) -> Option<u32>
         requires laid { IsLaidFile self.now }
         requires some { 0 < length self.now.keys }
-        requires from_first { (k : ℕ) → k < 16 →
-            slice_index self.now.keys 0 ≤ slice_index qs.now k }
+        requires from_first { AreFromFirst self.now.keys qs.now }
         ensures above { IfSome result (λ _. 1 < length self.now.levels) }
         ensures near { IfSome result (λ count. AreNear (xs_at self.now.keys self.now.levels 1)
             qs.now lows.new count) }
@@ -123,8 +121,7 @@ impl Index {
         requires laid { IsLaidFile self.now }
         requires some { 0 < length self.now.keys }
         requires above { 1 < length self.now.levels }
-        requires from_first { (k : ℕ) → k < 16 →
-            slice_index self.now.keys 0 ≤ slice_index qs.now k }
+        requires from_first { AreFromFirst self.now.keys qs.now }
         requires near { AreNear (xs_at self.now.keys self.now.levels 1) qs.now lows.now count }
         ensures { AreRuns (xs_at self.now.keys self.now.levels 1) qs.now runs.new }
     {
@@ -142,8 +139,7 @@ impl Index {
         requires laid { IsLaidFile self.now }
         requires some { 0 < length self.now.keys }
         requires zeros { (k : ℕ) → k < 16 → slice_index places.old k ≡ 0 }
-        requires from_first { (k : ℕ) → k < 16 →
-            slice_index self.now.keys 0 ≤ slice_index qs.now k }
+        requires from_first { AreFromFirst self.now.keys qs.now }
         ensures { AreRuns (xs_at self.now.keys self.now.levels 1) qs.now places.new }
     {
         let mut level = self.levels() - 1;

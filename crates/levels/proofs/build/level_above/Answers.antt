@@ -29,37 +29,21 @@ new-list-requires g c =
     let ascends = ascends_list keys c.args._eps c.args.eps_rec levels c.in_ok-xs.xs.items c.in_ok-ys.ys.items c.requires.levels xs_are ys_are in
     rw (c.as_slice-2.ensures.value, c.as_slice-3.ensures.value) (record { same_length = ascends.0; rising = ascends.1; never_falls = ascends.2; few = ascends.3 })
 
-pub returns-clause-segments : goal.returns-clause-segments
-returns-clause-segments g c =
+pub returns-clause-next : goal.returns-clause-next
+returns-clause-next g c =
     let keys = c.args.points.now in
     let levels = c.args.levels.now in
     let last : length levels - 1 + 1 ≡ length levels = omega (arith, c.requires.some) in
     let xs_are = above_xs keys levels (length levels - 1) c.index-levels-below.result c.list_at.result.now c.in_ok-xs.xs.items c.deref.result.now last
     c.index-levels-below.is c.deref.ensures.value c.list_at.ensures c.in_ok-xs.ensures in
     let ys_are = above_ys keys levels (length levels - 1) c.in_ok-xs.xs.items c.in_ok-ys.ys.items last xs_are (rw c.as_slice.ensures.value at c.in_ok-ys.ensures) in
-    above_level keys c.args._eps c.args.eps_rec levels c.in_ok-xs.xs.items c.in_ok-ys.ys.items c.in_ok-runs.runs.segments.items (omega (arith, last)) xs_are ys_are
-    (rw (c.new-list.ensures.xs, c.new-list.ensures.ys, c.as_slice-2.ensures.value, c.as_slice-3.ensures.value) at c.in_ok-runs.ensures.segments)
-
-pub returns-clause-models : goal.returns-clause-models
-returns-clause-models g c =
-    let keys = c.args.points.now in
-    let levels = c.args.levels.now in
-    let last : length levels - 1 + 1 ≡ length levels = omega (arith, c.requires.some) in
-    let xs_are = above_xs keys levels (length levels - 1) c.index-levels-below.result c.list_at.result.now c.in_ok-xs.xs.items c.deref.result.now last
-    c.index-levels-below.is c.deref.ensures.value c.list_at.ensures c.in_ok-xs.ensures in
-    let ys_are = above_ys keys levels (length levels - 1) c.in_ok-xs.xs.items c.in_ok-ys.ys.items last xs_are (rw c.as_slice.ensures.value at c.in_ok-ys.ensures) in
-    level_models keys c.args._eps c.args.eps_rec levels c.in_ok-xs.xs.items c.in_ok-ys.ys.items c.args.eps_rec c.in_ok-runs.runs.segments.items c.in_ok-runs.runs.models.items
-    xs_are ys_are (eps_at-above c.args._eps c.args.eps_rec (length levels) (omega (arith, last)))
-    (rw (c.new-list.ensures.xs, c.new-list.ensures.ys, c.as_slice-2.ensures.value, c.as_slice-3.ensures.value) at c.in_ok-runs.ensures.models)
-
-pub returns-clause-xs : goal.returns-clause-xs
-returns-clause-xs g c =
-    let keys = c.args.points.now in
-    let levels = c.args.levels.now in
-    let last : length levels - 1 + 1 ≡ length levels = omega (arith, c.requires.some) in
-    let xs_are = above_xs keys levels (length levels - 1) c.index-levels-below.result c.list_at.result.now c.in_ok-xs.xs.items c.deref.result.now last
-    c.index-levels-below.is c.deref.ensures.value c.list_at.ensures c.in_ok-xs.ensures in
-    xs_are
+    let own = rw (c.new-list.ensures.xs, c.new-list.ensures.ys, c.as_slice-2.ensures.value, c.as_slice-3.ensures.value) at c.in_ok-runs.ensures in
+    record {
+      segments = above_level keys c.args._eps c.args.eps_rec levels c.in_ok-xs.xs.items c.in_ok-ys.ys.items c.in_ok-runs.runs.segments.items (omega (arith, last)) xs_are ys_are own.segments;
+      models = level_models keys c.args._eps c.args.eps_rec levels c.in_ok-xs.xs.items c.in_ok-ys.ys.items c.args.eps_rec c.in_ok-runs.runs.segments.items c.in_ok-runs.runs.models.items
+          xs_are ys_are (eps_at-above c.args._eps c.args.eps_rec (length levels) (omega (arith, last))) own.models;
+      xs = xs_are;
+    }
 
 pub returns-clause-cost : goal.returns-clause-cost
 returns-clause-cost g c =

@@ -35,7 +35,7 @@ loop-runs-smaller g c =
     let inv = c.loop-runs.invariant in
     let own = rw c.deref.ensures.value at c.in_ok-level.ensures in
     let fewer = fewer_above c.args.points.now c.args.eps c.args.eps_rec c.loop-runs.levels.items c.loop-runs.runs c.in_ok-level.level.segments.items inv.levels inv.some inv.above inv.last
-    (λ one. c.loop-runs-test.true one) own.segments in
+    (λ one. c.loop-runs-test.true one) own.next.segments in
     omega (arith, fewer, c.in_ok-level.level.segments.ok.0)
 
 pub loop-runs-preserved : goal.loop-runs-preserved
@@ -46,9 +46,9 @@ loop-runs-preserved g c =
     let inv = c.loop-runs.invariant in
     let own = rw c.deref.ensures.value at c.in_ok-level.ensures in
     let to = length (xs_at keys (segments_of levels) (length levels)) in
-    let laid = IsLaid-from_piece (points_at keys (segments_of levels) (length levels)) (eps_at c.args.eps c.args.eps_rec (length levels)) 0 to level.segments.items (omega arith) own.segments in
-    let all = AreLevels-push keys c.args.eps c.args.eps_rec levels level inv.levels (λ i last one. c.loop-runs-test.true (sym (inv.last i last) ∙ one)) laid (λ some. own.segments) own.models
-    (λ some. own.xs) in
+    let laid = IsLaid-from_piece (points_at keys (segments_of levels) (length levels)) (eps_at c.args.eps c.args.eps_rec (length levels)) 0 to level.segments.items (omega arith) own.next.segments in
+    let all = AreLevels-push keys c.args.eps c.args.eps_rec levels level inv.levels (λ i last one. c.loop-runs-test.true (sym (inv.last i last) ∙ one)) laid (λ some. own.next.segments) own.next.models
+    (λ some. own.next.xs) in
     let count : length (levels ++ level ∷ []) ≡ length levels + 1 = length-append levels (level ∷ []) in
     let places : places_below keys (segments_of (levels ++ level ∷ [])) (length (levels ++ level ∷ []))
     ≡ places_below keys (segments_of levels) (length levels) + length (xs_at keys (segments_of levels) (length levels)) =
