@@ -11,5 +11,6 @@ pub mod OccupiedLemmas
 pub mod SearchLemmas
 pub mod HeadLemmas
 pub mod WalkLemmas
+pub mod OrderLemmas
 pub mod RangeLemmas
 pub mod LoadLemmas

@@ -21,6 +21,7 @@ mod load;
 mod log_map;
 mod questions;
 mod range;
+mod upcoming;
 mod update;
 mod updates;
 mod walk;
