@@ -5,6 +5,7 @@ pub mod KeptLemmas
 pub mod LengthLemmas
 pub mod GrowthLemmas
 pub mod UpdateLemmas
+pub mod RefusalLemmas
 pub mod MapLemmas
 pub mod ValueLemmas
 pub mod OccupiedLemmas
