@@ -5,11 +5,13 @@ pub mod KeptLemmas
 pub mod LengthLemmas
 pub mod GrowthLemmas
 pub mod UpdateLemmas
+pub mod RefusalLemmas
 pub mod MapLemmas
 pub mod ValueLemmas
 pub mod OccupiedLemmas
 pub mod SearchLemmas
 pub mod HeadLemmas
 pub mod WalkLemmas
+pub mod OrderLemmas
 pub mod RangeLemmas
 pub mod LoadLemmas

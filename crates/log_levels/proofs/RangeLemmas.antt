@@ -1,6 +1,6 @@
 -- Pairs of a range that are written one behind the other.
-use Rattle.std.proofs.Common.{◌≡◌, ℕ, ◌+◌, ◌<◌, ◌≤◌, min, List, [], ◌∷◌, ◌++◌, length, take, drop, get_or, slice_set, sym, ap, ◌∙◌, refl, arith, length-drop}
-use Rattle.std.proofs.lemmas.List.{take-append-drop, take_more, take_more_set, drop-set-lt, drop_more, length-set}
+use Rattle.std.proofs.Common.{◌≡◌, ℕ, ◌+◌, ◌<◌, ◌≤◌, min, List, [], ◌∷◌, ◌++◌, length, take, drop, get_or, slice_set, sym, ap, ◌∙◌, arith, length-drop}
+use Rattle.std.proofs.lemmas.List.{take_more, take_more_set, drop-set-lt, drop_more, length-set}
 
 -- the first pairs are written, so many; what is behind them is as it was, and these are left
 pub record IsWritten (pairs left now old : List (ℕ × ℕ)) (count : ℕ) : Type 0 where
@@ -15,9 +15,6 @@ drop-one : (pairs : List (ℕ × ℕ)) (n : ℕ) (pair : ℕ × ℕ) (left : Lis
 drop-one pairs n pair left inside is =
     let both : get_or pairs n pair ∷ drop (n + 1) pairs ≡ pair ∷ left = sym (drop_more pairs n pair inside) ∙ is in
     (ap (λ (l : List (ℕ × ℕ)). get_or l 0 pair) both, ap (λ (l : List (ℕ × ℕ)). drop 1 l) both)
-
-pub written-none : (pairs left old : List (ℕ × ℕ)) → pairs ≡ left → IsWritten pairs left old old 0
-written-none pairs left old is = record { same_room = refl; counted = omega arith; fits = omega arith; written = refl; behind = refl; left_is = is }
 
 pub written-more : (pairs left later now old : List (ℕ × ℕ)) (count : ℕ) (pair : ℕ × ℕ) → IsWritten pairs left now old count → count < length now → left ≡ pair ∷ later
     → IsWritten pairs later (slice_set now count pair) old (count + 1)
@@ -35,10 +32,6 @@ written-more pairs left later now old count pair before room next =
     }
 
 -- at the end either the room is full, or no pair is left
-pub written-all : (pairs left now old : List (ℕ × ℕ)) (count : ℕ) → IsWritten pairs left now old count → now ≡ take count pairs ++ drop count old
-written-all pairs left now old count done =
-    sym (take-append-drop count now) ∙ ap (λ (l : List (ℕ × ℕ)). l ++ drop count now) done.written ∙ ap (λ (l : List (ℕ × ℕ)). take count pairs ++ l) done.behind
-
 pub written-full : (pairs left now old : List (ℕ × ℕ)) (count : ℕ) → IsWritten pairs left now old count → length now ≤ count → count ≡ min (length old) (length pairs)
 written-full pairs left now old count done full = omega (arith, done.same_room, done.counted, done.fits)
 

@@ -1,9 +1,10 @@
 -- A walk over the keys of a map.
-use Rattle.std.proofs.Common.{◌≡◌, ℕ, ◌+◌, ◌-◌, ◌/◌, ◌^◌, ◌<◌, ◌≤◌, ◌⊎◌, max, if◌then◌else◌, MatchOption, slice_index, slice_set, refl, List, [], ◌∷◌, ◌++◌, length, length-append, Option, Some, None, IfSome, IsSome, sym, ap, ◌∙◌, subst, inl, inr, arith}
-use Rattle.std.proofs.lemmas.Bool.{cases_lt, cases_eq, eq-eqb, ne_eqb}
+use Rattle.std.proofs.Common.{◌≡◌, ℕ, ◌+◌, ◌-◌, ◌^◌, ◌<◌, ◌≤◌, max, MatchOption, slice_index, slice_set, refl, List, [], ◌∷◌, ◌++◌, length, length-append, Option, Some, None, IfSome, IsSome, sym, ap, ◌∙◌, subst, inl, inr, arith}
+use Rattle.std.proofs.lemmas.Bool.{cases_lt, cases_eq}
 use Rattle.tombstones.specs.declared.entry.Entry.{Entry}
 use Rattle.tombstones.specs.Entries.{IsAscending, entry_at}
 use Rattle.log_levels.specs.declared.heads.First.{First}
+use Rattle.log_levels.specs.declared.upcoming.Upcoming.{Upcoming}
 use Rattle.log_levels.specs.declared.update.Update.{Update}
 use Rattle.log_levels.specs.declared.update.Update.TheVariants.{Sweep}
 use Rattle.log_levels.proofs.UpdateLemmas.{entries_of-sweep}
@@ -11,13 +12,11 @@ use Rattle.std.proofs.lemmas.List.{length-map}
 use Rattle.log_levels.specs.Maps.{map_after, value_at, next_from, count_between, pairs_between}
 use Rattle.log_levels.specs.Accepted.{entries_of, entries_for, keys_between, del_entry}
 use Rattle.map_level.specs.Levels.{last_at, IsBelow}
-use Rattle.std.specs.Option.{option_or}
 use Rattle.std.proofs.lemmas.List.{get_or-set_same, get_or-set_other, length-set}
 use Rattle.std.proofs.lemmas.List.Sums.{sum_by-set}
-use Rattle.log_levels.specs.Shapes.{Held, IsCutOf, IsLevelFor, level_of}
-use Rattle.log_levels.specs.Kept.{IsAbsent, IsNextLive, IsFirstFrom, AreBehind, AreNewer, IsLeastLeft, StandsAt, first_key, left_of, value_of}
+use Rattle.log_levels.specs.Shapes.{Held, IsCutOf, level_of}
+use Rattle.log_levels.specs.Kept.{IsAbsent, IsNextLive, IsFirstFrom, IsUpcoming, AreBehind, AreNewer, IsLeastLeft, StandsAt, first_key, left_of, value_of}
 use Rattle.map_level.proofs.LevelLemmas.{place-passed}
-use Rattle.map_level.proofs.LastLemmas.{last_at-append}
 use Rattle.log_levels.proofs.SearchLemmas.{absent-value, search-buffer, found-level}
 use Rattle.log_levels.proofs.ValueLemmas.{value-after}
 use Rattle.log_levels.proofs.MapLemmas.{rises-after, next-is, next-none, pairs-step, pairs-end, count-pairs, count-between}
@@ -107,11 +106,6 @@ none-above held updates bound q greatest cut past absent key above within = elim
   | inr at_most ↦ value-after updates key ∙ absent-value held (entries_of updates) key cut (absent key at_most above)
 ]
 
--- what lies behind places from a bound on lies behind them from a later one on
-pub first-later : (buffer : List Entry) (low next : ℕ) (found : Option Entry) → IsFirstFrom buffer low found → low ≤ next → IfSome found (λ entry. next ≤ entry.key) → IsFirstFrom buffer next found
-first-later buffer low next None none le later = λ key above. none key (omega arith)
-first-later buffer low next (Some entry) (from, is, before) le later = (later, is, λ key above less. before key (omega arith) less)
-
 -- a level's entry at its place is passed
 pub behind-passed : (held : Held) (places : List ℕ) (low key i : ℕ) → ((level : List Entry) → level_of held i ≡ Some level → IsAscending level) → i < 26 → AreBehind held places low → StandsAt held places key i
     → AreBehind held (slice_set places i (slice_index places i + 1)) (max low (key + 1))
@@ -141,39 +135,6 @@ pub left-passed : (held : Held) (places : List ℕ) (low key i : ℕ) → length
     → left_of (slice_set places i (slice_index places i + 1)) (max low (key + 1)) < left_of places low
 left-passed held places low key i count inside small few =
     omega (arith, sum_by-set (λ place. 2 ^ 32 - place) places i (slice_index places i + 1) 0 (omega arith))
-
--- the last one with a key behind one entry more
-last-one : (entries : List Entry) (entry : Entry) (key : ℕ) → entry.key ≡ key → last_at (entries ++ entry ∷ []) key ≡ Some entry
-last-one entries entry key same = last_at-append entries (entry ∷ []) key ∙ ap (λ b. option_or (if b then Some entry else None) (last_at entries key)) (eq-eqb entry.key key same)
-
-last-kept : (entries : List Entry) (entry : Entry) (key : ℕ) → (entry.key ≡ key → ⊥) → last_at (entries ++ entry ∷ []) key ≡ last_at entries key
-last-kept entries entry key other = last_at-append entries (entry ∷ []) key ∙ ap (λ b. option_or (if b then Some entry else None) (last_at entries key)) (ne_eqb entry.key key other)
-
--- an entry below the bound, or above the first one, changes nothing
-pub first-below : (entries : List Entry) (entry : Entry) (from : ℕ) (first : Option Entry) → IsFirstFrom entries from first → entry.key < from → IsFirstFrom (entries ++ entry ∷ []) from first
-first-below entries entry from None none less = λ key above. last-kept entries entry key (λ same. absurd (omega arith)) ∙ none key above
-first-below entries entry from (Some e) (above, is, before) less = (
-  above,
-  last-kept entries entry e.key (λ same. absurd (omega arith)) ∙ is,
-  λ key from_key below. last-kept entries entry key (λ same. absurd (omega arith)) ∙ before key from_key below,
-)
-
-pub first-above : (entries : List Entry) (entry e : Entry) (from : ℕ) → IsFirstFrom entries from (Some e) → e.key < entry.key → IsFirstFrom (entries ++ entry ∷ []) from (Some e)
-first-above entries entry e from (above, is, before) greater = (
-  above,
-  last-kept entries entry e.key (λ same. absurd (omega arith)) ∙ is,
-  λ key from_key below. last-kept entries entry key (λ same. absurd (omega arith)) ∙ before key from_key below,
-)
-
--- else it is the first one
-pub first-taken : (entries : List Entry) (entry : Entry) (from : ℕ) (first : Option Entry) → IsFirstFrom entries from first → from ≤ entry.key → IfSome first (λ e. entry.key ≤ e.key)
-    → IsFirstFrom (entries ++ entry ∷ []) from (Some entry)
-first-taken entries entry from first was above up_to =
-    (above, last-one entries entry entry.key refl, λ key from_key below. last-kept entries entry key (λ same. absurd (omega arith)) ∙ unmet first was up_to key from_key below)
-  where
-    unmet : (first : Option Entry) → IsFirstFrom entries from first → IfSome first (λ e. entry.key ≤ e.key) → (key : ℕ) → from ≤ key → key < entry.key → last_at entries key ≡ None
-    unmet None was up_to key from_key below = was key from_key
-    unmet (Some e) (from_e, is, before) up_to key from_key below = before key from_key (omega arith)
 
 -- no entry is at a key before the first of the buffer and those of the levels
 pub absent-before : (held : Held) (buffered : Option Entry) (places : List ℕ) (low key : ℕ) (found : Option First) → IsFirstFrom held.buffer low buffered → IsLeastLeft held places low found → low ≤ key
@@ -208,9 +169,13 @@ pub later-key : (key other : ℕ) (buffered : Option Entry) → IfSome buffered 
 later-key key other None later less = tt
 later-key key other (Some entry) later less = omega arith
 
-pub first-max : (buffer : List Entry) (low key : ℕ) (buffered : Option Entry) → IsFirstFrom buffer low buffered → IfSome buffered (λ entry. key < entry.key) → IsFirstFrom buffer (max low (key + 1)) buffered
-first-max buffer low key None was later = λ other above. was other (omega arith)
-first-max buffer low key (Some entry) (from, is, before) later = (omega arith, is, λ other above less. before other (omega arith) less)
+-- a key of a level is passed, which comes before the buffer's
+pub upcoming-max : (buffer : List Entry) (low key : ℕ) (upcoming : Upcoming) → IsUpcoming buffer low upcoming → IfSome upcoming.next (λ entry. key < entry.key) → IsUpcoming buffer (max low (key + 1)) upcoming
+upcoming-max buffer low key upcoming is later = record { next = first upcoming.next is.next later; later = is.later }
+  where
+    first : (next : Option Entry) → IsFirstFrom buffer low next → IfSome next (λ entry. key < entry.key) → IsFirstFrom buffer (max low (key + 1)) next
+    first None was later = λ other above. was other (omega arith)
+    first (Some entry) (from, is, before) later = (omega arith, is, λ other above less. before other (omega arith) less)
 
 -- behind the buffer's entry the level's come later
 pub later-than : (buffered : Option Entry) (found : Option First) (first : First) → found ≡ Some first → IfSome buffered (λ entry. MatchOption found ⊥ (λ (f : First). f.key < entry.key)) → IfSome buffered (λ entry. first.key < entry.key)

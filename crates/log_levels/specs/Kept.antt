@@ -9,6 +9,8 @@ use Rattle.std.specs.Arc.{arc_value}
 use Rattle.tombstones.specs.declared.entry.Entry.{Entry}
 use Rattle.tombstones.specs.Entries.{IsAscending, entry_at, kept}
 use Rattle.log_levels.specs.declared.heads.First.{First}
+use Rattle.log_levels.specs.declared.upcoming.Upcoming.{Upcoming}
+use Rattle.log_levels.specs.declared.walk.Walk.{Walk}
 use Rattle.log_levels.specs.declared.fault.MapFault.{MapFault}
 use Rattle.log_levels.specs.declared.fault.MapFault.TheVariants.{Full, NoMemory}
 use Rattle.log_levels.specs.declared.fault.LoadFault.{LoadFault}
@@ -98,6 +100,31 @@ abbrev pub IsFirstFrom : List Entry → ℕ → Option Entry → Type 0
 IsFirstFrom buffer low None = (key : ℕ) → low ≤ key → last_at buffer key ≡ None
 IsFirstFrom buffer low (Some entry) = (low ≤ entry.key) × (last_at buffer entry.key ≡ Some entry) × ((key : ℕ) → low ≤ key → key < entry.key → last_at buffer key ≡ None)
 
+-- the entry at a place of a buffer, and its key
+abbrev pub entry_of : List Entry → ℕ → Entry
+entry_of buffer place = let none : Entry = record { key = 0; value = None } in slice_index_or buffer place none
+
+abbrev pub key_of : List Entry → ℕ → ℕ
+key_of buffer place = (entry_of buffer place).key
+
+-- places of the last entries of keys from a bound on behind a place `start` of a buffer, by falling key
+pub record IsOrder (buffer : List Entry) (start from : ℕ) (order : List ℕ) : Type 0 where
+  pub few : length order + start ≤ length buffer
+  pub inside : (k : ℕ) → k < length order → slice_index order k < length buffer
+  pub falls : (j k : ℕ) → j < k → k < length order → key_of buffer (slice_index order k) < key_of buffer (slice_index order j)
+  pub above : (k : ℕ) → k < length order → from ≤ key_of buffer (slice_index order k)
+  pub last : (k : ℕ) → k < length order → last_at (drop start buffer) (key_of buffer (slice_index order k)) ≡ Some (entry_of buffer (slice_index order k))
+  pub rest : (key : ℕ) → from ≤ key → ((k : ℕ) → k < length order → key_of buffer (slice_index order k) ≡ key → ⊥) → last_at (drop start buffer) key ≡ None
+
+-- if there are places, they are all of a buffer from a bound on
+abbrev pub AreLater : List Entry → ℕ → List ℕ → Type 0
+AreLater buffer from order = 0 < length order → IsOrder buffer 0 from order
+
+-- what a walk has left of a buffer from a bound on
+pub record IsUpcoming (buffer : List Entry) (low : ℕ) (upcoming : Upcoming) : Type 0 where
+  pub next : IsFirstFrom buffer low upcoming.next
+  pub later : IfSome upcoming.next (λ entry. AreLater buffer (entry.key + 1) upcoming.later.items)
+
 -- each place is that of a key up to a bound, so what a level has from the bound on lies behind it
 pub record AreBehind (held : Held) (places : List ℕ) (low : ℕ) : Type 0 where
   pub count : length places ≡ 26
@@ -127,10 +154,10 @@ pub record AreHeads (held : Held) (places : List ℕ) (rest : ℕ) (heads : List
       → ((k : ℕ) (d : ℕ × ℕ) → k < length heads → (slice_index_or heads k d).1 ≡ j → key < (slice_index_or heads k d).0) → entry_at level key ≡ None
 
 -- what is left of a map from a bound on
-pub record IsLeft (held : Held) (buffered : Option Entry) (places : List ℕ) (heads : List (ℕ × ℕ)) (low : ℕ) : Type 0 where
-  pub buffer : IsFirstFrom held.buffer low buffered
-  pub levels : AreBehind held places low
-  pub next : AreHeads held places 0 heads
+pub record IsLeft (held : Held) (walk : Walk) (low : ℕ) : Type 0 where
+  pub buffer : IsUpcoming held.buffer low walk.buffered
+  pub levels : AreBehind held walk.places low
+  pub next : AreHeads held walk.places 0 walk.heads.items
 
 -- the key of what was found, if there is one
 abbrev pub first_key : Option First → Option ℕ

@@ -1,14 +1,12 @@
 // Many updates at once.
-ghost use Rattle.std.specs.Prelude.{◌≡◌, ◌⊎◌, ◌+◌, ◌<◌, ◌≤◌, ◌++◌};
-ghost use Rattle.std.specs.Prelude.{◌∷◌, ℕ};
-ghost use Rattle.std.specs.Prelude.{List, length, map, take, drop};
-ghost use Rattle.std.specs.Prelude.{All, IfOk, IfSome, IfNone, OnOk};
-ghost use Rattle.std.specs.Prelude.{OnErr, Err, IsTrue, slice_index_or};
+ghost use Rattle.std.specs.Prelude.{◌≡◌, ◌+◌, ◌<◌, ◌≤◌, ◌++◌, ◌∷◌, ℕ, List};
+ghost use Rattle.std.specs.Prelude.{length, map, take, drop, slice_index_or};
+ghost use Rattle.std.specs.Prelude.{All, IfOk, OnOk, OnErr, Err, IsTrue};
 ghost use Rattle.log_levels.specs.declared.update.Update.{Update};
 ghost use Rattle.log_levels.specs.declared.fault.MapFault.TheVariants.{Full};
-ghost use Rattle.log_levels.specs.declared.fault.MapFault.{MapFault};
 ghost use Rattle.tombstones.specs.Entries.{IsAscending};
 ghost use Rattle.log_levels.specs.Accepted.{IsPlain, entries_of};
+ghost use Rattle.log_levels.specs.Refusals.{AreApplied, Refuses};
 ghost use Rattle.map_level.specs.Builders.{IsMergeOf, IsIndexFor};
 ghost use Rattle.log_levels.specs.Kept.{IsFull, plain_entry};
 ghost use Rattle.log_levels.specs.Shapes.{StandsFor, capacity_of};
@@ -33,20 +31,7 @@ impl LogMap {
     ///
     /// As of [`LogMap::apply`].
     pub fn apply_here(&mut self, alloc: Global, updates: &[Update]) -> Result<(), MapFault>
-        ensures applied { OnOk result ((before : List Update) → StandsFor self.old before →
-            StandsFor self.new (before ++ updates.now)) }
-        ensures full { (before : List Update) → StandsFor self.old before →
-            capacity_of self.old < length (entries_of (before ++ updates.now)) →
-            (result ≡ Err (Full self.old.accepted)) ⊎ (result ≡ Err MapFault.NoMemory) }
-        ensures full_first { All IsPlain updates.now →
-            capacity_of self.old < self.old.accepted + length updates.now →
-            result ≡ Err (Full self.old.accepted) }
-        ensures full_only { (accepted : ℕ) → result ≡ Err (Full accepted) →
-            (accepted ≡ self.old.accepted) × ((before : List Update) →
-            StandsFor self.old before →
-            capacity_of self.old < length (entries_of (before ++ updates.now))) }
-        ensures unchanged { OnErr result (self.new ≡ self.old) }
-        ensures levels { length self.new.levels ≡ length self.old.levels }
+        ensures { AreApplied self.old self.new updates.now result }
     {
         *self = self.with_updates(&Here { alloc }, alloc, updates)?;
         Ok(())
@@ -80,20 +65,7 @@ impl LogMap {
     ) -> Result<(), MapFault>
         requires staffed { 1 ≤ workers }
         requires few_workers { workers ≤ 64 }
-        ensures applied { OnOk result ((before : List Update) → StandsFor self.old before →
-            StandsFor self.new (before ++ updates.now)) }
-        ensures full { (before : List Update) → StandsFor self.old before →
-            capacity_of self.old < length (entries_of (before ++ updates.now)) →
-            (result ≡ Err (Full self.old.accepted)) ⊎ (result ≡ Err MapFault.NoMemory) }
-        ensures full_first { All IsPlain updates.now →
-            capacity_of self.old < self.old.accepted + length updates.now →
-            result ≡ Err (Full self.old.accepted) }
-        ensures full_only { (accepted : ℕ) → result ≡ Err (Full accepted) →
-            (accepted ≡ self.old.accepted) × ((before : List Update) →
-            StandsFor self.old before →
-            capacity_of self.old < length (entries_of (before ++ updates.now))) }
-        ensures unchanged { OnErr result (self.new ≡ self.old) }
-        ensures levels { length self.new.levels ≡ length self.old.levels }
+        ensures { AreApplied self.old self.new updates.now result }
     {
         *self = self.applied(rt, alloc, updates, workers, gate)?;
         Ok(())
@@ -116,16 +88,7 @@ impl LogMap {
         requires few_workers { workers ≤ 64 }
         ensures applied { IfOk result (λ map. (before : List Update) →
             StandsFor self.now before → StandsFor map (before ++ updates.now)) }
-        ensures full { (before : List Update) → StandsFor self.now before →
-            capacity_of self.now < length (entries_of (before ++ updates.now)) →
-            (result ≡ Err (Full self.now.accepted)) ⊎ (result ≡ Err MapFault.NoMemory) }
-        ensures full_first { All IsPlain updates.now →
-            capacity_of self.now < self.now.accepted + length updates.now →
-            result ≡ Err (Full self.now.accepted) }
-        ensures full_only { (accepted : ℕ) → result ≡ Err (Full accepted) →
-            (accepted ≡ self.now.accepted) × ((before : List Update) →
-            StandsFor self.now before →
-            capacity_of self.now < length (entries_of (before ++ updates.now))) }
+        ensures refused { Refuses self.now updates.now result }
         ensures levels { IfOk result (λ map. length map.levels ≡ length self.now.levels) }
     {
         let merge = |newer: &[Entry], older: &[Entry], deepest: bool| -> Merged
@@ -155,13 +118,7 @@ impl LogMap {
         ensures applied { IfOk result (λ map. (before : List Update) →
             StandsFor self.now before → StandsFor map (before ++ updates.now)) }
         ensures levels { IfOk result (λ map. length map.levels ≡ length self.now.levels) }
-        ensures full_first { All IsPlain updates.now →
-            capacity_of self.now < self.now.accepted + length updates.now →
-            result ≡ Err (Full self.now.accepted) }
-        ensures full_only { (accepted : ℕ) → result ≡ Err (Full accepted) →
-            (accepted ≡ self.now.accepted) × ((before : List Update) →
-            StandsFor self.now before →
-            capacity_of self.now < length (entries_of (before ++ updates.now))) }
+        ensures refused { Refuses self.now updates.now result }
     {
         let accepted = self.accepted();
         let room = self.capacity() - accepted;

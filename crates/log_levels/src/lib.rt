@@ -6,11 +6,12 @@
 //! tombstone. With 200 entries there are 8 in the buffer, 64 behind 128, in level 0, and the 128
 //! oldest in level 1; of each key a level has the last entry.
 //!
-//! Main clauses: that a [`LogMap`] stands for its updates, of each call that changes one; the
+//! Main clauses: of [`LogMap::put`], [`LogMap::del`], [`LogMap::sweep`] and [`LogMap::apply`] that
+//! the map stands for these updates too, or is as it was, and when it is `Full` (`AreApplied`); the
 //! answers of [`LogMap::get`], [`LogMap::next`], [`LogMap::previous`], [`LogMap::count`] and
 //! [`LogMap::range`], by the map after the updates; `puts` and `pairs` of [`LogMap::of_sorted`];
-//! `puts` and `same` of [`LogMap::compacted`]; `full` and `full_only` of [`LogMap::put`], [`LogMap::sweep`] and [`LogMap::apply`];
-//! and the law [`one_map`]. The words of the clauses are in `specs/`.
+//! `puts` and `same` of [`LogMap::compacted`]; and the law [`one_map`]. The words of the clauses are
+//! in `specs/`.
 #![tactic(auto)]
 
 mod apply;
@@ -21,6 +22,7 @@ mod load;
 mod log_map;
 mod questions;
 mod range;
+mod upcoming;
 mod update;
 mod updates;
 mod walk;

@@ -72,8 +72,7 @@ impl LogMap {
         ensures levels { IfOk result (λ map. length map.levels ≡ levels) }
     {
         let mut stored = Vec::with_capacity(alloc, levels as usize)?;
-        for i in 0..levels {
-            let _ = i;
+        for _level in 0..levels {
             stored.push(None)?;
         }
         let buffer = Vec::with_capacity(alloc, BLOCK as usize)?;

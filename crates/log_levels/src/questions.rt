@@ -35,7 +35,7 @@ impl LogMap {
     ///
     /// Each level is searched once, by its grid or its index, and from there on gone along key by
     /// key, past keys that were deleted: at worst past each key from `q` on that the levels and the
-    /// buffer have, and at each the levels and the buffer are looked at once. Takes no memory.
+    /// buffer have. At each the next key of each level is looked at. Takes no memory.
     pub fn next(&self, q: u64) -> Option<(u64, u64)>
         ensures { (updates : List Update) → StandsFor self.now updates →
             result ≡ next_from (map_after updates) q }
@@ -48,8 +48,8 @@ impl LogMap {
     /// `high`.
     ///
     /// Each level is searched once, by its grid or its index, and from there on gone along key by
-    /// key, past keys that were deleted: at each key in the range that the levels and the buffer
-    /// have, and at one past it, the levels and the buffer are looked at once. Takes no memory.
+    /// key, past keys that were deleted. At each key in the range that the levels and the buffer
+    /// have, and at one past it, the next key of each level is looked at. Takes no memory.
     pub fn count(&self, low: u64, high: u64) -> u64
         ensures { (updates : List Update) → StandsFor self.now updates →
             result ≡ count_between (map_after updates) low high }

@@ -1,14 +1,14 @@
 // Updates of a map.
-ghost use Rattle.std.specs.Prelude.{◌≡◌, ◌+◌, ◌<◌, ◌≤◌, ◌++◌, ◌∷◌};
-ghost use Rattle.std.specs.Prelude.{[], ℕ, List, length};
-ghost use Rattle.std.specs.Prelude.{IfOk, IfErr, OnOk, OnErr, MatchResult, Err};
+ghost use Rattle.std.specs.Prelude.{◌≡◌, ◌<◌, ◌++◌, ◌∷◌, [], List, length, IfOk, Err};
 ghost use Rattle.tombstones.specs.declared.entry.Entry.{Entry};
 ghost use Rattle.log_levels.specs.declared.update.Update.{Update};
 ghost use Rattle.log_levels.specs.declared.update.Update.TheVariants.{Put, Del, Sweep};
 ghost use Rattle.log_levels.specs.declared.fault.MapFault.TheVariants.{Full};
-ghost use Rattle.log_levels.specs.Shapes.{IsCutOf, StandsFor, capacity_of};
+ghost use Rattle.log_levels.specs.Shapes.{StandsFor, capacity_of};
 ghost use Rattle.log_levels.specs.Maps.{map_after, count_between};
-ghost use Rattle.log_levels.specs.Accepted.{entries_of, entries_for};
+ghost use Rattle.log_levels.specs.Accepted.{IsPlain, entries_of, entries_for};
+ghost use Rattle.log_levels.specs.Refusals.{AreApplied};
+ghost use Rattle.log_levels.specs.Kept.{plain_entry};
 
 use crate::fault::MapFault;
 use crate::log_map::LogMap;
@@ -32,14 +32,7 @@ impl LogMap {
     ///
     /// After either the map is as it was.
     pub fn put(&mut self, alloc: Global, key: u64, value: u64) -> Result<(), MapFault>
-        ensures put { OnOk result ((updates : List Update) → StandsFor self.old updates →
-            StandsFor self.new (updates ++ Put key value ∷ [])) }
-        ensures full { capacity_of self.old < self.old.accepted + 1 →
-            result ≡ Err (Full self.old.accepted) }
-        ensures full_only { (accepted : ℕ) → result ≡ Err (Full accepted) →
-            (accepted ≡ self.old.accepted) × (capacity_of self.old < self.old.accepted + 1) }
-        ensures unchanged { OnErr result (self.new ≡ self.old) }
-        ensures levels { length self.new.levels ≡ length self.old.levels }
+        ensures { AreApplied self.old self.new (Put key value ∷ []) result }
     {
         self.add(
             alloc,
@@ -56,14 +49,7 @@ impl LogMap {
     ///
     /// As at [`LogMap::put`].
     pub fn del(&mut self, alloc: Global, key: u64) -> Result<(), MapFault>
-        ensures del { OnOk result ((updates : List Update) → StandsFor self.old updates →
-            StandsFor self.new (updates ++ Del key ∷ [])) }
-        ensures full { capacity_of self.old < self.old.accepted + 1 →
-            result ≡ Err (Full self.old.accepted) }
-        ensures full_only { (accepted : ℕ) → result ≡ Err (Full accepted) →
-            (accepted ≡ self.old.accepted) × (capacity_of self.old < self.old.accepted + 1) }
-        ensures unchanged { OnErr result (self.new ≡ self.old) }
-        ensures levels { length self.new.levels ≡ length self.old.levels }
+        ensures { AreApplied self.old self.new (Del key ∷ []) result }
     {
         self.add(alloc, Entry { key, value: None })
     }
@@ -78,24 +64,17 @@ impl LogMap {
     ///
     /// After either the map is as it was.
     pub fn sweep(&mut self, alloc: Global, low: u64, high: u64) -> Result<u64, MapFault>
-        ensures swept { OnOk result ((updates : List Update) → StandsFor self.old updates →
-            StandsFor self.new (updates ++ Sweep low high ∷ [])) }
+        ensures swept { AreApplied self.old self.new (Sweep low high ∷ []) result }
         ensures count { IfOk result (λ count. (updates : List Update) →
             StandsFor self.old updates → count ≡ count_between (map_after updates) low high) }
         ensures full { (updates : List Update) → StandsFor self.old updates →
             capacity_of self.old < length (entries_of (updates ++ Sweep low high ∷ [])) →
             result ≡ Err (Full self.old.accepted) }
-        ensures full_only { (accepted : ℕ) → result ≡ Err (Full accepted) →
-            (accepted ≡ self.old.accepted) × ((updates : List Update) →
-            StandsFor self.old updates →
-            capacity_of self.old < length (entries_of (updates ++ Sweep low high ∷ []))) }
-        ensures unchanged { OnErr result (self.new ≡ self.old) }
-        ensures levels { length self.new.levels ≡ length self.old.levels }
     {
         self.sweep_by(&Here { alloc }, alloc, low, high)
     }
 
-    /// The same, the levels made by a builder.
+    /// Such a sweep, the levels made by a builder.
     pub(crate) fn sweep_by<B: Builder>(
         &mut self,
         builder: &B,
@@ -104,19 +83,12 @@ impl LogMap {
         high: u64,
     ) -> Result<u64, MapFault>
         requires { B.ready builder.now }
-        ensures swept { OnOk result ((updates : List Update) → StandsFor self.old updates →
-            StandsFor self.new (updates ++ Sweep low high ∷ [])) }
+        ensures swept { AreApplied self.old self.new (Sweep low high ∷ []) result }
         ensures count { IfOk result (λ count. (updates : List Update) →
             StandsFor self.old updates → count ≡ count_between (map_after updates) low high) }
         ensures full { (updates : List Update) → StandsFor self.old updates →
             capacity_of self.old < length (entries_of (updates ++ Sweep low high ∷ [])) →
             result ≡ Err (Full self.old.accepted) }
-        ensures full_only { (accepted : ℕ) → result ≡ Err (Full accepted) →
-            (accepted ≡ self.old.accepted) × ((updates : List Update) →
-            StandsFor self.old updates →
-            capacity_of self.old < length (entries_of (updates ++ Sweep low high ∷ []))) }
-        ensures unchanged { OnErr result (self.new ≡ self.old) }
-        ensures levels { length self.new.levels ≡ length self.old.levels }
     {
         let accepted = self.accepted();
         let count = self.count(low, high);
@@ -155,14 +127,8 @@ impl LogMap {
 
     /// Adds an entry, where there is room.
     fn add(&mut self, alloc: Global, entry: Entry) -> Result<(), MapFault>
-        ensures added { OnOk result ((entries : List Entry) → IsCutOf self.old entries →
-            IsCutOf self.new (entries ++ entry ∷ [])) }
-        ensures full { capacity_of self.old < self.old.accepted + 1 →
-            result ≡ Err (Full self.old.accepted) }
-        ensures full_only { (accepted : ℕ) → result ≡ Err (Full accepted) →
-            (accepted ≡ self.old.accepted) × (capacity_of self.old < self.old.accepted + 1) }
-        ensures unchanged { OnErr result (self.new ≡ self.old) }
-        ensures levels { length self.new.levels ≡ length self.old.levels }
+        ensures { (update : Update) → IsPlain update → entry ≡ plain_entry update →
+            AreApplied self.old self.new (update ∷ []) result }
     {
         let accepted = self.accepted();
         if accepted == self.capacity() {

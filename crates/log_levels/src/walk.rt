@@ -12,26 +12,27 @@ ghost use Rattle.log_levels.specs.Shapes.{IsCutOf, level_of, from_bit};
 ghost use Rattle.window_search.specs.Searches.{lb};
 ghost use Rattle.tombstones.specs.Entries.{entry_at};
 ghost use Rattle.log_levels.specs.Kept.{ArePlaces, AreBehind, AreHeads, IsFirst, IsLeft};
-ghost use Rattle.log_levels.specs.Kept.{IsAbsent, IsFirstFrom, IsNextLive, first_key};
+ghost use Rattle.log_levels.specs.Kept.{IsAbsent, IsNextLive, first_key};
 ghost use Rattle.log_levels.specs.Kept.{left_of, value_of};
 
 use crate::heads::{First, Heads, first_head, put_head};
 use crate::log_map::{LogMap, lowest_and_rest};
+use crate::upcoming::Upcoming;
 use arrayvec::ArrayVec;
 use tombstones::Entry;
 
 /// A place in each level, 26 at most.
 pub type Places = [usize; 26];
 
-/// What a walk has not passed: the next entry of the buffer, if there is one, and what lies behind
-/// a place in each level.
+/// What a walk has not passed: what it has left of the buffer, and what lies behind a place in each
+/// level.
 ///
 /// The keys at these places lie side by side (`heads`), so that a step reads no level but the one
 /// whose entry it takes. Where several levels have a key, only the newest moves on with it. In the
 /// others the entry of a key that was passed is met later, and left out.
 #[derive(Drop)]
 pub struct Walk {
-    buffered: Option<Entry>,
+    buffered: Upcoming,
     places: Places,
     heads: Heads,
 }
@@ -39,10 +40,10 @@ pub struct Walk {
 impl LogMap {
     /// A walk from a key on.
     pub(crate) fn walk(&self, from: u64) -> Walk
-        ensures { IsLeft self.now result.buffered result.places result.heads.items from }
+        ensures { IsLeft self.now result from }
     {
         let places = self.places(from);
-        let buffered = first_from(&self.buffer, u128::from(from));
+        let buffered = Upcoming::from(&self.buffer, from);
         let heads = self.heads(&places);
         Walk {
             buffered,
@@ -86,13 +87,12 @@ impl LogMap {
     /// passes it.
     #[inline(always)]
     pub(crate) fn next_pair(&self, walk: &mut Walk, from: u128) -> Option<(u64, u64)>
-        requires left { IsLeft self.now walk.old.buffered walk.old.places walk.old.heads.items from }
+        requires left { IsLeft self.now walk.old from }
         requires few { from ≤ 2 ^ 64 }
         ensures live { (entries : List Entry) → IsCutOf self.now entries →
             IsNextLive entries from result }
         ensures from { IfSome result (λ pair. from ≤ pair.0) }
-        ensures left { IfSome result (λ pair.
-            IsLeft self.now walk.new.buffered walk.new.places walk.new.heads.items (pair.0 + 1)) }
+        ensures left { IfSome result (λ pair. IsLeft self.now walk.new (pair.0 + 1)) }
     {
         let mut low = from;
         while let Some(entry) = self.take_least(walk, low) {
@@ -111,7 +111,7 @@ impl LogMap {
     /// that has it. Below `low` it is one that was left out, and else the last one of its key.
     #[inline(always)]
     fn take_least(&self, walk: &mut Walk, low: u128) -> Option<Entry>
-        requires left { IsLeft self.now walk.old.buffered walk.old.places walk.old.heads.items low }
+        requires left { IsLeft self.now walk.old low }
         requires few { low ≤ 2 ^ 64 }
         ensures none { IsNone result → (key : ℕ) → low ≤ key → IsAbsent self.now key }
         ensures least { IfSome result (λ entry. (key : ℕ) → low ≤ key → key < entry.key →
@@ -119,14 +119,13 @@ impl LogMap {
         ensures last { IfSome result (λ entry. (entries : List Entry) → low ≤ entry.key →
             IsCutOf self.now entries → value_of (last_at entries entry.key) ≡ entry.value) }
         ensures left { IfSome result (λ entry.
-            IsLeft self.now walk.new.buffered walk.new.places walk.new.heads.items
-            (max low (entry.key + 1))) }
+            IsLeft self.now walk.new (max low (entry.key + 1))) }
         ensures fewer { IfSome result (λ entry.
             left_of walk.new.places (max low (entry.key + 1)) < left_of walk.old.places low) }
     {
         let found = first_head(&walk.heads);
-        if let Some(entry) = next_of(walk.buffered, found) {
-            walk.buffered = first_from(&self.buffer, u128::from(entry.key) + 1);
+        if let Some(entry) = next_of(walk.buffered.next, found) {
+            walk.buffered.pass(&self.buffer, entry.key);
             return Some(entry);
         }
         let first = found?;
@@ -227,33 +226,6 @@ impl LogMap {
     {
         let level = self.level(i)?;
         level.key_to(place, bound)
-    }
-}
-
-/// The first entry from a key on: of the least key the last one.
-#[inline(never)]
-fn first_from(entries: &[Entry], from: u128) -> Option<Entry>
-    ensures { IsFirstFrom entries.now from result }
-{
-    let mut first = None;
-    for entry in entries {
-        first = first_with(first, *entry, from);
-    }
-    first
-}
-
-/// The same with an entry more, by that without it.
-#[inline(always)]
-fn first_with(first: Option<Entry>, entry: Entry, from: u128) -> Option<Entry>
-    ensures { (entries : List Entry) → IsFirstFrom entries from first →
-        IsFirstFrom (entries ++ entry ∷ []) from result }
-{
-    if u128::from(entry.key) < from {
-        return first;
-    }
-    match first {
-        Some(other) if other.key < entry.key => first,
-        _ => Some(entry),
     }
 }
 

@@ -1,8 +1,10 @@
 -- A writer as callers see it.
-use Rattle.std.specs.Prelude.{ℕ, ◌<◌, List, ◌++◌, length}
+use Rattle.std.specs.Prelude.{◌≡◌, ℕ, List, ◌++◌, length, Result}
 use Rattle.logbook.specs.Pages.{Book}
 use Rattle.log_levels.specs.declared.update.Update.{Update}
+use Rattle.log_levels.specs.declared.fault.MapFault.{MapFault}
 use Rattle.log_levels.specs.Accepted.{entries_of}
+use Rattle.log_levels.specs.Refusals.{RefusesTooMany}
 use Rattle.published.specs.Histories.{updates_of}
 
 -- the history that is published, the batch in hand, and how many entries the map can accept
@@ -20,6 +22,6 @@ updates_in writer = updates_of writer.history ++ writer.batch
 abbrev pub count_in : Written → ℕ
 count_in writer = length (entries_of (updates_in writer))
 
--- with more updates the entries would be more than the map can accept
-abbrev pub IsOverfull : Written → List Update → Type 0
-IsOverfull writer updates = writer.capacity < length (entries_of (updates_in writer ++ updates))
+-- a writer refuses these updates where the entries would be more than the map can accept
+abbrev pub Refuses : {X : Type 0} → Written → List Update → Result X MapFault → Type 0
+Refuses writer updates result = RefusesTooMany (λ before. before ≡ updates_in writer) (count_in writer) writer.capacity updates result

@@ -131,8 +131,8 @@ pub fn with_room<R: Wait>(rt: &R, copies: Copies, version: Version) -> Result<Co
     }
 }
 
-/// A reader's place, which has seen what is shown.
-pub fn seated<R: Wait>(rt: &R, copies: &mut Copies) -> Place
+/// A reader's place, which was told what is shown.
+pub fn told_place<R: Wait>(rt: &R, copies: &mut Copies) -> Place
     ensures known { view result.place ≡ view copies.old.desk.place }
     ensures same { view copies.new.desk.place ≡ view copies.old.desk.place }
     ensures shown { copies.new.desk.shown ≡ copies.old.desk.shown }

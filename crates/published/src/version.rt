@@ -41,7 +41,7 @@ impl Version {
         Version { map, prefix }
     }
 
-    /// The same version.
+    /// Another share of the version.
     pub fn share(&self) -> Result<Version, AllocError>
         ensures { IfOk result (λ version. version ≡ self.now) }
     {

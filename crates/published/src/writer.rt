@@ -6,12 +6,10 @@ ghost use Rattle.std.specs.Prelude.{IsTrue};
 ghost use Rattle.std.specs.Prelude.{IfOk, OnOk, OnErr, Err, vec_len, vec_capacity};
 ghost use Rattle.std.specs.Bool.{OnTrue};
 ghost use Rattle.left_right.specs.Sides.{view};
-ghost use Rattle.log_levels.specs.declared.fault.MapFault.TheVariants.{Full};
-ghost use Rattle.log_levels.specs.Accepted.{IsPlain};
 ghost use Rattle.published.specs.Histories.{Front, count_of, published};
-ghost use Rattle.published.specs.Writers.{count_in, IsOverfull};
+ghost use Rattle.published.specs.Writers.{Refuses};
 
-use crate::copies::{Copies, give_up, seated, show, with_room};
+use crate::copies::{Copies, give_up, show, told_place, with_room};
 use crate::history::{Head, Prefix, open};
 use crate::reader::{Note, Reader};
 use crate::version::Version;
@@ -87,7 +85,7 @@ pub fn start_map<R: Wait>(
     ensures fresh { IfOk result (λ made. All (λ reader.
         (reader.origin ≡ made.0.origin) × (reader.batches ≡ [])) made.1.items) }
 {
-    let mut seats = Vec::with_capacity(alloc, readers as usize)?;
+    let mut made = Vec::with_capacity(alloc, readers as usize)?;
     let (head, front) = open();
     let map = Arc::new(alloc, LogMap::new(alloc, levels)?)?;
     let first = Version::new(Arc::try_clone(&map)?, front.again());
@@ -97,7 +95,7 @@ pub fn start_map<R: Wait>(
     // Once for each copy: then the room that a version needs is there for good.
     let copies = with_room(rt, copies, third)?;
     let mut copies = with_room(rt, copies, fourth)?;
-    seat_all(rt, &mut copies, &front, readers, &mut seats);
+    make_readers(rt, &mut copies, &front, readers, &mut made);
     let writer = Writer {
         copies: Some(copies),
         head,
@@ -105,27 +103,27 @@ pub fn start_map<R: Wait>(
         batch: Vec::new(alloc),
         map,
     };
-    Ok((writer, seats))
+    Ok((writer, made))
 }
 
-/// Takes a place for each reader.
-fn seat_all<R: Wait>(
+/// Makes so many readers, each at a place of its own.
+fn make_readers<R: Wait>(
     rt: &R,
     copies: &mut Copies,
     front: &Prefix,
-    readers: u32,
-    seats: &mut Vec<Reader>,
+    count: u32,
+    readers: &mut Vec<Reader>,
 )
-    requires empty { seats.old.items ≡ [] }
-    requires room { readers ≤ vec_capacity seats.old }
+    requires empty { readers.old.items ≡ [] }
+    requires room { count ≤ vec_capacity readers.old }
     requires told { view copies.old.desk.place ≡ Some front.now }
     ensures shown { copies.new.desk.shown ≡ copies.old.desk.shown }
-    ensures readers { length seats.new.items ≡ readers }
-    ensures fresh { All (λ reader. reader ≡ front.now) seats.new.items }
+    ensures count { length readers.new.items ≡ count }
+    ensures fresh { All (λ reader. reader ≡ front.now) readers.new.items }
 {
-    for _reader in 0..readers {
-        let place = seated(rt, copies);
-        seats.push_reserved(Reader::at(place, front.again()));
+    for _reader in 0..count {
+        let place = told_place(rt, copies);
+        readers.push_reserved(Reader::at(place, front.again()));
     }
 }
 
@@ -159,14 +157,7 @@ impl Writer {
         ensures unchanged { OnErr result (self.new ≡ self.old) }
         ensures own { self.new.origin ≡ self.old.origin }
         ensures capacity { self.new.capacity ≡ self.old.capacity }
-        ensures full { IsOverfull self.old updates.now →
-            (result ≡ Err (Full (count_in self.old))) ⊎ (result ≡ Err MapFault.NoMemory) }
-        // It is judged first where no update is a sweep.
-        ensures full_first { All IsPlain updates.now →
-            self.old.capacity < count_in self.old + length updates.now →
-            result ≡ Err (Full (count_in self.old)) }
-        ensures full_only { (accepted : ℕ) → result ≡ Err (Full accepted) →
-            (accepted ≡ count_in self.old) × IsOverfull self.old updates.now }
+        ensures refused { Refuses self.old updates.now result }
     {
         let next = self.map.applied(rt, alloc, updates, workers, gate)?;
         let staged = self.front.len() + self.batch.len() as u64;

@@ -16,7 +16,7 @@ returns-in-Ok-clause-refused c = λ not_done.
     inr (
       subst (λ (parts : List UpdateParts). All IsUpdate parts) (take_all c.known_len-known.result c.args.parts.now (omega (arith, c.if-known-parts.false))) c.known_len-known.ensures.known,
       refused_by c.args.held.now c.args.parts.now c.deref.result.now c.in-Err-apply_here.fault c.fault_as.result (c.deref.ensures.value ∙ c.in-Ok.ensures) c.fault_as.ensures
-          (λ accepted is. c.apply_here.ensures.full_only accepted (c.in-Err-apply_here.is ∙ ap Err is)),
+          (λ accepted is. c.apply_here.ensures.refused.full_only accepted (c.in-Err-apply_here.is ∙ ap Err is)),
     )
 
 pub returns-clause-refused : goal.returns-clause-refused

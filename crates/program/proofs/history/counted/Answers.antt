@@ -15,6 +15,6 @@ pub unreachable-requires : goal.unreachable-requires
 unreachable-requires c =
     let accepted = c.in-Err-Full.field-0-0 in
     let full : c.apply_here.result ≡ Err (Full accepted) = c.in-Err-Full.is ∙ ap Err c.in-Err-Full.field-0-is in
-    let over = (c.apply_here.ensures.full_only accepted full).1 [] c.in_ok-map.ensures.empty in
+    let over = (c.apply_here.ensures.refused.full_only accepted full).1 [] c.in_ok-map.ensures.empty in
     let room = room_for_all c.in_ok-map.map c.args.updates.now c.in_ok-map.ensures.levels c.requires in
     omega (arith, over, room)

@@ -10,7 +10,7 @@ use Rattle.log_levels.proofs.log_map.LogMap.add_run.Goals as goal
 
 pub returns-in-Err-clause-full_only : goal.returns-in-Err-clause-full_only
 returns-in-Err-clause-full_only g c = λ accepted is before stands.
-    let over = (c.in-Err.ensures.full_only accepted is).1 before stands in
+    let over = (c.in-Err.ensures.swept.refused.full_only accepted is).1 before stands in
     let first : take 1 c.args.updates.now ≡ Sweep c.in-Sweep.low c.in-Sweep.high ∷ [] =
     take_more c.args.updates.now 0 (Put 0 0) c.requires.some ∙ ap (λ update. update ∷ []) c.in-Sweep.is in
     omega (arith, over, length-first 1 before c.args.updates.now, ap (λ (list : List Update). length (entries_of (before ++ list))) first)

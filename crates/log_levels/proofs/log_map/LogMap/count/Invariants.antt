@@ -7,7 +7,7 @@ use Rattle.log_levels.proofs.log_map.LogMap.count.Given as goal
 
 abbrev pub invariant-loop-key : goal.invariant-loop-key
 invariant-loop-key l = record {
-  at : IsLeft l.self l.walk.buffered l.walk.places l.walk.heads.items l.from;
+  at : IsLeft l.self l.walk l.from;
   few : l.from ≤ 2 ^ 64;
   sum : (updates : List Update) → StandsFor l.self updates → count_between (map_after updates) l.low l.high ≡ l.count + count_between (map_after updates) l.from l.high;
 }

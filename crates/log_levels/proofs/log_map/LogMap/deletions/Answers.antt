@@ -17,7 +17,7 @@ pub loop-key-preserved : goal.loop-key-preserved
 loop-key-preserved c =
     let same : c.from-from-in-Some.result ≡ c.in-Some.key = c.from-from-in-Some.ensures in
     record {
-      at = subst (λ k. IsLeft c.args.self.now c.next_pair.new.walk.buffered c.next_pair.new.walk.places c.next_pair.new.walk.heads.items (k + 1)) (sym same) c.in-Some.ensures.left;
+      at = subst (λ k. IsLeft c.args.self.now c.next_pair.new.walk (k + 1)) (sym same) c.in-Some.ensures.left;
       few = omega arith;
       list = λ updates stands.
           let found = pairs-found updates c.loop-key.from c.args.high c.in-Some.key c.in-Some.field-0-1 (c.in-Some.ensures.live (entries_of updates) stands) c.if-key-high.false in

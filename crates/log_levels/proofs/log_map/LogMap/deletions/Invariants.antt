@@ -8,7 +8,7 @@ use Rattle.log_levels.proofs.log_map.LogMap.deletions.Given as goal
 
 abbrev pub invariant-loop-key : goal.invariant-loop-key
 invariant-loop-key l = record {
-  at : IsLeft l.self l.walk.buffered l.walk.places l.walk.heads.items l.from;
+  at : IsLeft l.self l.walk l.from;
   few : l.from ≤ 2 ^ 64;
   list : (updates : List Update) → StandsFor l.self updates →
       map del_entry (keys_between (map_after updates) l.low l.high) ≡ l.deletions.items ++ map del_entry (keys_between (map_after updates) l.from l.high);

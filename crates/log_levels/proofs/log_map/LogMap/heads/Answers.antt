@@ -1,4 +1,4 @@
-use Rattle.std.proofs.Common.{[], length, subst, sym, arith}
+use Rattle.std.proofs.Common.{length, subst, sym, arith}
 use Rattle.log_levels.specs.Kept.{AreHeads}
 use Rattle.log_levels.proofs.OccupiedLemmas.{bit-within}
 use Rattle.log_levels.proofs.HeadLemmas.{heads-begin}

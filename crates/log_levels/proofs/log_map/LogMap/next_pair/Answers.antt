@@ -18,7 +18,7 @@ loop-entry-preserved c =
     let above : c.loop-entry.low ≤ c.in-Some.entry.key = omega (arith, c.if-from-low.false, c.from.ensures) in
     let next : max c.loop-entry.low (c.in-Some.entry.key + 1) ≡ c.from-low.result + 1 = omega arith in
     record {
-      left = subst (IsLeft c.args.self.now c.take_least.new.walk.buffered c.take_least.new.walk.places c.take_least.new.walk.heads.items) next c.in-Some.ensures.left;
+      left = subst (IsLeft c.args.self.now c.take_least.new.walk) next c.in-Some.ensures.left;
       from = omega (arith, c.loop-entry.invariant.from);
       few = omega arith;
       none = λ entries key cut from_key less. none-past c.args.self.now entries c.args.from c.loop-entry.low c.in-Some.entry.key cut

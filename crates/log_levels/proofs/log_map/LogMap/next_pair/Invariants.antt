@@ -7,7 +7,7 @@ use Rattle.log_levels.proofs.log_map.LogMap.next_pair.Given as goal
 
 abbrev pub invariant-loop-entry : goal.invariant-loop-entry
 invariant-loop-entry l = record {
-  left : IsLeft l.self l.walk.buffered l.walk.places l.walk.heads.items l.low;
+  left : IsLeft l.self l.walk l.low;
   from : l.from ≤ l.low;
   few : l.low ≤ 2 ^ 64;
   none : (entries : List Entry) (key : ℕ) → IsCutOf l.self entries → l.from ≤ key → key < l.low → value_of (last_at entries key) ≡ None;

@@ -12,7 +12,7 @@ pub loop-key-preserved : goal.loop-key-preserved
 loop-key-preserved c =
     let same : c.from-from.result ≡ c.in-Some.key = c.from-from.ensures in
     record {
-      at = subst (λ k. IsLeft c.args.self.now c.next_pair.new.walk.buffered c.next_pair.new.walk.places c.next_pair.new.walk.heads.items (k + 1)) (sym same) c.in-Some.ensures.left;
+      at = subst (λ k. IsLeft c.args.self.now c.next_pair.new.walk (k + 1)) (sym same) c.in-Some.ensures.left;
       few = (let typed = rw c.in-Some.is at c.next_pair.type_inv in omega (arith, typed));
       list = λ updates high stands none.
           let live = c.in-Some.ensures.live (entries_of updates) stands in

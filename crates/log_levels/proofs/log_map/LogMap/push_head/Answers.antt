@@ -1,4 +1,4 @@
-use Rattle.std.proofs.Common.{◌≡◌, ◌+◌, ◌<◌, List, length, slice_index, Some, None, IsSome, refl, subst, sym, ap, ◌∙◌, arith}
+use Rattle.std.proofs.Common.{◌≡◌, ◌+◌, ◌<◌, List, length, slice_index, Some, None, IsSome, refl, subst, sym, ap, ◌∙◌}
 use Rattle.tombstones.specs.declared.entry.Entry.{Entry}
 use Rattle.tombstones.specs.Entries.{entry_at}
 use Rattle.window_search.specs.Searches.{lb}

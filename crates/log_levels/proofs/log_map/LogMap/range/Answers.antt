@@ -34,7 +34,7 @@ pub loop-count-preserved : goal.loop-count-preserved
 loop-count-preserved c =
     let same : c.from-low-in-loop-count.result ≡ c.in-Some.key = c.from-low-in-loop-count.ensures in
     record {
-      at = subst (λ k. IsLeft c.args.self.now c.next_pair.new.walk.buffered c.next_pair.new.walk.places c.next_pair.new.walk.heads.items (k + 1)) (sym same) c.in-Some.ensures.left;
+      at = subst (λ k. IsLeft c.args.self.now c.next_pair.new.walk (k + 1)) (sym same) c.in-Some.ensures.left;
       few = omega arith;
       within = omega (arith, length-set c.loop-count.pairs c.loop-count.count (c.in-Some.key, c.in-Some.value));
       written = λ updates stands.

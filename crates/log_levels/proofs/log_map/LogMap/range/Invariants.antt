@@ -8,7 +8,7 @@ use Rattle.log_levels.proofs.log_map.LogMap.range.Given as goal
 
 abbrev pub invariant-loop-count : goal.invariant-loop-count
 invariant-loop-count l = record {
-  at : IsLeft l.self l.walk.buffered l.walk.places l.walk.heads.items l.low;
+  at : IsLeft l.self l.walk l.low;
   few : l.low ≤ 2 ^ 64;
   within : l.count ≤ length l.pairs;
   written : (updates : List Update) → StandsFor l.self updates → IsWritten (pairs_between (map_after updates) l.from l.to) (pairs_between (map_after updates) l.low l.to) l.pairs l.initial.pairs l.count;

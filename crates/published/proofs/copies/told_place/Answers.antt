@@ -1,5 +1,5 @@
 use Rattle.published.proofs.OnlyGrows.{forks, merges}
-use Rattle.published.proofs.copies.seated.Goals as goal
+use Rattle.published.proofs.copies.told_place.Goals as goal
 
 pub tell-requires : goal.tell-requires
 tell-requires g c = forks _ _
