@@ -1,6 +1,5 @@
 -- What is refused.
 use Rattle.std.proofs.Common.{◌≡◌, ℕ, zero, suc, ◌+◌, ◌<◌, ◌≤◌, ◌⊎◌, List, [], ◌∷◌, ◌++◌, length, All, Result, Ok, Err, IsErrAnd, inl, inr, refl, sym, subst, ap, ◌∙◌, arith}
-use Rattle.std.proofs.lemmas.Bool.{cases_lt}
 use Rattle.log_levels.specs.declared.update.Update.{Update}
 use Rattle.log_levels.specs.declared.update.Update.TheVariants.{Sweep}
 use Rattle.log_levels.specs.declared.fault.MapFault.{MapFault}
@@ -95,17 +94,6 @@ refuses-err {X} {Y} IsBefore accepted capacity updates fault was = record {
         → ((let first : Result Y MapFault = Err fault in first) ≡ Err (Full accepted)) ⊎ ((let first : Result Y MapFault = Err fault in first) ≡ Err NoMemory)
     either (inl same) = inl (ap Err (there (Full accepted) same))
     either (inr same) = inr (ap Err (there NoMemory same))
-
--- memory was wanted later, behind an answer
-pub refuses-late : {X Y : Type 0} (IsBefore : List Update → Type 0) (accepted capacity : ℕ) (updates : List Update) (value : X) (fault : MapFault) → fault ≡ NoMemory
-    → RefusesTooMany IsBefore accepted capacity updates (Ok value) → RefusesTooMany {X = Y} IsBefore accepted capacity updates (Err fault)
-refuses-late {X} {Y} IsBefore accepted capacity updates value fault is_memory was = refuses-memory {X = Y} IsBefore accepted capacity updates fault is_memory (λ plain. elim (cases_lt capacity (accepted + length updates)) [
-  | inl many ↦ absurd (apart (was.full_first plain many))
-  | inr room ↦ room
-])
-  where
-    apart : Ok value ≡ Err (Full accepted) → ⊥
-    apart same = cc
 
 -- of one list of updates before
 pub refuses-behind : {X : Type 0} (held : Held) (now updates : List Update) (result : Result X MapFault) → StandsFor held now → Refuses held updates result

@@ -155,7 +155,9 @@ impl Level {
         Some(&entries[place])
     }
 
-    /// The key at a place, if there is one: at the place of a bound the least key from the bound on.
+    /// The key at a place, if there is one.
+    ///
+    /// At the place of a bound it is the least key from the bound on.
     #[inline]
     pub fn key_at(&self, place: usize) -> Option<u64>
         ensures at { IfSome result (λ key. (place < length self.now) ×

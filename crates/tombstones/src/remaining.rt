@@ -14,7 +14,7 @@ pub struct Remaining<'a> {
     pub older: &'a [Entry],
 }
 
-/// The same with the next key of each list, where each has one.
+/// What a merge has not yet taken of two lists, with the next key of each.
 #[derive(Clone, Copy)]
 pub struct Heads<'a> {
     pub remaining: Remaining<'a>,
