@@ -4,7 +4,7 @@ use Rattle.std.specs.Arc.{arc_value}
 use Rattle.crossbeam_queue.specs.Passes.{view, IsPassOf, IsSamePass}
 use Rattle.senders.specs.Senders.{AreFresh}
 use Rattle.senders.specs.Views.{taking, origin_of}
-use Rattle.senders.proofs.ends.seat_all.Given as goal
+use Rattle.senders.proofs.ends.make_senders.Given as goal
 
 abbrev pub invariant-loop-number : goal.invariant-loop-number
 invariant-loop-number l = record {

@@ -2,7 +2,7 @@
 use Rattle.std.proofs.Common.{ap, arith}
 use Rattle.senders.specs.declared.views.View.{View}
 use Rattle.senders.proofs.Steps.{makes_one}
-use Rattle.senders.proofs.ends.seat_all.Goals as goal
+use Rattle.senders.proofs.ends.make_senders.Goals as goal
 
 pub another-theirs-requires-clause-rule : goal.another-theirs-requires-clause-rule
 another-theirs-requires-clause-rule c =
