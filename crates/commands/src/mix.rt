@@ -9,7 +9,7 @@ use crate::replay::{fill_count, write_rest};
 use crate::task::Mixing;
 use edge::{Failed, Gate, Sink};
 use log_levels::Update;
-use map_replay::{Asked, Dealing, Question, Reading, mix};
+use map_replay::{Asked, Assignment, Dealing, Question, Reading, mix};
 use std::alloc::Global;
 use std::sync::Wait;
 use std::thread::Threads;
@@ -39,7 +39,8 @@ pub fn write<R: Threads + Wait + Sync, S: Sink, G: Gate>(
         room: QUEUE_ROOM,
     };
     let (updates, questions) = (&history.updates, &history.questions);
-    let left = mix(rt, alloc, updates, questions, history.plan, dealing, gate)?;
+    let assignment = Assignment { updates, dealing };
+    let left = mix(rt, alloc, assignment, questions, history.plan, gate)?;
     let done = write_mixed(
         out,
         &left,

@@ -1,19 +1,16 @@
 -- What prefixes of batches show.
-use Rattle.std.proofs.Common.{◌≡◌, ◌≤◌, ◌<◌, ◌+◌, ◌-◌, ◌++◌, ◌∷◌, [], ℕ, List, length, take, drop, min, zero, suc, ap, sym, refl, ◌∙◌, subst, arith, append_assoc, length-append}
-use Rattle.std.specs.Prelude.{All, ⊤}
-use Rattle.std.proofs.lemmas.List.{take-append-drop, take_min, length-drop}
+use Rattle.std.proofs.Common.{◌≡◌, ◌≤◌, ◌+◌, ◌++◌, ◌∷◌, [], ℕ, List, length, take, ap, sym, refl, ◌∙◌, subst, arith, length-append}
+use Rattle.std.specs.Prelude.{All}
 use Rattle.std.proofs.lemmas.List.Elements.{All-nil, All-cons, All-head, All-tail}
 use mathlib.Core.List.{IsPrefix}
 use Rattle.log_levels.specs.declared.update.Update.{Update}
-use Rattle.log_levels.specs.Accepted.{entries_of, entries_from}
 use Rattle.log_levels.specs.Maps.{map_after}
-use Rattle.log_levels.proofs.UpdateLemmas.{entries_of-append}
 use Rattle.published.specs.Histories.{updates_of, count_of}
 use Rattle.published.proofs.CallerLemmas.{prefix_count, updates_of-append, count_of-append}
 use Rattle.map_replay.specs.declared.question.Question.{Question}
 use Rattle.map_replay.specs.declared.reading.Sighting.{Sighting}
 use Rattle.map_replay.specs.declared.reading.Reading.{Reading}
-use Rattle.map_replay.specs.Crews.{HasSeen}
+use Rattle.map_replay.specs.ReaderStates.{HasSeen}
 use Rattle.map_replay.specs.Questions.{answer_of}
 use Rattle.map_replay.specs.Readings.{AreCut, IsAmong, IsPublished, AreAnswers, IsReadingOf, IsWholeReading, IsWholeReadingOf, IsWholeMixedReading}
 use Rattle.batches.specs.Batches.{AreBatches}

@@ -2,7 +2,7 @@
 use Rattle.std.proofs.Common.{◌≡◌, ◌+◌, ◌++◌, ◌∷◌, [], ℕ, List, length, get_or, set, refl, sym, ap, subst, ◌∙◌, arith, ⊎_elim, length-append}
 use Rattle.std.proofs.lemmas.Bool.{cases_eq, cases_lt}
 use Rattle.std.proofs.lemmas.List.{get_or-set_same, get_or-set_other, length-set, get_or_append_left, get_or_push}
-use Rattle.map_replay.specs.Posts.{AreAt}
+use Rattle.map_replay.specs.SenderStates.{AreAt}
 
 module _ {T : Type 0} (Is : ℕ → T → Type 0) where
   pub at_nil : (items : List T) → items ≡ [] → AreAt Is items

@@ -2,7 +2,7 @@ pub mod Questions
 pub mod Mixes
 pub mod Readings
 pub mod Watching
-pub mod Crews
-pub mod Posts
+pub mod ReaderStates
+pub mod SenderStates
 pub use Rattle.published.specs.Histories
 pub use Rattle.senders.specs.Senders

@@ -58,7 +58,7 @@ pub record AreCut (most : ℕ) (updates : List Update) (batches : List (List Upd
 
 -- what a replay leaves: the batches that were published, and the updates after which it answers; where senders sent them, their senders' numbers and the updates in
 -- the order in which they came; and what each reader saw
-pub record Left : Type 0 where
+pub record Outcome : Type 0 where
   pub batches : List (List Update)
   pub updates : List Update
   pub numbers : List ℕ

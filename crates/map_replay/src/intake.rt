@@ -1,12 +1,13 @@
 // The writer's end of the queue: updates are taken in batches.
 ghost use Rattle.std.specs.Prelude.{◌≡◌, ◌≤◌, ◌<◌, ℕ, true, false, length, vec_len};
 ghost use Rattle.log_levels.specs.Accepted.{IsPlain};
-ghost use Rattle.map_replay.specs.Posts.{AreSeats, HasRoom, IsIntake, IsSeat, TookBatch, TookOne};
+ghost use Rattle.map_replay.specs.SenderStates.{AreStarted, HasRoom, IsIntake, IsStarted};
+ghost use Rattle.map_replay.specs.SenderStates.{TookBatch, TookOne};
 ghost use Rattle.senders.specs.Senders.{Origin};
 
-use crate::post::{Deck, Seated};
-use crate::posts::send_next;
-use crate::source::Came;
+use crate::sender_states::StartedSender;
+use crate::sending::send_next;
+use crate::workload::{Arrivals, Assignment};
 use edge::Gate;
 use log_levels::Update;
 use senders::Inbox;
@@ -17,7 +18,7 @@ use std::thread;
 #[derive(Drop)]
 pub struct Intake {
     pub inbox: Inbox,
-    pub came: Came,
+    pub arrivals: Arrivals,
 }
 
 /// Takes the next batch: `size` updates, or all that are left; and fewer where the queue is found
@@ -25,28 +26,26 @@ pub struct Intake {
 pub fn take_batch<R: Wait, G: Gate>(
     rt: &R,
     intake: &mut Intake,
-    seats: &mut Vec<Seated<'_>>,
-    deck: Deck<'_>,
+    started: &mut Vec<StartedSender<'_>>,
+    assignment: Assignment<'_>,
     size: usize,
     gate: &G,
 )
     requires some { 1 ≤ size }
-    requires left { length intake.old.came.updates.items < length deck.updates.now }
-    requires intake { IsIntake (length deck.updates.now) intake.old }
-    requires seats { AreSeats intake.old.inbox.origin deck.senders deck.updates.now
-        seats.old.items }
-    ensures intake { IsIntake (length deck.entry.updates.now) intake.new }
+    requires left { length intake.old.arrivals.updates.items < length assignment.updates.now }
+    requires intake { IsIntake (length assignment.updates.now) intake.old }
+    requires started { AreStarted intake.old.inbox.origin assignment started.old.items }
+    ensures intake { IsIntake (length assignment.entry.updates.now) intake.new }
     ensures took { TookBatch size intake.old intake.new }
-    ensures seats { AreSeats intake.old.inbox.origin deck.entry.senders deck.entry.updates.now
-        seats.new.items }
-    ensures count { vec_len seats.new ≡ vec_len seats.old }
+    ensures started { AreStarted intake.old.inbox.origin assignment.entry started.new.items }
+    ensures count { vec_len started.new ≡ vec_len started.old }
 {
-    let from = intake.came.updates.len();
+    let from = intake.arrivals.updates.len();
     for _turn in rt.forever() {
-        serve_all(rt, seats, deck, gate);
+        serve_all(rt, started, assignment, gate);
         let took = take_next(rt, intake);
-        let count = intake.came.updates.len();
-        if took && (count - from >= size || count >= deck.updates.len()) {
+        let count = intake.arrivals.updates.len();
+        if took && (count - from >= size || count >= assignment.updates.len()) {
             return;
         }
         if !took && count > from {
@@ -68,8 +67,8 @@ fn take_next<R: Wait>(rt: &R, intake: &mut Intake) -> bool
     let Some((number, update)) = intake.inbox.take(rt) else {
         return false;
     };
-    intake.came.numbers.push_reserved(number);
-    intake.came.updates.push_reserved(plain(rt, update));
+    intake.arrivals.numbers.push_reserved(number);
+    intake.arrivals.updates.push_reserved(plain(rt, update));
     true
 }
 
@@ -81,7 +80,7 @@ fn plain<R: Wait>(rt: &R, update: Update) -> Update
     for _turn in rt.forever() {
         match update {
             Update::Put(..) | Update::Del(_) => return update,
-            // Never comes: nobody sends a sweep.
+            // Never comes: nobody promise a sweep.
             Update::Sweep(..) => {}
         }
     }
@@ -89,24 +88,32 @@ fn plain<R: Wait>(rt: &R, update: Update) -> Update
 }
 
 /// Lets each sender that has no thread try once to send.
-fn serve_all<R: Wait, G: Gate>(rt: &R, seats: &mut Vec<Seated<'_>>, deck: Deck<'_>, gate: &G)
-    ensures seats { (origin : Origin) →
-        AreSeats origin deck.entry.senders deck.entry.updates.now seats.old.items →
-        AreSeats origin deck.entry.senders deck.entry.updates.now seats.new.items }
-    ensures count { vec_len seats.new ≡ vec_len seats.old }
+fn serve_all<R: Wait, G: Gate>(
+    rt: &R,
+    started: &mut Vec<StartedSender<'_>>,
+    assignment: Assignment<'_>,
+    gate: &G,
+)
+    ensures started { (origin : Origin) → AreStarted origin assignment.entry started.old.items →
+        AreStarted origin assignment.entry started.new.items }
+    ensures count { vec_len started.new ≡ vec_len started.old }
 {
-    for place in 0..seats.len() {
-        serve(rt, &mut seats[place], deck, gate);
+    for place in 0..started.len() {
+        serve(rt, &mut started[place], assignment, gate);
     }
 }
 
 /// Lets the sender try once to send, if it has no thread.
-fn serve<R: Wait, G: Gate>(rt: &R, seat: &mut Seated<'_>, deck: Deck<'_>, gate: &G)
-    ensures { (origin : Origin) (number : ℕ) →
-        IsSeat origin deck.entry.senders deck.entry.updates.now number seat.old →
-        IsSeat origin deck.entry.senders deck.entry.updates.now number seat.new }
+fn serve<R: Wait, G: Gate>(
+    rt: &R,
+    sender: &mut StartedSender<'_>,
+    assignment: Assignment<'_>,
+    gate: &G,
+)
+    ensures { (origin : Origin) (number : ℕ) → IsStarted origin assignment.entry number sender.old →
+        IsStarted origin assignment.entry number sender.new }
 {
-    if let Seated::Here(post) = seat {
-        send_next(rt, post, deck, gate);
+    if let StartedSender::Served(progress) = sender {
+        send_next(rt, progress, assignment, gate);
     }
 }

@@ -14,20 +14,22 @@
 //! Main clauses: `each` and `whole` of [`replay`]. The words of the clauses are in `specs/`.
 #![tactic(auto)]
 
-mod crew;
+mod context;
 mod intake;
-mod mixing;
-mod post;
-mod posts;
+mod last_looks;
+mod preparing;
 mod question;
+mod reader_states;
+mod reader_threads;
 mod reading;
 mod replaying;
-mod settling;
-mod source;
-mod threads;
+mod sender_states;
+mod sender_threads;
+mod sending;
+mod workload;
 
 pub use options::Plan;
 pub use question::{Answer, Asked, Question};
 pub use reading::{Reading, Sighting};
 pub use replaying::{Replayed, mix, replay};
-pub use source::Dealing;
+pub use workload::{Assignment, Dealing};

@@ -3,22 +3,23 @@ ghost use Rattle.std.specs.Prelude.{◌≡◌, ◌*◌, ◌-◌, ◌^◌, ◌≤
 ghost use Rattle.log_levels.specs.Accepted.{IsPlain, entries_of};
 ghost use Rattle.map_replay.specs.Readings.{AreCut, IsWholeMixedReading, IsWholeReading};
 ghost use Rattle.map_replay.specs.Mixes.{IsMix};
-ghost use Rattle.map_replay.specs.Crews.{AreForOrder, HasRoom, HoldsAll, IsLeft};
-ghost use Rattle.map_replay.specs.Crews.{IsPlayed, IsReady};
+ghost use Rattle.map_replay.specs.ReaderStates.{AreForSource, CanPublish, IsOutcome, IsReplayed};
 
-use crate::crew::{Ended, Hall, Seat};
+use crate::context::Context;
+use crate::preparing::prepare;
 use crate::question::{Answer, Asked, Question};
-use crate::reading::{Reading, Sighting};
-use crate::source::{Came, Dealing, Order, Played, Source};
-use crate::threads::read_beside;
-use batches::{Batching, slots_for};
+use crate::reader_states::FinalReadings;
+use crate::reader_threads::read_beside;
+use crate::reading::Reading;
+use crate::workload::{Arrivals, Assignment, ReplayResult, Source, Workload};
+use batches::slots_for;
 use budget::NoMemory;
 use edge::Gate;
 use log_levels::Update;
 use options::Plan;
 use published::{Look, MapName, Reader, Writer, start_map};
-use std::alloc::{AllocError, Global};
-use std::marker::{Brand, Model, PhantomData};
+use std::alloc::Global;
+use std::marker::{Brand, Model};
 use std::sync::Wait;
 use std::thread::Threads;
 
@@ -29,21 +30,21 @@ use std::thread::Threads;
 pub struct Replayed {
     writer: Writer,
     look: Look,
-    came: Came,
+    arrivals: Arrivals,
     readings: Vec<Reading>,
 }
 
 impl Model for Replayed {
     ghost use Rattle.published.specs.Histories.{updates_of};
-    ghost use Rattle.map_replay.specs.Readings.{Left};
+    ghost use Rattle.map_replay.specs.Readings.{Outcome};
 
-    ghost Value = { Left };
+    ghost Value = { Outcome };
 
     ghost view = { λ r. record {
       batches = r.look.batches;
       updates = updates_of r.look.batches;
-      numbers = r.came.numbers.items;
-      mixed = r.came.updates.items;
+      numbers = r.arrivals.numbers.items;
+      mixed = r.arrivals.updates.items;
       readings = r.readings.items;
     } };
 }
@@ -71,18 +72,26 @@ pub fn replay<R: Threads + Wait + Sync, G: Gate>(
     gate: &G,
 ) -> Result<Replayed, NoMemory>
     requires fits { length (entries_of updates.now) ≤ 64 * 2 ^ plan.levels - 1 }
-    ensures whole { IfOk result (λ left. left.updates ≡ updates.now) }
-    ensures count { IfOk result (λ left. length left.readings ≡ plan.readers) }
-    ensures each { IfOk result (λ left.
-        All (IsWholeReading updates.now plan.batch questions.now) left.readings) }
+    ensures whole { IfOk result (λ outcome. outcome.updates ≡ updates.now) }
+    ensures count { IfOk result (λ outcome. length outcome.readings ≡ plan.readers) }
+    ensures each { IfOk result (λ outcome.
+        All (IsWholeReading updates.now plan.batch questions.now) outcome.readings) }
 {
-    replay_as(rt, alloc, updates, questions, plan, Order::InTurn, gate)
+    let source = Source::InTurn;
+    let workload = Workload {
+        updates,
+        questions,
+        source,
+        plan,
+    };
+    replay_workload(rt, alloc, workload, gate)
 }
 
-/// The same for updates that are dealt out to senders: the first one to the first sender, the next
-/// to the next, and so on in turn. Each sends its own in their order, in a thread of its own, and
-/// passes the gate at `Send` before each update's first try; where the queue is full it tries
-/// again. A sender for which no thread can be had is served by the writer.
+/// Publishes all updates in batches as senders send them, beside readers as those of [`replay`].
+///
+/// Each sender sends what is dealt to it in its order, in a thread of its own, and passes the gate
+/// at `Send` before each update's first try; where the queue is full it tries again. A sender for
+/// which no thread can be had is served by the writer.
 ///
 /// The writer takes what comes. It publishes when it has a batch of `plan.batch`, and a smaller one
 /// when it has some updates and finds the queue empty. Where it can't, it goes on taking and gives
@@ -94,61 +103,54 @@ pub fn replay<R: Threads + Wait + Sync, G: Gate>(
 pub fn mix<R: Threads + Wait + Sync, G: Gate>(
     rt: &R,
     alloc: Global,
-    updates: &[Update],
+    assignment: Assignment<'_>,
     questions: &[Question],
     plan: Plan,
-    dealing: Dealing,
     gate: &G,
 ) -> Result<Replayed, NoMemory>
-    requires plain { All IsPlain updates.now }
-    requires fits { length (entries_of updates.now) ≤ 64 * 2 ^ plan.levels - 1 }
-    ensures whole { IfOk result (λ left. left.updates ≡ left.mixed) }
-    ensures batches { IfOk result (λ left. AreCut plan.batch left.mixed left.batches) }
-    ensures mixed { IfOk result (λ left.
-        IsMix dealing.senders updates.now left.numbers left.mixed) }
-    ensures count { IfOk result (λ left. length left.readings ≡ plan.readers) }
-    ensures each { IfOk result (λ left.
-        All (IsWholeMixedReading left.mixed questions.now) left.readings) }
+    requires plain { All IsPlain assignment.updates.now }
+    requires fits { length (entries_of assignment.updates.now) ≤ 64 * 2 ^ plan.levels - 1 }
+    ensures whole { IfOk result (λ outcome. outcome.updates ≡ outcome.mixed) }
+    ensures batches { IfOk result (λ outcome. AreCut plan.batch outcome.mixed outcome.batches) }
+    ensures mixed { IfOk result (λ outcome. IsMix assignment.entry.dealing.senders
+        assignment.entry.updates.now outcome.numbers outcome.mixed) }
+    ensures count { IfOk result (λ outcome. length outcome.readings ≡ plan.readers) }
+    ensures each { IfOk result (λ outcome.
+        All (IsWholeMixedReading outcome.mixed questions.now) outcome.readings) }
 {
-    replay_as(
-        rt,
-        alloc,
+    let Assignment { updates, dealing } = assignment;
+    let source = Source::Assigned(dealing);
+    let workload = Workload {
         updates,
         questions,
+        source,
         plan,
-        Order::Mixed(dealing),
-        gate,
-    )
+    };
+    replay_workload(rt, alloc, workload, gate)
 }
 
-/// The same for updates that come in any order. Without readers one looks at the end alone.
-fn replay_as<R: Threads + Wait + Sync, G: Gate>(
+/// Publishes what the workload says. Without readers one looks at the end alone.
+fn replay_workload<R: Threads + Wait + Sync, G: Gate>(
     rt: &R,
     alloc: Global,
-    updates: &[Update],
-    questions: &[Question],
-    plan: Plan,
-    order: Order,
+    workload: Workload<'_>,
     gate: &G,
 ) -> Result<Replayed, NoMemory>
-    requires order { AreForOrder order updates.now }
-    requires fits { length (entries_of updates.now) ≤ 64 * 2 ^ plan.levels - 1 }
-    ensures { IfOk result (IsLeft order plan.batch updates.now questions.now plan.readers) }
+    requires plain { AreForSource workload.source workload.updates.now }
+    requires fits { length (entries_of workload.updates.now) ≤ 64 * 2 ^ workload.plan.levels - 1 }
+    ensures { IfOk result (IsOutcome workload.entry workload.entry.plan.readers) }
 {
+    let plan = workload.plan;
     let (writer, readers) = start_map(rt, alloc, plan.levels, plan.readers.max(1))?;
-    let source = Source {
-        updates,
-        order,
-        batching: Batching {
-            size: plan.batch,
-            workers: plan.workers,
-        },
-    };
     if plan.readers > 0 {
-        return replay_in::<Brand, R, G>(rt, alloc, writer, readers, source, questions, gate);
+        return replay_on::<Brand, R, G>(rt, alloc, writer, readers, workload, gate);
     }
     let none: [Question; 0] = [];
-    let mut left = replay_in::<Brand, R, G>(rt, alloc, writer, readers, source, &none, gate)?;
+    let unread = Workload {
+        questions: &none,
+        ..workload
+    };
+    let mut left = replay_on::<Brand, R, G>(rt, alloc, writer, readers, unread, gate)?;
     left.readings.clear();
     Ok(left)
 }
@@ -159,14 +161,14 @@ impl Replayed {
     pub fn numbers(&self) -> &[u32]
         ensures { result.now ≡ self.now.numbers }
     {
-        &self.came.numbers
+        &self.arrivals.numbers
     }
 
     /// The updates in the order in which they came; none where they came in turn.
     pub fn mixed(&self) -> &[Update]
         ensures { result.now ≡ self.now.mixed }
     {
-        &self.came.updates
+        &self.arrivals.updates
     }
 
     /// What each reader saw, in turn.
@@ -181,7 +183,7 @@ impl Replayed {
         let Replayed {
             writer,
             look,
-            came: _came,
+            arrivals: _arrivals,
             readings: _readings,
         } = self;
         drop(look.leave());
@@ -193,7 +195,7 @@ impl Asked for Replayed {
     ghost use Rattle.std.specs.Prelude.{◌≡◌};
     ghost use Rattle.log_levels.specs.Maps.{map_after};
 
-    ghost answers_by = { λ left pairs. pairs ≡ map_after left.updates };
+    ghost answers_by = { λ outcome pairs. pairs ≡ map_after outcome.updates };
 
     /// The answer of the map after all updates, by the last look of the first reader.
     fn answer(&self, question: Question) -> Answer {
@@ -201,38 +203,31 @@ impl Asked for Replayed {
     }
 }
 
-/// The same for a map whose name is picked.
-fn replay_in<M: MapName + Send + Sync, R: Threads + Wait + Sync, G: Gate>(
+/// Publishes what the workload says on a map whose name is picked.
+fn replay_on<M: MapName + Send + Sync, R: Threads + Wait + Sync, G: Gate>(
     rt: &R,
     alloc: Global,
-    writer: Writer,
+    mut writer: Writer,
     readers: Vec<Reader>,
-    source: Source<'_>,
-    questions: &[Question],
+    workload: Workload<'_>,
     gate: &G,
 ) -> Result<Replayed, NoMemory>
-    requires own { writer.origin ≡ M.origin }
-    requires ready { IsReady source.updates.now writer }
-    requires order { AreForOrder source.order source.updates.now }
+    requires ready { CanPublish M.origin workload writer }
     requires some { 1 ≤ vec_len readers }
     requires few { vec_len readers ≤ 16 }
     requires readers { All (λ reader. reader.origin ≡ M.origin) readers.items }
-    ensures { IfOk result (IsLeft source.entry.order source.entry.batching.size
-        source.entry.updates.now questions.now (vec_len readers)) }
+    ensures { IfOk result (IsOutcome workload.entry (vec_len readers)) }
 {
-    let mut writer = writer;
-    match played::<M, R, G>(rt, alloc, &mut writer, readers, source, questions, gate) {
-        Ok(
-            Played {
-                ended: Ended { look, readings },
-                came,
-            },
-        ) => Ok(Replayed {
-            writer,
-            look,
-            came,
-            readings,
-        }),
+    match replay_prepared::<M, R, G>(rt, alloc, &mut writer, readers, workload, gate) {
+        Ok(ReplayResult { finals, arrivals }) => {
+            let FinalReadings { look, readings } = finals;
+            Ok(Replayed {
+                writer,
+                look,
+                arrivals,
+                readings,
+            })
+        }
         Err(NoMemory) => {
             writer.close(rt);
             Err(NoMemory)
@@ -241,72 +236,28 @@ fn replay_in<M: MapName + Send + Sync, R: Threads + Wait + Sync, G: Gate>(
 }
 
 /// Takes all room for the readers, and lets them go through the questions beside the writer.
-fn played<M: MapName + Send + Sync, R: Threads + Wait + Sync, G: Gate>(
+fn replay_prepared<M: MapName + Send + Sync, R: Threads + Wait + Sync, G: Gate>(
     rt: &R,
     alloc: Global,
     writer: &mut Writer,
     readers: Vec<Reader>,
-    source: Source<'_>,
-    questions: &[Question],
+    workload: Workload<'_>,
     gate: &G,
-) -> Result<Played, NoMemory>
-    requires own { writer.old.origin ≡ M.origin }
-    requires ready { IsReady source.updates.now writer.old }
-    requires order { AreForOrder source.order source.updates.now }
+) -> Result<ReplayResult, NoMemory>
+    requires ready { CanPublish M.origin workload writer.old }
     requires some { 1 ≤ vec_len readers }
     requires few { vec_len readers ≤ 16 }
     requires readers { All (λ reader. reader.origin ≡ M.origin) readers.items }
-    ensures { IfOk result (IsPlayed source.entry questions.now (vec_len readers)) }
+    ensures { IfOk result (IsReplayed workload.entry (vec_len readers)) }
 {
-    let slots = slots_for::<M>(alloc, readers.len())?;
-    let hall = hall_for::<M>(alloc, readers, questions.len())?;
-    read_beside(rt, alloc, writer, source, questions, &slots, hall, gate)
-}
-
-/// A seat for each reader, with room for so many sightings; the seat of the first reader is last.
-fn hall_for<M: MapName>(
-    alloc: Global,
-    readers: Vec<Reader>,
-    questions: usize,
-) -> Result<Hall<M>, AllocError>
-    requires some { 1 ≤ vec_len readers }
-    requires few { vec_len readers ≤ 16 }
-    requires own { All (λ reader. reader.origin ≡ M.origin) readers.items }
-    ensures seats { IfOk result (λ hall. vec_len hall.seats ≡ vec_len readers) }
-    ensures room { IfOk result (λ hall. HoldsAll questions (vec_len readers) hall) }
-{
-    let count = readers.len();
-    let watched = Vec::with_capacity(alloc, count)?;
-    let readings = Vec::with_capacity(alloc, count)?;
-    let seats = seats_for::<M>(alloc, readers, questions)?;
-    Ok(Hall {
-        seats,
-        watched,
-        readings,
-    })
-}
-
-/// The seats of these readers, the first one last.
-fn seats_for<M: MapName>(
-    alloc: Global,
-    readers: Vec<Reader>,
-    questions: usize,
-) -> Result<Vec<Seat<M>>, AllocError>
-    requires few { vec_len readers ≤ 16 }
-    requires own { All (λ reader. reader.origin ≡ M.origin) readers.items }
-    ensures seats { IfOk result (λ seats. vec_len seats ≡ vec_len readers) }
-    ensures room { IfOk result (λ seats. All (HasRoom questions) seats.items) }
-{
-    let mut seats = Vec::with_capacity(alloc, readers.len())?;
-    let mut readers = readers;
-    while let Some(reader) = readers.pop() {
-        let sightings: Vec<Sighting> = Vec::with_capacity(alloc, questions)?;
-        seats.push(Seat {
-            number: readers.len() as u32,
-            reader,
-            sightings,
-            of: PhantomData,
-        })?;
-    }
-    Ok(seats)
+    let all_slots = slots_for::<M>(alloc, readers.len())?;
+    let slots = &all_slots;
+    let prepared = prepare::<M>(alloc, readers, workload.questions.len())?;
+    let context = Context {
+        rt,
+        alloc,
+        slots,
+        gate,
+    };
+    read_beside(&context, writer, workload, prepared)
 }

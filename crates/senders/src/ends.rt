@@ -112,7 +112,7 @@ pub fn start_senders(alloc: Global, count: u32, room: u32) -> Result<(Inbox, Vec
     give_up_numbers(&line, &mut right, count);
     let line = Arc::new(alloc, line)?;
     let mut senders = Vec::with_capacity(alloc, count as usize)?;
-    seat_all(&line, &mut right, count, &mut senders)?;
+    make_senders(&line, &mut right, count, &mut senders)?;
     let inbox = Inbox {
         line,
         right,
@@ -137,7 +137,7 @@ fn give_up_numbers(line: &Line, right: &mut Right, count: u32)
 }
 
 /// Makes the senders, in the order of their numbers.
-fn seat_all(
+fn make_senders(
     line: &Arc<Line>,
     right: &mut Right,
     count: u32,

@@ -1,0 +1,13 @@
+// What writer, readers and senders of one map share.
+
+use published::{MapName, Slot};
+use std::alloc::Global;
+
+/// The runtime, the memory, the gate, and a slot for each reader's newest note.
+#[derive(Drop)]
+pub struct Context<'a, M: MapName, R, G> {
+    pub rt: &'a R,
+    pub alloc: Global,
+    pub slots: &'a [Slot<M>],
+    pub gate: &'a G,
+}
