@@ -50,8 +50,8 @@ pub type Points<'a> = (&'a [u64], &'a [u32]);
 
 /// Fewer than 100 points of these x and y, asserted to be such.
 pub fn points_of<'a>(rt: &impl Abort, points: Points<'a>) -> PointList<'a>
-    ensures xs { result.xs.now ≡ points.0.now }
-    ensures few { length points.0.now < 100 }
+    ensures xs { result.xs.now ≡ points.entry.0.now }
+    ensures few { length points.entry.0.now < 100 }
 {
     let (xs, ys) = points;
     assert!(rt; ys.len() == xs.len() && xs.len() < 100);
