@@ -201,10 +201,13 @@ save_options rows passed = index_options (rules_of (codes "save")) rows refl ref
 
 pub query_options : Holds (codes "query") (λ rows. AreIndexOptions rows × AreQueryOptions rows)
 unfolding clap_on_literals
-query_options rows passed = (index_options (rules_of (codes "query")) rows refl refl refl refl passed, record {
-  windows = flag_reads (rules_of (codes "query")) (codes "windows") rows refl passed;
-  buckets = number_reads (rules_of (codes "query")) 0 20 (codes "buckets") rows refl passed;
-})
+query_options rows passed = (
+  index_options (rules_of (codes "query")) rows refl refl refl refl passed,
+  record {
+    windows = flag_reads (rules_of (codes "query")) (codes "windows") rows refl passed;
+    buckets = number_reads (rules_of (codes "query")) 0 20 (codes "buckets") rows refl passed;
+  },
+)
 
 pub relax_options : Holds (codes "relax") (λ rows. AreIndexOptions rows × IsPiecesOption rows)
 unfolding clap_on_literals
