@@ -48,13 +48,13 @@ pub fn never_falls(ys: &[u32]) -> bool
 /// The x and the y of points.
 pub type Points<'a> = (&'a [u64], &'a [u32]);
 
-/// Fewer than 100 points of these x and y, asserted to be such.
+/// Fewer than 1000 points of these x and y, asserted to be such.
 pub fn points_of<'a>(rt: &impl Abort, points: Points<'a>) -> PointList<'a>
     ensures xs { result.xs.now ≡ points.entry.0.now }
-    ensures few { length points.entry.0.now < 100 }
+    ensures few { length points.entry.0.now < 1000 }
 {
     let (xs, ys) = points;
-    assert!(rt; ys.len() == xs.len() && xs.len() < 100);
+    assert!(rt; ys.len() == xs.len() && xs.len() < 1000);
     assert!(rt; rises(xs));
     assert!(rt; never_falls(ys));
     PointList::new(xs, ys)
