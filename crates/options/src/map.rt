@@ -1,5 +1,14 @@
 // How a map takes updates beside readers.
 ghost use Rattle.std.specs.Prelude.{◌≤◌};
+ghost use Rattle.options.specs.declared.map.TheConstants.{MAX_READERS, MAX_SENDERS};
+
+use crate::index::Workers;
+
+/// How many readers ask beside the writer at most.
+pub const MAX_READERS: u32 = 16;
+
+/// Among how many senders updates are dealt out at most.
+pub const MAX_SENDERS: u32 = 16;
 
 /// How updates are replayed.
 #[derive(Clone, Copy, Debug)]
@@ -8,22 +17,20 @@ pub struct Plan {
     pub levels: u32,
     /// How many updates a batch has; the last may be shorter.
     pub batch: u32,
-    /// How many readers ask beside the writer, at most 16.
+    /// How many readers ask beside the writer, at most [`MAX_READERS`].
     pub readers: u32,
-    /// How many workers build a level, from 1 to 64. No text depends on it.
-    pub workers: u32,
+    /// How many workers build a level. No text depends on it.
+    pub workers: Workers,
     pub ghost some_levels: { 1 ≤ levels },
     pub ghost few_levels: { levels ≤ 26 },
     pub ghost some_updates: { 1 ≤ batch },
-    pub ghost few_readers: { readers ≤ 16 },
-    pub ghost staffed: { 1 ≤ workers },
-    pub ghost few_workers: { workers ≤ 64 },
+    pub ghost few_readers: { readers ≤ MAX_READERS },
 }
 
-/// Among how many senders updates are dealt out, from 1 to 16.
+/// Among how many senders updates are dealt out, from 1 to [`MAX_SENDERS`].
 #[derive(Clone, Copy, Debug)]
 pub struct Senders {
     pub count: u32,
     pub ghost some: { 1 ≤ count },
-    pub ghost few: { count ≤ 16 },
+    pub ghost few: { count ≤ MAX_SENDERS },
 }
