@@ -6,6 +6,7 @@ use anyhow::{Result, bail, ensure};
 use bucketed::{Buckets, MAX_BITS};
 use exact_cross::MAX_EPSILON;
 use levels::{Index, Keys};
+use options::{Bounds, EPS_REC};
 use std::alloc::{AllocError, Global};
 use std::rt::{Clock, Files};
 use std::time::{Duration, Instant};
@@ -87,7 +88,11 @@ fn index_of<R: AllocGlobal + Files + Print + Clock>(rt: &R, name: &str, eps: u32
     let reading = start.elapsed(rt)?.as_secs_f64();
     let start = Instant::now(rt)?;
     let keys = Keys::of(keys);
-    let index = Index::of(rt.alloc(), keys, eps, 4)?;
+    let bounds = Bounds {
+        eps,
+        eps_rec: EPS_REC,
+    };
+    let index = Index::of(rt.alloc(), keys, bounds)?;
     let building = start.elapsed(rt)?.as_secs_f64();
     println!(rt; "read {reading}\nbuild {building}")?;
     Ok(index)
@@ -100,7 +105,7 @@ fn questions_for<R: AllocGlobal + Files + Print>(
     name: &str,
 ) -> Result<Vec<u64>> {
     let questions = questions_of(rt, name)?;
-    let (keys, levels, many) = (index.keys().len(), index.levels(), questions.len());
+    let (keys, levels, many) = (index.keys().len(), index.level_count(), questions.len());
     println!(rt; "keys {keys} levels {levels} questions {many}")?;
     Ok(questions)
 }

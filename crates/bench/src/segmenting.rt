@@ -6,6 +6,7 @@ use crate::shared::{ROUNDS, error_bound, keys_of, least_of, number};
 use anyhow::{Result, bail, ensure};
 use edge::OpenGate;
 use exact_cross::{MAX_EPSILON, PointList, Segment};
+use options::Workers;
 use piece_join::{segment_in_pieces, uneven_cuts};
 use segmenter::segment;
 use std::alloc::{AllocError, Global};
@@ -19,14 +20,12 @@ struct Job {
     xs: Vec<u64>,
     ys: Vec<u32>,
     eps: u32,
-    workers: u32,
+    workers: Workers,
     ghost same_length: { length ys.items ≡ length xs.items },
     ghost rising: { IsStrictlyIncreasing xs.items },
     ghost never_falls: { IsNonDecreasing ys.items },
     ghost few: { length xs.items < 2 ^ 32 },
     ghost bounded: { eps ≤ 1048576 },
-    ghost some_workers: { 1 ≤ workers },
-    ghost few_workers: { workers ≤ 64 },
 }
 
 /// Times `segment` on the points of a key file, or `segment_in_pieces` by so many workers.
@@ -61,7 +60,7 @@ fn job_of<R: AllocGlobal + Files>(rt: &R, name: &str, eps: u32, workers: u32) ->
         xs,
         ys,
         eps,
-        workers,
+        workers: Workers { count: workers },
     })
 }
 
@@ -130,7 +129,7 @@ fn time_whole<R: AllocGlobal + Print + Clock>(rt: &R, job: &Job) -> Result<()> {
 /// Times three rounds of uneven pieces by workers, and tells what joining them goes over again.
 fn time_pieces<R: AllocGlobal + Print + Clock + Threads + Sync>(rt: &R, job: &Job) -> Result<()> {
     let (taken, runs) = least_of(rt, ROUNDS, || Ok(job.count_in_pieces(rt, rt.alloc())?))?;
-    let Job { eps, workers, .. } = job;
+    let (eps, workers) = (job.eps, job.workers.count);
     let (n, nanos) = (job.len(), taken.as_nanos());
     println!(rt; "keys {n} eps {eps} workers {workers} runs {runs} nanoseconds {nanos}")?;
     tell_joins(rt, job)

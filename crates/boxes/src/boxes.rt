@@ -9,7 +9,8 @@ ghost use Rattle.boxes.specs.PointCodes.{AreSortedCodes};
 
 use crate::codes::sorted_codes;
 use budget::NoMemory;
-use levels::{EPS, EPS_REC, Index, Keys};
+use levels::{Index, Keys};
+use options::{Bounds, EPS, EPS_REC};
 use std::alloc::Global;
 use std::marker::Model;
 use std::thread::Threads;
@@ -67,7 +68,11 @@ impl Boxes {
     {
         let codes = sorted_codes(rt, alloc, d, points)?;
         let keys = Keys::of(codes);
-        let index = Index::of(alloc, keys, EPS, EPS_REC)?;
+        let bounds = Bounds {
+            eps: EPS,
+            eps_rec: EPS_REC,
+        };
+        let index = Index::of(alloc, keys, bounds)?;
         Ok(Boxes { d, index })
     }
 
@@ -87,7 +92,7 @@ impl Boxes {
         ensures each { All (λ z. IsCode self.now.dims z) result.now }
         ensures dimension { IsDimension self.now.dims }
     {
-        self.index.keys().file()
+        self.index.keys().as_slice()
     }
 
     /// The lower bound of a code: how many of the codes are below it. Takes no memory.

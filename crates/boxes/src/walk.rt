@@ -156,7 +156,7 @@ impl Boxes {
 /// How many numbers from the front on are below another one.
 ///
 /// They never fall, so all that are below are counted: a branch on where the first other one stands
-/// is foretold wrongly half of the time.
+/// is mispredicted half of the time.
 #[inline(always)]
 fn front_below(numbers: &[u64], least: u64) -> usize
     requires order { IsNonDecreasing numbers.now }

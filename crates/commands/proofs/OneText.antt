@@ -12,6 +12,7 @@ use Rattle.window_search.specs.Searches.{lb}
 use Rattle.zorder.specs.declared.regions.Region.{Region}
 use Rattle.zorder.specs.Codes.{IsDimension, code}
 use Rattle.zorder.proofs.CallerLemmas.{code-lt}
+use Rattle.levels.specs.declared.windows.LevelWindow.{LevelWindow}
 use Rattle.levels.specs.Lookups.{AreWindows}
 use Rattle.piece_join.specs.Cuttings.{even_place}
 use Rattle.key_points.specs.KeyPoints.{xs_of}
@@ -60,7 +61,7 @@ module _ (keys : List ℕ) (bounds : Bounds) (order : IsNonDecreasing keys) wher
       let here : AreWindows keys bounds.eps bounds.eps_rec levels' question windows =
       subst (λ (l : List (List Segment)). AreWindows keys bounds.eps bounds.eps_rec l question windows) same are in
       is
-      ∙ ap (λ (w : List (ℕ × ℕ × ℕ)). window_lines w) (AreWindows-unique keys bounds.eps bounds.eps_rec levels' order index' question windows windows' here are')
+      ∙ ap (λ (w : List LevelWindow). window_lines w) (AreWindows-unique keys bounds.eps bounds.eps_rec levels' order index' question windows windows' here are')
       ∙ sym is'
 
   one_answer : (windows : Bool) (question : ℕ) (one two : List (List ℕ)) → TellsAnswer keys bounds windows question one →

@@ -72,7 +72,7 @@ fn write_levels<S: Sink>(
         (flat_map (built_level index.now.keys (bounds_of bounds) slack index.now.levels)
         (places (length index.now.levels)))) }
 {
-    for i in 0..index.levels() {
+    for i in 0..index.level_count() {
         fill_level_line(line, index, bounds, slack, i);
         hand_over(out, line.as_bytes())?;
     }

@@ -104,7 +104,7 @@ fn counts_of<R: Threads + Sync, G: Gate>(
     let live = live_after(rt, alloc, &updates, workers, gate)?;
     Ok(Counts {
         distinct: index.keys().distinct_count(),
-        levels: index.levels(),
+        levels: index.level_count(),
         runs: index.runs(),
         sum,
         found,

@@ -83,7 +83,7 @@ fn write_levels<S: Sink>(
         (flat_map (level_lines index.now.keys (bounds_of bounds) index.now.levels)
         (places (length index.now.levels)))) }
 {
-    for i in 0..index.levels() {
+    for i in 0..index.level_count() {
         write_level(out, line, index, bounds, i)?;
     }
     Ok(())
@@ -110,7 +110,7 @@ fn write_level<S: Sink>(
 {
     fill_level_line(line, index, bounds, None, i);
     hand_over(out, line.as_bytes())?;
-    write_runs(out, line, index.level(i), index.point_count(i))
+    write_runs(out, line, index.segments(i), index.point_count(i))
 }
 
 // Writes a text line for each run, the last of which ends at `to`.

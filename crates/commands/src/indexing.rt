@@ -32,15 +32,7 @@ pub fn index_of<R: Threads + Sync, G: Gate>(
         (λ index. IsIndex sorted.keys.items bounds.eps bounds.eps_rec index.levels) }
 {
     let keys = Keys::of(sorted.keys);
-    Index::by_workers(
-        rt,
-        alloc,
-        keys,
-        bounds.eps,
-        bounds.eps_rec,
-        workers.count,
-        gate,
-    )
+    Index::by_workers(rt, alloc, keys, bounds, workers, gate)
 }
 
 /// Writes how many keys there are, how many distinct ones, and how many levels.
@@ -63,7 +55,7 @@ fn fill_keys_line(line: &mut TextLine, index: &Index)
     line.push(b" distinct");
     line.push_number(index.keys().distinct_count());
     line.push(b" levels");
-    line.push_number(index.levels());
+    line.push_number(index.level_count());
     line.push(b"\n");
 }
 
@@ -89,7 +81,7 @@ pub fn fill_level_line(
     line.push(b" eps");
     line.push_number(if i == 0 { bounds.eps } else { bounds.eps_rec });
     line.push(b" runs");
-    line.push_number(index.level(i).len());
+    line.push_number(index.segments(i).len());
     push_ending(line, slack_at(slack, i));
 }
 

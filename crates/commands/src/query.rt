@@ -15,14 +15,11 @@ use crate::indexing::index_of;
 use crate::positions::positions_of;
 use crate::task::SortedKeys;
 use edge::{Failed, Gate, Sink};
-use levels::Index;
+use levels::{Index, LevelWindow};
 use options::{Bounds, Table, Workers};
 use std::alloc::Global;
 use std::thread::Threads;
 use written::{TextLine, Unfinished, hand_over};
-
-// A level, and the first and the last place of its window.
-type Window = (u32, u32, u32);
 
 /// Writes how many keys are below each question, and the windows where they are asked for.
 ///
@@ -54,7 +51,7 @@ pub fn write<R: Threads + Sync, S: Sink, G: Gate>(
     let index = index_of(rt, alloc, sorted, bounds, workers, gate)?;
     let finder = Finder::of(alloc, &index, table.bits)?;
     let told = if windows { Some(&index) } else { None };
-    let keys = index.keys().file();
+    let keys = index.keys().as_slice();
     write_found(
         rt, alloc, keys, bounds, workers, questions, &finder, told, out,
     )
@@ -96,7 +93,7 @@ fn level_count(told: Option<&Index>) -> usize
     ensures { IfSome told.entry (λ index. length index.now.levels ≤ result) }
 {
     match told {
-        Some(index) => index.levels() as usize,
+        Some(index) => index.level_count() as usize,
         None => 0,
     }
 }
@@ -109,7 +106,7 @@ pub fn write_answers<S: Sink>(
     questions: &[u64],
     positions: &[u32],
     told: Option<&Index>,
-    room: &mut Vec<Window>,
+    room: &mut Vec<LevelWindow>,
 ) -> Result<(), Failed>
     requires positions { positions.now ≡ map (lb keys.now) questions.now }
     requires index { IfSome told (λ index. IsIndexOf keys.now (bounds_of bounds) index.now) }
@@ -135,7 +132,7 @@ fn write_answer<S: Sink>(
     bounds: Bounds,
     asked: (u64, u32),
     told: Option<&Index>,
-    room: &mut Vec<Window>,
+    room: &mut Vec<LevelWindow>,
 ) -> Result<(), Failed>
     requires position { asked.1 ≡ lb keys.now asked.0 }
     requires index { IfSome told (λ index. IsIndexOf keys.now (bounds_of bounds) index.now) }
@@ -159,7 +156,7 @@ fn fill_windows(
     bounds: Bounds,
     question: u64,
     told: Option<&Index>,
-    into: &mut Vec<Window>,
+    into: &mut Vec<LevelWindow>,
 )
     requires index { IfSome told (λ index. IsIndexOf keys.now (bounds_of bounds) index.now) }
     requires room { IfSome told (λ index. length index.now.levels ≤ vec_capacity into.old) }
@@ -177,14 +174,14 @@ fn fill_windows(
 fn write_windows<S: Sink>(
     out: &mut S,
     line: &mut TextLine,
-    windows: &[Window],
+    windows: &[LevelWindow],
 ) -> Result<(), Failed>
     ensures ok { OnOk result (Writes S.Sink out.old out.new (window_lines windows.now)) }
     ensures err { OnErr result (BreaksOff S.Sink out.old out.new (window_lines windows.now)) }
 {
     for i in 0..windows.len() {
-        let (level, low, high) = windows[i];
-        fill_window_line(line, level, low, high);
+        let window = windows[i];
+        fill_window_line(line, window.level, window.low, window.high);
         hand_over(out, line.as_bytes())?;
     }
     Ok(())

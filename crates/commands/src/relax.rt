@@ -74,17 +74,8 @@ fn relaxed_of<R: Threads + Sync, G: Gate>(
         made.1 made.0) }
 {
     let keys = Keys::of(sorted.keys);
-    let cuts = even_cuts(alloc, keys.point_count(), pieces.count)?;
-    let index = Index::build_relaxed(
-        rt,
-        alloc,
-        keys,
-        bounds.eps,
-        bounds.eps_rec,
-        &cuts,
-        workers.count,
-        gate,
-    )?;
+    let cuts = even_cuts(alloc, keys.point_count(), pieces)?;
+    let index = Index::build_relaxed(rt, alloc, keys, bounds, &cuts, workers, gate)?;
     Ok((index, cuts.len() as u32))
 }
 
@@ -112,7 +103,7 @@ fn write_relaxed<S: Sink>(
 {
     write_index(out, index, bounds, Some(slack))?;
     let mut room = Vec::new(alloc);
-    let keys = index.keys().file();
+    let keys = index.keys().as_slice();
     write_answers(out, keys, bounds, questions, positions, None, &mut room)
 }
 

@@ -54,12 +54,12 @@ fn pieces_of(alloc: Global, index: &Index, bounds: Bounds) -> Result<Vec<Vec<u8>
         ≡ saved_pieces (bounds_of bounds) index.now.levels) }
     ensures count { length index.now.levels < 2 ^ 32 }
 {
-    let levels = index.levels();
+    let levels = index.level_count();
     let head = spell_head(alloc, bounds.eps, bounds.eps_rec, levels)?;
     let mut pieces = Vec::with_capacity(alloc, levels as usize + 1)?;
     pieces.push(head)?;
     for i in 0..levels {
-        push_level(alloc, &mut pieces, index.level(i))?;
+        push_level(alloc, &mut pieces, index.segments(i))?;
     }
     Ok(pieces)
 }

@@ -106,7 +106,7 @@ static ROWS: [Row; 6] = [
 
 const SQUARES: [u64; 6] = [0, 1, 4, 9, 16, 25];
 
-// The runs begin at 0, 4 and 16, all of them in the lowest of 16 buckets.
+/// The runs begin at 0, 4 and 16, all of them in the lowest of 16 buckets.
 static ASKED_SQUARES: [(u64, u32); 5] = [(17, 5), (1 << 60, 6), (0, 0), (16, 4), (LAST, 6)];
 
 /// Whether the squares' table has 0 in its first entry, and 3 in each other one.

@@ -59,7 +59,7 @@ fn drawn(alloc: Global) -> Result<([Option<u32>; 6], u64), NoMemory> {
     Ok((draws, closed(alloc, claims, first, second)?))
 }
 
-// Three pieces: one worker draws 0 and 1, the other 2, and then both nothing. That are five draws.
+/// Three pieces: one worker draws 0 and 1, the other 2, and then both nothing. That are five draws.
 #[test]
 fn in_turns(rt: HostRuntime) -> Result<(), NoMemory> {
     let (draws, word) = drawn(rt.alloc())?;
@@ -95,7 +95,7 @@ fn drained<R: Threads + AllocGlobal + Sync>(rt: &R) -> Result<(u32, u32, u64), N
     Ok((left, right, closed(rt.alloc(), claims, first, second)?))
 }
 
-// Two threads draw all of a thousand numbers, and each ends with one draw more.
+/// Two threads draw all of a thousand numbers, and each ends with one draw more.
 #[test]
 fn by_two_threads(rt: HostRuntime) -> Result<(), NoMemory> {
     let (left, right, word) = drained(&rt)?;

@@ -6,6 +6,7 @@ use budget::NoMemory;
 use exact_cross::{MAX_EPSILON, PointList};
 use key_points::is_sorted;
 use levels::{Index, Keys};
+use options::{Bounds, MAX_WORKERS, Workers};
 use std::process::Abort;
 
 /// Fewer than 1000 keys that never fall.
@@ -18,7 +19,14 @@ pub fn keys_of<R: Abort + AllocGlobal>(rt: &R, keys: &[u64]) -> Result<Keys, NoM
 /// The index of these keys, with the bound 0 above level 0.
 pub fn index_of<R: Abort + AllocGlobal>(rt: &R, keys: &[u64], eps: u32) -> Result<Index, NoMemory> {
     assert!(rt; eps <= MAX_EPSILON);
-    Index::of(rt.alloc(), keys_of(rt, keys)?, eps, 0)
+    let bounds = Bounds { eps, eps_rec: 0 };
+    Index::of(rt.alloc(), keys_of(rt, keys)?, bounds)
+}
+
+/// So many workers, from 1 to 64.
+pub fn workers_of<R: Abort>(rt: &R, count: u32) -> Workers {
+    assert!(rt; 1 <= count && count <= MAX_WORKERS);
+    Workers { count }
 }
 
 /// Whether each x is below the next one.

@@ -18,8 +18,8 @@ const WIDEST: Told = (0, -1_048_576, 2_097_153, u64::MAX);
 
 const STEEPEST: Told = (u64::MAX, 4_294_967_295, 4_297_064_447, 1);
 
-// The heights -1, -1 + 33/10, exactly 2, and left of the line's point -1 - 3/10 and -1 - 30/10;
-// and the ends of the types.
+/// The heights -1, -1 + 33/10, exactly 2, and left of the line's point -1 - 3/10 and -1 - 30/10;
+/// and the ends of the types.
 static FLOORS: [(Told, u64, i128); 10] = [
     (JUMP_LINE, 0, -1),
     (JUMP_LINE, 3, -1),
@@ -51,7 +51,7 @@ fn floors(rt: HostRuntime) {
     }
 }
 
-// The ends of each range, and whether they are in it.
+/// The ends of each range, and whether they are in it.
 static RANGES: [(&str, Told, bool); 6] = [
     (
         "the ends",
@@ -82,7 +82,7 @@ const STAIRS: (&[u64], &[u32]) = (&[0, 1, 2, 3], &[5, 5, 5, 90]);
 
 const ENDS: (&[u64], &[u32]) = (&[0, u64::MAX], &[0, 1]);
 
-// The line's heights at the four x are -1, 2, 2.3 and 2.6.
+/// The line's heights at the four x are -1, 2, 2.3 and 2.6.
 static FITS: [FitRow; 11] = [
     (JUMP_LINE, JUMP, (0, 4), 1, true),
     (JUMP_LINE, JUMP, (0, 4), 0, false),
@@ -120,8 +120,8 @@ fn fits_exactly(rt: HostRuntime) {
     }
 }
 
-// Fractions compared by hand: equal ones unreduced, ones between whole numbers, falling ones,
-// and the ends of the types.
+/// Fractions compared by hand: equal ones unreduced, ones between whole numbers, falling ones,
+/// and the ends of the types.
 static COMPARED: [((i64, u64), (i64, u64), Ordering); 5] = [
     ((1, 2), (2, 4), Ordering::Equal),
     ((1, 3), (1, 2), Ordering::Less),

@@ -11,8 +11,8 @@ use std::alloc::Global;
 use std::process::Abort;
 use std::test::Fail;
 
-// The index of the keys 0, 1, 2, 10 with both error bounds 0: a head of 20 bytes, level 0 of 38 and
-// level 1 of 17.
+/// The index of the keys 0, 1, 2, 10 with both error bounds 0: a head of 20 bytes, level 0 of 38
+/// and level 1 of 17.
 const HEAD: &[u8] = b"PGMINDEX\0\0\0\0\0\0\0\0\x02\0\0\0";
 
 const LEVEL_0: &[u8] =
@@ -25,7 +25,7 @@ type Parts = &'static [&'static [u8]];
 
 const WHOLE: Parts = &[HEAD, LEVEL_0, LEVEL_1];
 
-// Bytes that are the spelling of no index, each with its fault.
+/// Bytes that are the spelling of no index, each with its fault.
 static FAULTY_FILES: [(&str, &[u8], IndexFault); 14] = [
     ("no byte", b"", IndexFault::Short { got: 0 }),
     ("one byte", b"X", IndexFault::Magic { at: 0 }),
@@ -85,8 +85,8 @@ static FAULTY_FILES: [(&str, &[u8], IndexFault); 14] = [
     ),
 ];
 
-// The index of the keys 0, 10, 11, 12, 13, 100 with both error bounds 0: three levels, of 51, 38
-// and 17 bytes.
+/// The index of the keys 0, 10, 11, 12, 13, 100 with both error bounds 0: three levels, of 51, 38
+/// and 17 bytes.
 const HIGH_HEAD: &[u8] = b"PGMINDEX\0\0\0\0\0\0\0\0\x03\0\0\0";
 
 const HIGH_0: &[u8] = b"\x03\0\0\0\
@@ -101,10 +101,10 @@ const HIGH_2: &[u8] = b"\x01\0\0\0\0\0\0\0\0\0\0\0\x01\0\0\0\0";
 
 const HIGH: Parts = &[HIGH_HEAD, HIGH_0, HIGH_1, HIGH_2];
 
-// What that file is found to be with one byte made greater by 1, by 2 and by 128, for each byte
-// from an offset on: a digit for the level that is wrong, `.` for none, `m` for Magic, `e` for
-// Epsilon, `b` for Side, `s` for Short and `t` for Trailing. A slow program in another language
-// found them, which makes the whole index by trying all lines.
+/// What that file is found to be with one byte made greater by 1, by 2 and by 128, for each byte
+/// from an offset on: a digit for the level that is wrong, `.` for none, `m` for Magic, `e` for
+/// Epsilon, `b` for Side, `s` for Short and `t` for Trailing. A slow program in another language
+/// found them, which makes the whole index by trying all lines.
 static CHANGED: [(usize, u8, &str); 12] = [
     (0, 1, "mmmmmmmm000e111essss"),
     (0, 2, "mmmmmmmm000e111essss"),
@@ -126,7 +126,7 @@ const LEVEL_0_BY_2: &str = "0sss000000000000b000000000000b00000000000000000000t"
 
 const LEVEL_0_BY_128: &str = "ssss000000000000b000000000000b00000000000000000000b";
 
-// The bytes of the parts.
+/// The bytes of the parts.
 fn joined(alloc: Global, parts: &[&[u8]]) -> Result<Vec<u8>, Fail> {
     let mut bytes = Vec::new(alloc);
     for part in parts {
@@ -135,18 +135,18 @@ fn joined(alloc: Global, parts: &[&[u8]]) -> Result<Vec<u8>, Fail> {
     Ok(bytes)
 }
 
-// The index of two levels.
+/// The index of two levels.
 fn whole(alloc: Global) -> Result<Vec<u8>, Fail> {
     joined(alloc, WHOLE)
 }
 
-// The index of three levels.
+/// The index of three levels.
 fn high(alloc: Global) -> Result<Vec<u8>, Fail> {
     joined(alloc, HIGH)
 }
 
-// A shelf whose one file is taken, of which a read gives at most `most` bytes. The taking is call
-// 1.
+/// A shelf whose one file is taken, of which a read gives at most `most` bytes. The taking is call
+/// 1.
 fn shelf_of(alloc: Global, bytes: &[u8], failing: &[u64], most: usize) -> Result<MemShelf, Fail>
     requires { 1 ≤ most }
 {
@@ -156,7 +156,7 @@ fn shelf_of(alloc: Global, bytes: &[u8], failing: &[u64], most: usize) -> Result
     Ok(shelf)
 }
 
-// What a reading of the bytes gives, at most so many of them at once.
+/// What a reading of the bytes gives, at most so many of them at once.
 fn read(
     alloc: Global,
     bytes: &[u8],
@@ -169,7 +169,7 @@ fn read(
     Ok(read_index(alloc, &mut shelf))
 }
 
-// Why no index is read.
+/// Why no index is read.
 fn fault_of(
     alloc: Global,
     bytes: &[u8],
@@ -181,7 +181,7 @@ fn fault_of(
     Ok(read(alloc, bytes, failing, most)?.err())
 }
 
-// What a saved index is found to be over points, as a letter.
+/// What a saved index is found to be over points, as a letter.
 fn checked(alloc: Global, points: Points<'_>, saved: &Saved) -> u8 {
     let (xs, ys) = points;
     if !rises(xs) || !never_falls(ys) || xs.len() != ys.len() || xs.len() > 1000 {
@@ -194,7 +194,7 @@ fn checked(alloc: Global, points: Points<'_>, saved: &Saved) -> u8 {
     }
 }
 
-// What the bytes are found to be over these points, as a letter.
+/// What the bytes are found to be over these points, as a letter.
 fn found(alloc: Global, points: Points<'_>, bytes: &[u8]) -> Result<u8, Fail> {
     match read(alloc, bytes, &[], 1000)? {
         Ok(saved) => Ok(checked(alloc, points, &saved)),
@@ -260,7 +260,7 @@ static READ_ROWS: [ReadRow; 3] = [
     ),
 ];
 
-// Whether the levels that were read are these.
+/// Whether the levels that were read are these.
 fn has_levels(saved: &Saved, levels: &[&[SavedRun]]) -> bool {
     let count = saved.levels();
     if count as usize != levels.len() {
@@ -274,7 +274,7 @@ fn has_levels(saved: &Saved, levels: &[&[SavedRun]]) -> bool {
     true
 }
 
-// Whether a row is read as it says.
+/// Whether a row is read as it says.
 fn reads_row(alloc: Global, row: &ReadRow) -> Result<bool, Fail> {
     let (_, parts, most, bounds, levels) = *row;
     if most == 0 {
@@ -296,7 +296,7 @@ fn reads(rt: HostRuntime) -> Result<(), Fail> {
     Ok(())
 }
 
-// Fails with the fault that was found in place of the one that is wanted, and with where.
+/// Fails with the fault that was found in place of the one that is wanted, and with where.
 fn expect_fault(
     rt: &impl Abort,
     name: &str,
@@ -318,13 +318,13 @@ fn faulty_files(rt: HostRuntime) -> Result<(), Fail> {
     Ok(())
 }
 
-// The fault of the index of two levels, where call `failing` fails.
+/// The fault of the index of two levels, where call `failing` fails.
 fn fault_at(alloc: Global, failing: u64) -> Result<Option<IndexFault>, Fail> {
     let bytes = whole(alloc)?;
     fault_of(alloc, &bytes, &[failing], 1000)
 }
 
-// The same index with the side of the first run made over.
+/// The same index with the side of the first run made over.
 fn fault_of_side(alloc: Global) -> Result<Option<IndexFault>, Fail> {
     let mut bytes = whole(alloc)?;
     if bytes.len() == 75 {
@@ -333,14 +333,14 @@ fn fault_of_side(alloc: Global) -> Result<Option<IndexFault>, Fail> {
     fault_of(alloc, &bytes, &[], 1000)
 }
 
-// The same index cut to a length.
+/// The same index cut to a length.
 fn fault_of_cut(alloc: Global, len: usize) -> Result<Option<IndexFault>, Fail> {
     let mut bytes = whole(alloc)?;
     bytes.truncate(len);
     fault_of(alloc, &bytes, &[], 1000)
 }
 
-// The two places of the first run are read as the next run.
+/// The two places of the first run are read as the next run.
 #[test]
 fn changed_side(rt: HostRuntime) -> Result<(), Fail> {
     let fault = fault_of_side(rt.alloc())?;
@@ -354,7 +354,7 @@ fn changed_side(rt: HostRuntime) -> Result<(), Fail> {
     Ok(())
 }
 
-// The file cut to each length.
+/// The file cut to each length.
 #[test]
 fn cut_files(rt: HostRuntime) -> Result<(), Fail> {
     assert_eq!(rt; HEAD.len() + LEVEL_0.len() + LEVEL_1.len(), 75);
@@ -365,7 +365,7 @@ fn cut_files(rt: HostRuntime) -> Result<(), Fail> {
     Ok(())
 }
 
-// Call 2 reads the eight bytes, 3 to 5 the head's numbers, and so on.
+/// Call 2 reads the eight bytes, 3 to 5 the head's numbers, and so on.
 #[test]
 fn read_faults(rt: HostRuntime) -> Result<(), Fail> {
     for failing in 2..12 {
@@ -403,10 +403,10 @@ const LEVEL: Line = Line {
     run: 1,
 };
 
-// A run's start, its pair, its line and its cut.
+/// A run's start, its pair, its line and its cut.
 type Run = (u32, u32, u32, Line, Option<Witness>);
 
-// What levels are spelled as.
+/// What levels are spelled as.
 static SPELLED: [(&str, &[Run], &[u8]); 3] = [
     (
         "under",
@@ -421,7 +421,7 @@ static SPELLED: [(&str, &[Run], &[u8]); 3] = [
     ("alone", &[(0, 0, 1, ONES, None)], LEVEL_1),
 ];
 
-// The segments of these runs.
+/// The segments of these runs.
 fn segments_of(alloc: Global, runs: &[Run]) -> Result<Vec<Segment>, Fail> {
     let mut segments = Vec::new(alloc);
     for (start, a, b, line, cut) in runs {
@@ -436,7 +436,7 @@ fn segments_of(alloc: Global, runs: &[Run]) -> Result<Vec<Segment>, Fail> {
     Ok(segments)
 }
 
-// Whether a level of these runs is spelled so.
+/// Whether a level of these runs is spelled so.
 fn is_spelled(alloc: Global, runs: &[Run], wanted: &[u8]) -> Result<bool, Fail> {
     let segments = segments_of(alloc, runs)?;
     if segments.len() > 1000 {
@@ -446,7 +446,7 @@ fn is_spelled(alloc: Global, runs: &[Run], wanted: &[u8]) -> Result<bool, Fail> 
     Ok(bytes.as_slice() == wanted)
 }
 
-// Whether the head is spelled so.
+/// Whether the head is spelled so.
 fn head_is_spelled(alloc: Global) -> Result<bool, Fail> {
     let bytes = spell_head(alloc, 0, 0, 2)?;
     Ok(bytes.as_slice() == HEAD)
@@ -463,7 +463,7 @@ fn spells(rt: HostRuntime) -> Result<(), Fail> {
     Ok(())
 }
 
-// Points, a file, and what it is found to be over them.
+/// Points, a file, and what it is found to be over them.
 static CHECKED: [(&str, Points<'static>, Parts, u8); 9] = [
     ("its four keys", FOUR_KEYS, WHOLE, b'.'),
     (
@@ -498,7 +498,7 @@ static CHECKED: [(&str, Points<'static>, Parts, u8); 9] = [
 
 const NO_LEVEL: Parts = &[b"PGMINDEX\x07\0\0\0\x04\0\0\0\0\0\0\0"];
 
-// What the file of these parts is found to be.
+/// What the file of these parts is found to be.
 fn found_in(alloc: Global, points: Points<'_>, parts: Parts) -> Result<u8, Fail> {
     let bytes = joined(alloc, parts)?;
     found(alloc, points, &bytes)
@@ -513,7 +513,7 @@ fn checks(rt: HostRuntime) -> Result<(), Fail> {
     Ok(())
 }
 
-// What the file of three levels is found to be with one byte made greater.
+/// What the file of three levels is found to be with one byte made greater.
 fn found_changed(alloc: Global, at: usize, by: u8) -> Result<u8, Fail> {
     let mut bytes = high(alloc)?;
     if at >= bytes.len() {
@@ -523,7 +523,8 @@ fn found_changed(alloc: Global, at: usize, by: u8) -> Result<u8, Fail> {
     found(alloc, SIX_KEYS, &bytes)
 }
 
-// The first byte from an offset on that isn't found as wanted, where it is made greater by as much.
+/// The first byte from an offset on that isn't found as wanted, where it is made greater by as
+/// much.
 fn unlike(alloc: Global, from: usize, want: &str, by: u8) -> Result<Option<usize>, Fail> {
     let want = want.as_bytes();
     for i in 0..want.len() {
@@ -535,7 +536,7 @@ fn unlike(alloc: Global, from: usize, want: &str, by: u8) -> Result<Option<usize
     Ok(None)
 }
 
-// Fails with the byte that isn't found as wanted.
+/// Fails with the byte that isn't found as wanted.
 fn expect_alike(rt: &impl Abort, by: u8, unlike: Option<usize>) {
     assert_eq!(rt; unlike, None, "greater by {by}");
 }
@@ -553,13 +554,13 @@ fn changed_bytes(rt: HostRuntime) -> Result<(), Fail> {
     Ok(())
 }
 
-// Whether the fault of a reading is written so.
+/// Whether the fault of a reading is written so.
 fn reads_as(alloc: Global, fault: IndexFault, wanted: &str) -> Result<bool, Fail> {
     let text = format!(in alloc; "{}", fault)?;
     Ok(text.as_str() == wanted)
 }
 
-// Whether the fault of a check is written so.
+/// Whether the fault of a check is written so.
 fn checks_as(alloc: Global, fault: CheckFault, wanted: &str) -> Result<bool, Fail> {
     let text = format!(in alloc; "{}", fault)?;
     Ok(text.as_str() == wanted)

@@ -15,7 +15,7 @@ struct Row<'a> {
 
 const LAST: u64 = u64::MAX;
 
-// No key, rising keys, equal keys, and equal keys at both ends of 64 bits.
+/// No key, rising keys, equal keys, and equal keys at both ends of 64 bits.
 static ROWS: [Row; 5] = [
     Row {
         keys: &[],
@@ -52,7 +52,8 @@ static ROWS: [Row; 5] = [
 /// Whether the keys have the row's file and as many keys.
 fn has_file(keys: &Keys, row: &Row) -> bool {
     let file = row.keys;
-    keys.file() == file && keys.len() as usize == file.len() && keys.is_empty() == file.is_empty()
+    let same_len = keys.len() as usize == file.len();
+    keys.as_slice() == file && same_len && keys.is_empty() == file.is_empty()
 }
 
 /// Whether they have the row's points, and as many.

@@ -4,12 +4,15 @@ ghost use Rattle.std.specs.Prelude.{◌^◌, length, vec_len, IfOk};
 ghost use Rattle.key_points.specs.KeyPoints.{xs_of};
 ghost use Rattle.piece_join.specs.Cuttings.{AreCuts};
 
-use crate::common::{expect_answers, expect_none, expect_of, index_of, keys_of, points_of};
+use crate::common::{
+    expect_answers, expect_none, expect_of, index_of, keys_of, points_of, workers_of,
+};
 use crate::piece_join_rows::has_starts;
 use budget::NoMemory;
 use cut_witness::slack;
 use edge::OpenGate;
-use levels::{Index, Keys, is_sorted, positions_among, positions_grouped};
+use levels::{Index, Keys, LevelWindow, is_sorted, positions_among, positions_grouped};
+use options::{Bounds, Pieces};
 use piece_join::even_cuts;
 use std::alloc::Global;
 use std::process::Abort;
@@ -19,6 +22,9 @@ use std::thread::Threads;
 type IndexRow = (&'static [u64], u32, &'static [usize], &'static [(u64, u32)]);
 
 const LAST: u64 = u64::MAX;
+
+/// No error at any level.
+const EXACT: Bounds = Bounds { eps: 0, eps_rec: 0 };
 
 static WORKED_LISTS: [IndexRow; 7] = [
     (&[], 0, &[], &[(5, 0)]),
@@ -52,7 +58,7 @@ static WORKED_LISTS: [IndexRow; 7] = [
 
 const SQUARES: [u64; 6] = [0, 1, 4, 9, 16, 25];
 
-// Equal keys have a closing point, at both ends of 64 bits too.
+/// Equal keys have a closing point, at both ends of 64 bits too.
 static REPEATED_LISTS: [IndexRow; 2] = [
     (
         &[5, 5, 5, 9],
@@ -70,12 +76,12 @@ static REPEATED_LISTS: [IndexRow; 2] = [
 
 /// Whether the levels have that many runs.
 fn has_runs(index: &Index, runs: &[usize]) -> bool {
-    let levels = index.levels();
+    let levels = index.level_count();
     if levels as usize != runs.len() {
         return false;
     }
     for level in 0..levels {
-        if index.level(level).len() != runs[level as usize] {
+        if index.segments(level).len() != runs[level as usize] {
             return false;
         }
     }
@@ -168,17 +174,18 @@ fn built_in_pieces<R: Threads + Abort + AllocGlobal + Sync>(
     cut: u32,
     workers: u32,
 ) -> Result<Index, NoMemory> {
-    assert!(rt; 1 <= workers && workers <= 64);
+    let workers = workers_of(rt, workers);
     let keys = keys_of(rt, keys)?;
     assert!(rt; 0 < cut && cut < keys.point_count());
-    Index::build(rt, rt.alloc(), keys, 0, 0, &[cut], workers, &OpenGate)
+    Index::build(rt, rt.alloc(), keys, EXACT, &[cut], workers, &OpenGate)
 }
 
 /// The first level that isn't the same in both.
 fn other_level(one: &Index, two: &Index) -> Option<u32> {
-    let levels = one.levels().max(two.levels());
+    let levels = one.level_count().max(two.level_count());
     for level in 0..levels {
-        if level >= one.levels() || level >= two.levels() || one.level(level) != two.level(level) {
+        let both = level < one.level_count() && level < two.level_count();
+        if !both || one.segments(level) != two.segments(level) {
             return Some(level);
         }
     }
@@ -212,7 +219,7 @@ fn expect_levels<R: Abort>(rt: &R, workers: u32, same_runs: bool, other: Option<
 /// How many workers build an index.
 static WORKERS: [u32; 4] = [1, 2, 3, 64];
 
-// The runs of level 0 are 0..2, 2..4 and 4..6, so that no run starts at the cut.
+/// The runs of level 0 are 0..2, 2..4 and 4..6, so that no run starts at the cut.
 #[test]
 fn any_number_of_workers(rt: HostRuntime) -> Result<(), NoMemory> {
     for workers in &WORKERS {
@@ -232,8 +239,8 @@ struct RelaxedRow {
     found: (u64, u32),
 }
 
-// Two pieces; a piece for each point, where more are asked for; the one piece of all; equal keys,
-// whose closing point is cut off; and no keys.
+/// Two pieces; a piece for each point, where more are asked for; the one piece of all; equal keys,
+/// whose closing point is cut off; and no keys.
 static RELAXED_ROWS: [RelaxedRow; 6] = [
     RelaxedRow {
         keys: &SQUARES,
@@ -285,7 +292,7 @@ fn cuts_of<R: Abort + AllocGlobal>(rt: &R, keys: &Keys, pieces: u32) -> Result<V
     ensures few { IfOk result (λ cuts. vec_len cuts < 64) }
 {
     assert!(rt; 1 <= pieces && pieces <= 64);
-    even_cuts(rt.alloc(), keys.point_count(), pieces)
+    even_cuts(rt.alloc(), keys.point_count(), Pieces { count: pieces })
 }
 
 /// The relaxed index of these keys, built by workers, with both bounds 0.
@@ -295,19 +302,19 @@ fn relaxed_of<R: Threads + Abort + AllocGlobal + Sync>(
     pieces: u32,
     workers: u32,
 ) -> Result<Index, NoMemory> {
-    assert!(rt; 1 <= workers && workers <= 64);
+    let workers = workers_of(rt, workers);
     let keys = keys_of(rt, keys)?;
     let cuts = cuts_of(rt, &keys, pieces)?;
-    Index::build_relaxed(rt, rt.alloc(), keys, 0, 0, &cuts, workers, &OpenGate)
+    Index::build_relaxed(rt, rt.alloc(), keys, EXACT, &cuts, workers, &OpenGate)
 }
 
 /// The slack that level 0 shows, which is 0 where there is none.
 fn slack_of<R: Abort + AllocGlobal>(rt: &R, index: &Index) -> Result<Option<u32>, NoMemory> {
-    if index.levels() == 0 {
+    if index.level_count() == 0 {
         return Ok(Some(0));
     }
-    let (xs, ys) = (index.list(rt.alloc(), 0)?, index.ranks(rt.alloc(), 0)?);
-    Ok(slack(points_of(rt, (&xs, &ys)), 0, index.level(0)))
+    let (xs, ys) = (index.xs(rt.alloc(), 0)?, index.ys(rt.alloc(), 0)?);
+    Ok(slack(points_of(rt, (&xs, &ys)), 0, index.segments(0)))
 }
 
 /// Whether workers build an index with the row's runs and position, and its slack.
@@ -366,6 +373,20 @@ static ASKED_SQUARES: [(u64, u32); 17] = [
     (17, 5),
 ];
 
+/// Whether windows are these: level, first and last place.
+fn are_windows(windows: &[LevelWindow], wanted: &[(u32, u32, u32)]) -> bool {
+    if windows.len() != wanted.len() {
+        return false;
+    }
+    for (window, (level, low, high)) in windows.iter().zip(wanted) {
+        let same = window.level == *level && window.low == *low && window.high == *high;
+        if !same {
+            return false;
+        }
+    }
+    true
+}
+
 /// Whether the windows along a lookup are these: level, first and last place.
 fn has_windows(
     alloc: Global,
@@ -374,12 +395,12 @@ fn has_windows(
     wanted: &[(u32, u32, u32)],
 ) -> Result<bool, NoMemory> {
     let windows = index.windows(alloc, q)?;
-    Ok(windows.as_slice() == wanted)
+    Ok(are_windows(&windows, wanted))
 }
 
 /// Whether an index of the squares in two pieces has their starts, windows and positions.
 fn relaxed_squares(alloc: Global, index: &Index) -> Result<[bool; 3], NoMemory> {
-    let same_starts = index.levels() > 0 && has_starts(index.level(0), &[0, 2, 3, 5]);
+    let same_starts = index.level_count() > 0 && has_starts(index.segments(0), &[0, 2, 3, 5]);
     let windows = has_windows(alloc, index, 17, &[(2, 0, 2), (1, 1, 3), (0, 3, 5)])?;
     let placed = placed_together(alloc, index, &ASKED_SQUARES)?;
     Ok([same_starts, windows, placed])
@@ -395,7 +416,7 @@ fn expect_squares<R: Threads + Abort + AllocGlobal + Sync>(
     Ok(())
 }
 
-// Each number of workers gives the same pieces, and their questions the same windows.
+/// Each number of workers gives the same pieces, and their questions the same windows.
 #[test]
 fn relaxed_windows(rt: HostRuntime) -> Result<(), NoMemory> {
     for workers in &WORKERS {
@@ -417,10 +438,10 @@ fn has_level(
     points: &(u32, &[u64], &[u32]),
 ) -> Result<bool, NoMemory> {
     let (level, xs, ys) = *points;
-    if level >= index.levels() || index.point_count(level) as usize != xs.len() {
+    if level >= index.level_count() || index.point_count(level) as usize != xs.len() {
         return Ok(false);
     }
-    let (list, ranks) = (index.list(alloc, level)?, index.ranks(alloc, level)?);
+    let (list, ranks) = (index.xs(alloc, level)?, index.ys(alloc, level)?);
     Ok(list.as_slice() == xs && ranks.as_slice() == ys)
 }
 
@@ -453,7 +474,7 @@ struct WindowRow<'a> {
     windows: &'a [(u32, u32, u32)],
 }
 
-// Both error bounds are 0: a question below the first key, equal keys, and three levels.
+/// Both error bounds are 0: a question below the first key, equal keys, and three levels.
 static WINDOW_ROWS: [WindowRow; 6] = [
     WindowRow {
         keys: &[],
@@ -503,7 +524,7 @@ fn windows_along_lookups(rt: HostRuntime) -> Result<(), NoMemory> {
     Ok(())
 }
 
-// More questions than are interleaved, of which the last ones go one by one.
+/// More questions than are interleaved, of which the last ones go one by one.
 static NUMBERS: [u64; 37] = [
     0, 1, 2, 3, 4, 5, 6, 7, 8, 9, 10, 11, 12, 13, 14, 15, 16, 17, 18, 19, 20, 21, 22, 23, 24, 25,
     26, 27, 28, 29, 30, 31, 32, 33, 34, 35, 36,
@@ -558,8 +579,8 @@ fn miscounted_by_ways<R: Abort + AllocGlobal>(
 
 static INTERLEAVED: [&[u64]; 3] = [&SQUARES, &[3, 5, 5, 5, 9, 9, 10, 20, 20, 30], &[]];
 
-// The numbers 0, 1, 2 and so on, whose positions are counted one key at a time. By an index and
-// without one.
+/// The numbers 0, 1, 2 and so on, whose positions are counted one key at a time. By an index and
+/// without one.
 #[test]
 fn interleaved_questions(rt: HostRuntime) -> Result<(), NoMemory> {
     for keys in &INTERLEAVED {
@@ -610,7 +631,7 @@ fn misplaced_in_groups<R: Abort + AllocGlobal>(rt: &R) -> Result<Option<u64>, No
     Ok(miscounted_tens(&qs, &found))
 }
 
-// Of the multiples of 10 from 0 on as many are below a number as it has tens, a begun one too.
+/// Of the multiples of 10 from 0 on as many are below a number as it has tens, a begun one too.
 #[test]
 fn groups_questions(rt: HostRuntime) -> Result<(), NoMemory> {
     let wrong = misplaced_in_groups(&rt)?;

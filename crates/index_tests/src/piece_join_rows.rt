@@ -5,11 +5,12 @@ ghost use Rattle.exact_cross.specs.PointLists.{points_in};
 ghost use Rattle.exact_cross.specs.Segmentation.{IsSegmentation};
 ghost use Rattle.piece_join.specs.Cuttings.{AreCuts};
 
-use crate::common::{Points, are_same, expect, points_of};
+use crate::common::{Points, are_same, expect, points_of, workers_of};
 use budget::NoMemory;
 use cut_witness::slack;
 use edge::{Gate, OpenGate, Place};
 use exact_cross::{PointList, Segment};
+use options::Pieces;
 use piece_join::{even_cuts, join, relaxed, segment_in_pieces, uneven_cuts};
 use segmenter::segment;
 use std::alloc::Global;
@@ -67,7 +68,7 @@ fn compared<R: Threads + Abort + AllocGlobal + Sync, G: Gate>(
 ) -> Result<(bool, bool), NoMemory> {
     let points = points_of(rt, points);
     assert!(rt; are_cuts(points.xs.len(), cuts) && cuts.len() < 100);
-    assert!(rt; 1 <= workers && workers <= 64);
+    let workers = workers_of(rt, workers);
     let segments = segment_in_pieces(rt, rt.alloc(), points, 0, cuts, workers, gate)?;
     let same = are_whole(rt.alloc(), points, &segments)?;
     Ok((has_starts(&segments, starts), same))
@@ -116,7 +117,8 @@ fn check_pieces<R: Threads + Abort + AllocGlobal + Sync>(
     expect_starts(rt, points, cuts, workers, &OpenGate, starts)
 }
 
-// The right piece speculates 3 and 5, and the runs from the left start at 2 and 4: they never meet.
+/// The right piece speculates 3 and 5, and the runs from the left start at 2 and 4: they never
+/// meet.
 static NEVER_MEETING: [PieceRow; 4] = [
     (SQUARE_POINTS, &[3], 1, &[0, 2, 4]),
     (SQUARE_POINTS, &[3], 2, &[0, 2, 4]),
@@ -132,8 +134,8 @@ fn pieces_that_never_meet(rt: HostRuntime) -> Result<(), NoMemory> {
     Ok(())
 }
 
-// One place a piece, as of more pieces than points, no cut at all, and no point; and one run over
-// all pieces.
+/// One place a piece, as of more pieces than points, no cut at all, and no point; and one run over
+/// all pieces.
 static ANY_CUTS: [PieceRow; 7] = [
     (SQUARE_POINTS, &[1, 2, 3, 4, 5], 3, &[0, 2, 4]),
     (SQUARE_POINTS, &[], 3, &[0, 2, 4]),
@@ -155,8 +157,8 @@ fn any_cuts(rt: HostRuntime) -> Result<(), NoMemory> {
 /// An edge in the points of four keys, and the starts on the left, on the right, and joined.
 type JoinRow = (u32, &'static [u32], &'static [u32], &'static [u32]);
 
-// The run from 0 goes past the edge and ends at the second start of the right; and nothing on the
-// right.
+/// The run from 0 goes past the edge and ends at the second start of the right; and nothing on the
+/// right.
 static JOINS: [JoinRow; 2] = [(1, &[0], &[1, 3], &[0, 3]), (4, &[0, 3], &[], &[0, 3])];
 
 /// Whether the left part, the right part and both joined at an edge have the row's starts.
@@ -188,8 +190,8 @@ fn a_join_that_meets(rt: HostRuntime) -> Result<(), NoMemory> {
 /// Points, pieces or workers, and the cuts.
 type CutRow = (u32, u32, &'static [u32]);
 
-// 10k/4 is 2.5, 5 and 7.5; 2k/4 is 0.5, 1 and 1.5; 6k/10 is 0.6, 1.2, 1.8, 2.4, 3, 3.6, 4.2, 4.8
-// and 5.4.
+/// 10k/4 is 2.5, 5 and 7.5; 2k/4 is 0.5, 1 and 1.5; 6k/10 is 0.6, 1.2, 1.8, 2.4, 3, 3.6, 4.2, 4.8
+/// and 5.4.
 static EVEN: [CutRow; 6] = [
     (10, 4, &[2, 5, 7]),
     (2, 4, &[1]),
@@ -199,7 +201,7 @@ static EVEN: [CutRow; 6] = [
     (6, 2, &[3]),
 ];
 
-// Of 72 points the places are k(k + 1), and of 6 points k(k + 1)/12.
+/// Of 72 points the places are k(k + 1), and of 6 points k(k + 1)/12.
 static UNEVEN: [CutRow; 2] = [
     (72, 1, &[2, 6, 12, 20, 30, 42, 56]),
     (6, 2, &[1, 2, 3, 4, 5]),
@@ -209,15 +211,14 @@ static UNEVEN: [CutRow; 2] = [
 fn cuts_evenly<R: Abort + AllocGlobal>(rt: &R, row: &CutRow) -> Result<bool, NoMemory> {
     let (points, pieces, wanted) = *row;
     assert!(rt; 1 <= pieces && pieces <= 64);
-    let cuts = even_cuts(rt.alloc(), points, pieces)?;
+    let cuts = even_cuts(rt.alloc(), points, Pieces { count: pieces })?;
     Ok(are_same(&cuts, wanted))
 }
 
 /// Whether points are cut unevenly so.
 fn cuts_unevenly<R: Abort + AllocGlobal>(rt: &R, row: &CutRow) -> Result<bool, NoMemory> {
     let (points, workers, wanted) = *row;
-    assert!(rt; 1 <= workers && workers <= 64);
-    let cuts = uneven_cuts(rt.alloc(), points, workers)?;
+    let cuts = uneven_cuts(rt.alloc(), points, workers_of(rt, workers))?;
     Ok(are_same(&cuts, wanted))
 }
 
@@ -308,7 +309,7 @@ fn passes<R: Threads + Abort + AllocGlobal + Sync>(
     Ok(gate.was_passed())
 }
 
-// Two pieces wait for each other, so that two workers are at work at once.
+/// Two pieces wait for each other, so that two workers are at work at once.
 #[test]
 fn two_pieces_at_once(rt: HostRuntime) -> Result<(), NoMemory> {
     let (first, second) = (Place::PieceBegun(0), Place::PieceBegun(1));
@@ -317,7 +318,7 @@ fn two_pieces_at_once(rt: HostRuntime) -> Result<(), NoMemory> {
     Ok(())
 }
 
-// Of six pieces the first is held until the third is done: the other worker draws on meanwhile.
+/// Of six pieces the first is held until the third is done: the other worker draws on meanwhile.
 #[test]
 fn a_worker_draws_on_while_another_is_held(rt: HostRuntime) -> Result<(), NoMemory> {
     let (first, third) = (Place::PieceBegun(0), Place::PieceDone(2));
@@ -388,7 +389,7 @@ fn compared_side_by_side<R: Threads + Abort + AllocGlobal + Sync>(
 ) -> Result<(bool, Option<u32>), NoMemory> {
     let points = points_of(rt, (row.xs, row.ys));
     assert!(rt; are_cuts(points.xs.len(), row.cuts) && row.cuts.len() < 100);
-    assert!(rt; 1 <= workers && workers <= 64);
+    let workers = workers_of(rt, workers);
     let segments = relaxed(rt, rt.alloc(), points, 0, row.cuts, workers, &OpenGate)?;
     Ok((
         has_starts(&segments, row.starts),

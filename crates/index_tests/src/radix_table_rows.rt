@@ -58,8 +58,8 @@ static CROWD: [u64; 21] = [
     u64::MAX,
 ];
 
-// Equal steps would have all numbers but one in the first. With two binary places kept, 8 to 11 are
-// one step, and eight numbers stand before it.
+/// Equal steps would have all numbers but one in the first. With two binary places kept, 8 to 11
+/// are one step, and eight numbers stand before it.
 static CROWDED: [Asked; 3] = [
     (100, 9, Some((7, 11))),
     (100, 3, Some((2, 3))),

@@ -189,7 +189,7 @@ fn worked_lists(rt: HostRuntime) -> Result<(), NoMemory> {
     expect_cases(&rt, &WORKED_LISTS)
 }
 
-// Runs whose steep pair and flat pair differ, neither of them at the first two places.
+/// Runs whose steep pair and flat pair differ, neither of them at the first two places.
 static CUT_BY_SIDE: [Case; 2] = [
     // Over: 0 * 3 + 4 * 10 is above 3 * 13.
     (
@@ -218,7 +218,7 @@ fn cuts_by_the_pair_of_their_side(rt: HostRuntime) -> Result<(), NoMemory> {
     expect_cases(&rt, &CUT_BY_SIDE)
 }
 
-// Heights that repeat and jump: y is not the place.
+/// Heights that repeat and jump: y is not the place.
 static HEIGHTS: [Case; 3] = [
     (
         (&[0, 1, 2, 3], &[5, 5, 5, 90]),
@@ -272,7 +272,7 @@ fn places() -> [u32; 100] {
     ys
 }
 
-// The steep slope of two places is 1 / 10 and 8 over their distance, so the ends are the pair.
+/// The steep slope of two places is 1 / 10 and 8 over their distance, so the ends are the pair.
 static MANY_PLACES: [(u32, &[Row]); 2] = [
     (0, &[(0, 0, 99, (0, -4, 107, 990), None)]),
     // A jump of the keys after 48 places. The line of the least slope passes far above the next.

@@ -21,8 +21,8 @@ const LAST: u32 = u32::MAX;
 
 const JUMP: (u64, i64, u64, u64) = (0, -1, 3, 10);
 
-// The keys 0, 10, 11, 12; the two ends of 64 bits; and the keys 0, 1, 4, 9, 16, 25, whose three
-// levels are asked for 17.
+/// The keys 0, 10, 11, 12; the two ends of 64 bits; and the keys 0, 1, 4, 9, 16, 25, whose three
+/// levels are asked for 17.
 static WINDOWS: [WindowRow; 10] = [
     (JUMP, (0, 3), 1, 11, 4, (0, 4)),
     (JUMP, (0, 3), 1, 0, 4, (0, 2)),

@@ -100,8 +100,8 @@ impl Keys {
         Ok(Keys::of(keys))
     }
 
-    /// The keys of the file, in order.
-    pub fn file(&self) -> &[u64]
+    /// The keys of the file, in order: a slice of them all.
+    pub fn as_slice(&self) -> &[u64]
         ensures keys { result.now ≡ self.now }
         ensures never_falls { IsNonDecreasing result.now }
         ensures few { length result.now < 2 ^ 32 }

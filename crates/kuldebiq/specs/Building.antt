@@ -5,7 +5,7 @@ use Rattle.std.specs.List.Sorted.{IsNonDecreasing}
 use Rattle.key_points.specs.Falls.{IsFirstFall}
 use Rattle.key_points.specs.declared.fault.KeysFault.{KeysFault}
 use Rattle.key_points.specs.declared.fault.KeysFault.TheVariants.{TooMany, Falls, NoMemory}
-use Rattle.levels.specs.Indexes.{PgmIndex, IsIndex}
+use Rattle.levels.specs.Indexes.{PgmIndex, IsIndexOf}
 use Rattle.kuldebiq.specs.declared.answer.Answer.{Answer}
 use Rattle.kuldebiq.specs.Answers.{refuses}
 
@@ -34,13 +34,6 @@ abbrev pub refused_as : KeysFault → Answer
 refused_as (TooMany count) = refuses 5 count
 refused_as (Falls place) = refuses 4 place
 refused_as NoMemory = refuses 1 0
-
--- the one index of keys and error bounds
-pub record IsIndexOf (keys : List ℕ) (eps eps_rec : ℕ) (index : PgmIndex) : Type 0 where
-  pub keys_are : index.keys ≡ keys
-  pub eps_is : index.eps ≡ eps
-  pub eps_rec_is : index.eps_rec ≡ eps_rec
-  pub one : IsIndex keys eps eps_rec index.levels
 
 -- the handle holds the index of keys and error bounds
 abbrev pub HoldsIndexOf : List ℕ → ℕ → ℕ → Option PgmIndex → Type 0

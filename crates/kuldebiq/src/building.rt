@@ -1,7 +1,8 @@
 // An index from keys that C hands over.
 ghost use Rattle.std.specs.Prelude.{◌≡◌, ◌⊎◌, IfOk, IfErr};
 ghost use Rattle.kuldebiq.specs.Answers.{refuses};
-ghost use Rattle.kuldebiq.specs.Building.{CanBeIndexed, IsIndexOf, IsRefusal, refused_as};
+ghost use Rattle.levels.specs.Indexes.{IsIndexOf};
+ghost use Rattle.kuldebiq.specs.Building.{CanBeIndexed, IsRefusal, refused_as};
 
 use crate::answer::{Answer, EPSILON_TOO_GREAT, NO_MEMORY, TOO_MANY_KEYS, UNSORTED, refused};
 use crate::kept_index::KeptIndex;
@@ -9,6 +10,7 @@ use budget::NoMemory;
 use exact_cross::MAX_EPSILON;
 use key_points::judge;
 use levels::{Index, Keys, KeysFault};
+use options::Bounds;
 use std::alloc::Global;
 
 /// The index of keys, which are judged and then copied, in a box. Or how they are refused: where an
@@ -59,7 +61,7 @@ fn index_of(alloc: Global, keys: &[u64], eps: u32, eps_rec: u32) -> Result<Box<K
     ensures { IfOk result (λ kept. IsIndexOf keys.now eps eps_rec kept.value) }
 {
     let keys = Keys::of(Vec::from_slice(alloc, keys)?);
-    let index = Index::of(alloc, keys, eps, eps_rec)?;
+    let index = Index::of(alloc, keys, Bounds { eps, eps_rec })?;
     let kept = KeptIndex::of(alloc, index)?;
     Ok(Box::new(alloc, kept)?)
 }

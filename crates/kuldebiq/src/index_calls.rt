@@ -88,7 +88,7 @@ pub extern "C" fn kuldebiq_index_share(
     }
 }
 
-/// The same index in a box of its own, where memory is found.
+/// A handle of the index in a box of its own, where memory is found.
 fn boxed_share(alloc: Global, kept: &KeptIndex) -> Option<Box<KeptIndex>>
     ensures { MatchOption result ⊤ (λ copy. copy.value ≡ kept.now) }
 {
@@ -169,7 +169,7 @@ pub extern "C" fn kuldebiq_key_at(alloc: Global, handle: &mut IndexHandle, place
 {
     match handle.take(alloc) {
         Some(kept) => {
-            let answer = key_at(kept.index().keys().file(), place);
+            let answer = key_at(kept.index().keys().as_slice(), place);
             handle.put(kept);
             answer
         }
@@ -268,7 +268,7 @@ pub extern "C" fn kuldebiq_index_levels(alloc: Global, handle: &mut IndexHandle)
 {
     match handle.take(alloc) {
         Some(kept) => {
-            let count = kept.index().levels();
+            let count = kept.index().level_count();
             handle.put(kept);
             given(u64::from(count))
         }
@@ -309,11 +309,11 @@ fn count_of_segments(kept: &KeptIndex, level: u32) -> Answer
         result ≡ gives (length (level_at kept.now.levels level)) }
 {
     let index = kept.index();
-    let levels = index.levels();
+    let levels = index.level_count();
     if level >= levels {
         return refused(NO_SUCH_LEVEL, u64::from(levels));
     }
-    given(index.level(level).len() as u64)
+    given(index.segments(level).len() as u64)
 }
 
 /// Writes a segment of a level. The number is 0.
@@ -367,11 +367,11 @@ fn write_segment(kept: &KeptIndex, level: u32, place: u64, segment: &mut Segment
     ensures refused { result.status ≢ 0 → segment.new ≡ segment.old }
 {
     let index = kept.index();
-    let levels = index.levels();
+    let levels = index.level_count();
     if level >= levels {
         return refused(NO_SUCH_LEVEL, u64::from(levels));
     }
-    let segments = index.level(level);
+    let segments = index.segments(level);
     if place >= segments.len() as u64 {
         return refused(NO_SUCH_SEGMENT, segments.len() as u64);
     }

@@ -41,7 +41,7 @@ impl KeptIndex {
         }
     }
 
-    /// The same index, for one more handle.
+    /// One more handle of the index.
     ///
     /// # Errors
     ///

@@ -16,7 +16,7 @@ pub(crate) fn position_after(index: &Index, question: u64) -> u32
 {
     match question.checked_add(1) {
         Some(next) => index.position(next),
-        None => count_of(index.keys().file()),
+        None => count_of(index.keys().as_slice()),
     }
 }
 

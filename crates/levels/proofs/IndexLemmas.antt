@@ -13,6 +13,7 @@ use Rattle.piece_join.specs.Cuttings.{AreCuts}
 use Rattle.piece_join.proofs.RelaxedLemmas.{AreShown-from_laid, uncut-from_relaxed}
 use Rattle.exact_cross.specs.IndexLevels.{level_at, eps_at}
 use Rattle.levels.specs.Indexes.{IsLevel, IsIndex, IsRelaxedIndex, IsLaidIndex, xs_at, points_at}
+use Rattle.levels.specs.declared.windows.LevelWindow.{LevelWindow}
 use Rattle.levels.specs.Lookups.{AreWindows}
 use Rattle.levels.proofs.LevelLemmas.{AscendsAt, xs_at-base, ys_at-base, heights_few, IsLaidIndex-from_index, IsLaidIndex-from_relaxed}
 use Rattle.levels.proofs.StoredLemmas.{eps_at-bounded}
@@ -65,8 +66,8 @@ module _ (keys : List ℕ) (eps eps_rec : ℕ) (levels : List (List Segment)) (o
   pub ascends : (i : ℕ) → i ≤ length levels → AscendsAt keys levels i
   ascends i within = laid_ascends keys eps eps_rec levels order laid i within
 
-  pub AreWindows-unique : (q : ℕ) (windows others : List (ℕ × ℕ × ℕ)) → AreWindows keys eps eps_rec levels q windows → AreWindows keys eps eps_rec levels q others → windows ≡ others
+  pub AreWindows-unique : (q : ℕ) (windows others : List LevelWindow) → AreWindows keys eps eps_rec levels q windows → AreWindows keys eps eps_rec levels q others → windows ≡ others
   AreWindows-unique q windows others first second = laid_windows-unique keys eps eps_rec levels order laid q windows others first second
 
-  pub AreWindows-some : (q : ℕ) → (windows : List (ℕ × ℕ × ℕ)) × AreWindows keys eps eps_rec levels q windows
+  pub AreWindows-some : (q : ℕ) → (windows : List LevelWindow) × AreWindows keys eps eps_rec levels q windows
   AreWindows-some q = laid_windows-some keys eps eps_rec levels order laid q

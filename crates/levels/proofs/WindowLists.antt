@@ -15,11 +15,16 @@ use Rattle.exact_cross.specs.IndexLevels.{level_at, eps_at}
 use Rattle.levels.specs.Indexes.{IsLaidIndex, xs_at, ys_at, points_at}
 use Rattle.levels.proofs.RunsApart.{HasRun-each, HasRun-within, HasRun-unique}
 use Rattle.levels.proofs.LookupLemmas.{ascends}
+use Rattle.levels.specs.declared.windows.LevelWindow.{LevelWindow}
 use Rattle.levels.specs.Lookups.{extent_at, IsWindowAt, AreWindows, HoldsAnswers, IsNarrow, HasWindowsTo}
+
+-- the window of a level
+abbrev pub window_of : ℕ → ℕ → ℕ → LevelWindow
+window_of level low high = record { level = level; low = low; high = high }
 
 module _ (keys : List ℕ) (eps eps_rec : ℕ) (levels : List (List Segment)) (q : ℕ) where
   -- no level yet
-  pub HasWindowsTo-none : (n : ℕ) (windows : List (ℕ × ℕ × ℕ)) → n ≡ length levels → length windows ≡ 0 → HasWindowsTo keys eps eps_rec levels q n windows
+  pub HasWindowsTo-none : (n : ℕ) (windows : List LevelWindow) → n ≡ length levels → length windows ≡ 0 → HasWindowsTo keys eps eps_rec levels q n windows
   HasWindowsTo-none n windows all empty = record {
     count = omega arith;
     order = λ k d inside. absurd (omega arith);
@@ -28,30 +33,30 @@ module _ (keys : List ℕ) (eps eps_rec : ℕ) (levels : List (List Segment)) (q
     narrow = λ k d inside. absurd (omega arith);
   }
 
-  pub HasWindowsTo-more : (n low high : ℕ) (windows : List (ℕ × ℕ × ℕ)) → HasWindowsTo keys eps eps_rec levels q (n + 1) windows → IsWindowAt keys eps eps_rec levels n q low high →
-      HoldsAnswers keys levels n q low high → IsNarrow eps eps_rec n low high → HasWindowsTo keys eps eps_rec levels q n (windows ++ (n, low, high) ∷ [])
+  pub HasWindowsTo-more : (n low high : ℕ) (windows : List LevelWindow) → HasWindowsTo keys eps eps_rec levels q (n + 1) windows → IsWindowAt keys eps eps_rec levels n q low high →
+      HoldsAnswers keys levels n q low high → IsNarrow eps eps_rec n low high → HasWindowsTo keys eps eps_rec levels q n (windows ++ window_of n low high ∷ [])
   HasWindowsTo-more n low high windows above exact holds narrow = record {
     count = omega (arith, count, above.count);
     order = order;
-    each = All-push (λ (window : ℕ × ℕ × ℕ). IsWindowAt keys eps eps_rec levels window.0 q window.1 window.2) windows (n, low, high) above.each exact;
-    holds = All-push (λ (window : ℕ × ℕ × ℕ). HoldsAnswers keys levels window.0 q window.1 window.2) windows (n, low, high) above.holds holds;
-    narrow = All-push (λ (window : ℕ × ℕ × ℕ). IsNarrow eps eps_rec window.0 window.1 window.2) windows (n, low, high) above.narrow narrow;
+    each = All-push (λ (window : LevelWindow). IsWindowAt keys eps eps_rec levels window.level q window.low window.high) windows (window_of n low high) above.each exact;
+    holds = All-push (λ (window : LevelWindow). HoldsAnswers keys levels window.level q window.low window.high) windows (window_of n low high) above.holds holds;
+    narrow = All-push (λ (window : LevelWindow). IsNarrow eps eps_rec window.level window.low window.high) windows (window_of n low high) above.narrow narrow;
   }
     where
-      more : List (ℕ × ℕ × ℕ)
-      more = windows ++ (n, low, high) ∷ []
+      more : List LevelWindow
+      more = windows ++ window_of n low high ∷ []
 
-      count : length (windows ++ (n, low, high) ∷ []) ≡ length windows + 1
-      count = length-append windows ((n, low, high) ∷ [])
+      count : length (windows ++ window_of n low high ∷ []) ≡ length windows + 1
+      count = length-append windows (window_of n low high ∷ [])
 
-      order : (k : ℕ) (d : ℕ × ℕ × ℕ) → k < length (windows ++ (n, low, high) ∷ []) → (slice_index_or (windows ++ (n, low, high) ∷ []) k d).0 + (k + 1) ≡ length levels
+      order : (k : ℕ) (d : LevelWindow) → k < length (windows ++ window_of n low high ∷ []) → (slice_index_or (windows ++ window_of n low high ∷ []) k d).level + (k + 1) ≡ length levels
       order k d inside = elim (cases_lt k (length windows)) [
-        | inl before ↦ ap (λ (window : ℕ × ℕ × ℕ). window.0 + (k + 1)) (get_or_append_left windows ((n, low, high) ∷ []) d k before) ∙ above.order k d before
+        | inl before ↦ ap (λ (window : LevelWindow). window.level + (k + 1)) (get_or_append_left windows (window_of n low high ∷ []) d k before) ∙ above.order k d before
         | inr from ↦
             let last : k ≡ length windows = omega (arith, count, inside) in
-            let is : slice_index_or (windows ++ (n, low, high) ∷ []) k d ≡ (n, low, high) =
-            ap (λ (j : ℕ). slice_index_or (windows ++ (n, low, high) ∷ []) j d) last ∙ get_or-append_seam windows (n, low, high) [] d in
-            ap (λ (window : ℕ × ℕ × ℕ). window.0 + (k + 1)) is ∙ omega (arith, last, above.count)
+            let is : slice_index_or (windows ++ window_of n low high ∷ []) k d ≡ window_of n low high =
+            ap (λ (j : ℕ). slice_index_or (windows ++ window_of n low high ∷ []) j d) last ∙ get_or-append_seam windows (window_of n low high) [] d in
+            ap (λ (window : LevelWindow). window.level + (k + 1)) is ∙ omega (arith, last, above.count)
       ]
 
 -- ---- there is one list of windows
@@ -78,12 +83,12 @@ module _ (keys : List ℕ) (eps eps_rec : ℕ) (levels : List (List Segment)) (o
       IsWindow-unique first.segment.line (slice_index (ys_at keys levels i) first.segment.start) (slice_index (ys_at keys levels i) (first.e - 1)) bound q (extent_at keys levels i)
       low high low' high' positive first.window (rw (same.0, same.1) second.window)
 
-  same_window : (v w : ℕ × ℕ × ℕ) → v.0 ≡ w.0 → v.1 ≡ w.1 → v.2 ≡ w.2 → v ≡ w
+  same_window : (v w : LevelWindow) → v.level ≡ w.level → v.low ≡ w.low → v.high ≡ w.high → v ≡ w
   same_window v w level low high =
-      ap (λ (n : ℕ). (n, v.1, v.2)) level ∙ ap (λ (n : ℕ). (w.0, n, v.2)) low ∙ ap (λ (n : ℕ). (w.0, w.1, n)) high
+      ap (λ (n : ℕ). window_of n v.low v.high) level ∙ ap (λ (n : ℕ). window_of w.level n v.high) low ∙ ap (λ (n : ℕ). window_of w.level w.low n) high
 
-  pub AreWindows-unique : (q : ℕ) (windows others : List (ℕ × ℕ × ℕ)) → AreWindows keys eps eps_rec levels q windows → AreWindows keys eps eps_rec levels q others → windows ≡ others
-  AreWindows-unique q windows others first second = ext_get_or (0, 0, 0) windows others count each
+  pub AreWindows-unique : (q : ℕ) (windows others : List LevelWindow) → AreWindows keys eps eps_rec levels q windows → AreWindows keys eps eps_rec levels q others → windows ≡ others
+  AreWindows-unique q windows others first second = ext_get_or (window_of 0 0 0) windows others count each
     where
       count : length windows ≡ length others
       count = elim (cases_lt 0 (length keys)) [
@@ -94,11 +99,11 @@ module _ (keys : List ℕ) (eps eps_rec : ℕ) (levels : List (List Segment)) (o
         ]
       ]
 
-      each : (k : ℕ) → k < length windows → slice_index_or windows k (0, 0, 0) ≡ slice_index_or others k (0, 0, 0)
+      each : (k : ℕ) → k < length windows → slice_index_or windows k (window_of 0 0 0) ≡ slice_index_or others k (window_of 0 0 0)
       each k inside =
-          let v = slice_index_or windows k (0, 0, 0) in
-          let w = slice_index_or others k (0, 0, 0) in
-          let level : v.0 ≡ w.0 = omega (arith, first.order k (0, 0, 0) inside, second.order k (0, 0, 0) (omega (arith, count))) in
-          let other : IsWindowAt keys eps eps_rec levels v.0 q w.1 w.2 = rw level (second.each k (0, 0, 0) (omega (arith, count))) in
-          let same = IsWindowAt-unique v.0 q v.1 v.2 w.1 w.2 (omega (arith, first.order k (0, 0, 0) inside)) (first.each k (0, 0, 0) inside) other in
+          let v = slice_index_or windows k (window_of 0 0 0) in
+          let w = slice_index_or others k (window_of 0 0 0) in
+          let level : v.level ≡ w.level = omega (arith, first.order k (window_of 0 0 0) inside, second.order k (window_of 0 0 0) (omega (arith, count))) in
+          let other : IsWindowAt keys eps eps_rec levels v.level q w.low w.high = rw level (second.each k (window_of 0 0 0) (omega (arith, count))) in
+          let same = IsWindowAt-unique v.level q v.low v.high w.low w.high (omega (arith, first.order k (window_of 0 0 0) inside)) (first.each k (window_of 0 0 0) inside) other in
           same_window v w level same.0 same.1

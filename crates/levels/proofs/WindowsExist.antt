@@ -19,9 +19,11 @@ use Rattle.window_search.specs.Searches.{IsPredecessor}
 use Rattle.window_search.specs.Windows.{IsPredicted, IsWindow}
 use Rattle.exact_cross.specs.IndexLevels.{first_xs, level_at, eps_at}
 use Rattle.levels.specs.Indexes.{IsLaidIndex, xs_at, ys_at, points_at}
+use Rattle.levels.specs.declared.windows.LevelWindow.{LevelWindow}
 use Rattle.levels.specs.Lookups.{extent_at, IsWindowAt, IsBelowAll, AreWindows}
 use Rattle.levels.proofs.LevelLemmas.{xs_at-above, xs_at-length}
 use Rattle.levels.proofs.SegmentLemmas.{run_at, end_at, HasRun-at, predecessor_in_run}
+use Rattle.levels.proofs.WindowLists.{window_of}
 use Rattle.levels.proofs.LookupLemmas.{no_segment, ascends, top_run, has_predecessor}
 
 -- the quotient of a difference, rounded down
@@ -104,34 +106,34 @@ module _ (keys : List ℕ) (eps eps_rec : ℕ) (levels : List (List Segment)) (o
       )
 
   -- the windows of the levels below n, from the highest down
-  record AreWindowsBelow (n : ℕ) (windows : List (ℕ × ℕ × ℕ)) : Type 0 where
+  record AreWindowsBelow (n : ℕ) (windows : List LevelWindow) : Type 0 where
     count : length windows ≡ n
-    descends : (k : ℕ) (d : ℕ × ℕ × ℕ) → k < length windows → (slice_index_or windows k d).0 + (k + 1) ≡ n
-    each : All (λ window. IsWindowAt keys eps eps_rec levels window.0 q window.1 window.2) windows
+    descends : (k : ℕ) (d : LevelWindow) → k < length windows → (slice_index_or windows k d).level + (k + 1) ≡ n
+    each : All (λ window. IsWindowAt keys eps eps_rec levels window.level q window.low window.high) windows
 
-  windows_below : (n run : ℕ) → n ≤ length levels → IsPredecessor (xs_at keys levels n) q run → (windows : List (ℕ × ℕ × ℕ)) × AreWindowsBelow n windows
+  windows_below : (n run : ℕ) → n ≤ length levels → IsPredecessor (xs_at keys levels n) q run → (windows : List LevelWindow) × AreWindowsBelow n windows
   windows_below zero run within found =
-      ([], record { count = refl; descends = λ k d inside. absurd (omega arith); each = All-nil (λ (window : ℕ × ℕ × ℕ). IsWindowAt keys eps eps_rec levels window.0 q window.1 window.2) })
+      ([], record { count = refl; descends = λ k d inside. absurd (omega arith); each = All-nil (λ (window : LevelWindow). IsWindowAt keys eps eps_rec levels window.level q window.low window.high) })
   windows_below (suc n) run within found =
       let above : IsPredecessor (xs_at keys levels (n + 1)) q run = subst (λ (k : ℕ). IsPredecessor (xs_at keys levels k) q run) (sym (add-one n)) found in
       let here = IsWindowAt-some n run (omega arith) above in
       let next = has_predecessor keys eps eps_rec levels order index no_segment n run q (omega arith) above in
       let rest = windows_below n next.0 (omega arith) next.1 in
-      let window : ℕ × ℕ × ℕ = (n, here.0, here.1) in (
+      let window = window_of n here.0 here.1 in (
         window ∷ rest.0,
         record {
           count = omega (arith, rest.1.count);
           descends = placed n window rest.0 refl rest.1.descends;
-          each = All-cons (λ (window : ℕ × ℕ × ℕ). IsWindowAt keys eps eps_rec levels window.0 q window.1 window.2) window rest.0 here.2 rest.1.each;
+          each = All-cons (λ (window : LevelWindow). IsWindowAt keys eps eps_rec levels window.level q window.low window.high) window rest.0 here.2 rest.1.each;
         },
       )
     where
-      placed : (n : ℕ) (window : ℕ × ℕ × ℕ) (rest : List (ℕ × ℕ × ℕ)) → window.0 ≡ n → ((k : ℕ) (d : ℕ × ℕ × ℕ) → k < length rest → (slice_index_or rest k d).0 + (k + 1) ≡ n) →
-          (k : ℕ) (d : ℕ × ℕ × ℕ) → k < length (window ∷ rest) → (slice_index_or (window ∷ rest) k d).0 + (k + 1) ≡ suc n
+      placed : (n : ℕ) (window : LevelWindow) (rest : List LevelWindow) → window.level ≡ n → ((k : ℕ) (d : LevelWindow) → k < length rest → (slice_index_or rest k d).level + (k + 1) ≡ n) →
+          (k : ℕ) (d : LevelWindow) → k < length (window ∷ rest) → (slice_index_or (window ∷ rest) k d).level + (k + 1) ≡ suc n
       placed n window rest top behind zero d inside = omega arith
       placed n window rest top behind (suc k) d inside = omega (arith, behind k d (omega arith))
 
-  pub AreWindows-some : (windows : List (ℕ × ℕ × ℕ)) × AreWindows keys eps eps_rec levels q windows
+  pub AreWindows-some : (windows : List LevelWindow) × AreWindows keys eps eps_rec levels q windows
   AreWindows-some = elim (cases_lt 0 (length keys)) [
     | inr none ↦ no_window (inl (omega arith))
     | inl some ↦ elim (cases_lt q (slice_index keys 0)) [
@@ -152,13 +154,13 @@ module _ (keys : List ℕ) (eps eps_rec : ℕ) (levels : List (List Segment)) (o
     ]
   ]
     where
-      no_window : IsBelowAll keys q → (windows : List (ℕ × ℕ × ℕ)) × AreWindows keys eps eps_rec levels q windows
+      no_window : IsBelowAll keys q → (windows : List LevelWindow) × AreWindows keys eps eps_rec levels q windows
       no_window below = (
         [],
         record {
           none = λ below. refl;
           some = λ some from. absurd (elim below [ inl empty ↦ omega arith | inr less ↦ omega arith ]);
           order = λ k d inside. absurd (omega arith);
-          each = All-nil (λ (window : ℕ × ℕ × ℕ). IsWindowAt keys eps eps_rec levels window.0 q window.1 window.2);
+          each = All-nil (λ (window : LevelWindow). IsWindowAt keys eps eps_rec levels window.level q window.low window.high);
         },
       )

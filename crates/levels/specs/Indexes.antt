@@ -37,6 +37,13 @@ IsLevel keys eps eps_rec levels i = IsLevelOver (xs_of keys) (ys_of keys) eps ep
 abbrev pub IsIndex : (keys : List ℕ) (eps eps_rec : ℕ) (levels : List (List Segment)) → Type 0
 IsIndex keys eps eps_rec levels = AreLevelled (λ i. IsLevel keys eps eps_rec levels i) (length keys) levels
 
+-- the index of a file's keys, with these error bounds
+pub record IsIndexOf (file : List ℕ) (eps eps_rec : ℕ) (index : PgmIndex) : Type 0 where
+  pub of_keys : index.keys ≡ file
+  pub of_eps : index.eps ≡ eps
+  pub of_eps_rec : index.eps_rec ≡ eps_rec
+  pub levels : IsIndex file eps eps_rec index.levels
+
 -- level 0 is the segmentation of each piece between the cuts by itself, and a level above is that of its points
 pub record IsRelaxedLevel (keys : List ℕ) (eps eps_rec : ℕ) (cuts : List ℕ) (levels : List (List Segment)) (i : ℕ) : Type 0 where
   pub base : i ≡ 0 → IsRelaxed (points_of (xs_of keys) (ys_of keys)) eps 0 (length (xs_of keys)) cuts (level_at levels 0)
@@ -45,6 +52,13 @@ pub record IsRelaxedLevel (keys : List ℕ) (eps eps_rec : ℕ) (cuts : List ℕ
 -- the relaxed index of cuts
 abbrev pub IsRelaxedIndex : (keys : List ℕ) (eps eps_rec : ℕ) (cuts : List ℕ) (levels : List (List Segment)) → Type 0
 IsRelaxedIndex keys eps eps_rec cuts levels = AreLevelled (λ i. IsRelaxedLevel keys eps eps_rec cuts levels i) (length keys) levels
+
+-- the relaxed index of a file's keys, with these error bounds and cuts
+pub record IsRelaxedIndexOf (file : List ℕ) (eps eps_rec : ℕ) (cuts : List ℕ) (index : PgmIndex) : Type 0 where
+  pub of_keys : index.keys ≡ file
+  pub of_eps : index.eps ≡ eps
+  pub of_eps_rec : index.eps_rec ≡ eps_rec
+  pub levels : IsRelaxedIndex file eps eps_rec cuts index.levels
 
 -- the segments of level i cover its points, each with the line of its run's steep pair, and above level 0 they are the segmentation
 pub record IsLaidLevel (keys : List ℕ) (eps eps_rec : ℕ) (levels : List (List Segment)) (i : ℕ) : Type 0 where

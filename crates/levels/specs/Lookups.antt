@@ -2,6 +2,7 @@
 -- Source: P. Ferragina and G. Vinciguerra, The PGM-index, PVLDB 13(8), 2020, section 2.
 use Rattle.std.specs.Prelude.{◌≡◌, ◌⊎◌, ◌==◌, if◌then◌else◌, ℕ, ◌+◌, ◌-◌, ◌*◌, ◌<◌, ◌≤◌, List, [], ◌∷◌, ◌++◌, length, slice_index, slice_index_or, All}
 use Rattle.exact_cross.specs.declared.segment.Segment.{Segment}
+use Rattle.levels.specs.declared.windows.LevelWindow.{LevelWindow}
 use Rattle.exact_cross.specs.Covers.{run_end}
 use Rattle.exact_cross.specs.Segments.{starts_of}
 use Rattle.window_search.specs.Searches.{lb, IsPredecessor}
@@ -36,11 +37,11 @@ abbrev pub IsBelowAll : List ℕ → ℕ → Type 0
 IsBelowAll keys q = (length keys ≡ 0) ⊎ (q < slice_index keys 0)
 
 -- the windows of q, each with its level, from the last level down to level 0
-pub record AreWindows (keys : List ℕ) (eps eps_rec : ℕ) (levels : List (List Segment)) (q : ℕ) (windows : List (ℕ × ℕ × ℕ)) : Type 0 where
+pub record AreWindows (keys : List ℕ) (eps eps_rec : ℕ) (levels : List (List Segment)) (q : ℕ) (windows : List LevelWindow) : Type 0 where
   pub none : IsBelowAll keys q → windows ≡ []
   pub some : 0 < length keys → slice_index keys 0 ≤ q → length windows ≡ length levels
-  pub order : (k : ℕ) (d : ℕ × ℕ × ℕ) → k < length windows → (slice_index_or windows k d).0 + (k + 1) ≡ length levels
-  pub each : All (λ window. IsWindowAt keys eps eps_rec levels window.0 q window.1 window.2) windows
+  pub order : (k : ℕ) (d : LevelWindow) → k < length windows → (slice_index_or windows k d).level + (k + 1) ≡ length levels
+  pub each : All (λ window. IsWindowAt keys eps eps_rec levels window.level q window.low window.high) windows
 
 -- low ..= high holds what is looked for at level i: at level 0 how many keys are below q, and above it the predecessor and the lower bound in the level's list
 pub record HoldsAnswers (keys : List ℕ) (levels : List (List Segment)) (i q low high : ℕ) : Type 0 where
@@ -53,9 +54,9 @@ abbrev pub IsNarrow : ℕ → ℕ → ℕ → ℕ → ℕ → Type 0
 IsNarrow eps eps_rec i low high = high + 1 ≤ low + (2 * eps_at eps eps_rec i + 3)
 
 -- the windows of q from the last level down to level n, with what they hold
-pub record HasWindowsTo (keys : List ℕ) (eps eps_rec : ℕ) (levels : List (List Segment)) (q n : ℕ) (windows : List (ℕ × ℕ × ℕ)) : Type 0 where
+pub record HasWindowsTo (keys : List ℕ) (eps eps_rec : ℕ) (levels : List (List Segment)) (q n : ℕ) (windows : List LevelWindow) : Type 0 where
   pub count : length windows + n ≡ length levels
-  pub order : (k : ℕ) (d : ℕ × ℕ × ℕ) → k < length windows → (slice_index_or windows k d).0 + (k + 1) ≡ length levels
-  pub each : All (λ window. IsWindowAt keys eps eps_rec levels window.0 q window.1 window.2) windows
-  pub holds : All (λ window. HoldsAnswers keys levels window.0 q window.1 window.2) windows
-  pub narrow : All (λ window. IsNarrow eps eps_rec window.0 window.1 window.2) windows
+  pub order : (k : ℕ) (d : LevelWindow) → k < length windows → (slice_index_or windows k d).level + (k + 1) ≡ length levels
+  pub each : All (λ window. IsWindowAt keys eps eps_rec levels window.level q window.low window.high) windows
+  pub holds : All (λ window. HoldsAnswers keys levels window.level q window.low window.high) windows
+  pub narrow : All (λ window. IsNarrow eps eps_rec window.level window.low window.high) windows

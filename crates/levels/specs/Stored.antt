@@ -5,12 +5,16 @@ use Rattle.exact_cross.specs.declared.segment.Segment.{Segment}
 use Rattle.levels.specs.declared.level.Level.{Level}
 use Rattle.exact_cross.specs.Segmentation.{IsSegmentation}
 use Rattle.exact_cross.specs.IndexLevels.{level_at, eps_at}
-use Rattle.levels.specs.Indexes.{IsLaidIndex, IsLaidLevel, xs_at, points_at}
+use Rattle.levels.specs.Indexes.{PgmIndex, IsLaidIndex, IsLaidLevel, xs_at, points_at}
 use Rattle.levels.specs.Models.{AreModels}
 
 -- the segments of each level
 abbrev pub segments_of : List Level → List (List Segment)
 segments_of levels = map (λ level. level.segments.items) levels
+
+-- the index that these levels are, over a file's keys and with these error bounds
+abbrev pub index_of : List ℕ → ℕ → ℕ → List Level → PgmIndex
+index_of keys eps eps_rec levels = record { keys = keys; eps = eps; eps_rec = eps_rec; levels = segments_of levels }
 
 -- the first levels over sorted keys: each covers its points, those above level 0 by their segmentation, and those below the last have more runs than one; each run has its model, and above level 0 the list of x is kept
 pub record AreLevels (keys : List ℕ) (eps eps_rec : ℕ) (levels : List Level) : Type 0 where

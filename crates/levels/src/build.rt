@@ -13,7 +13,7 @@ ghost use Rattle.exact_cross.specs.Segments.{starts_of};
 ghost use Rattle.piece_join.specs.Cuttings.{AreCuts};
 ghost use Rattle.piece_join.specs.Laid.{IsLaid};
 ghost use Rattle.exact_cross.specs.IndexLevels.{first_xs, level_at};
-ghost use Rattle.levels.specs.Indexes.{IsIndex, IsRelaxedIndex, xs_at, places_below};
+ghost use Rattle.levels.specs.Indexes.{IsIndexOf, IsRelaxedIndexOf, xs_at, places_below};
 ghost use Rattle.levels.specs.Models.{AreModels, IsEndOf, IsModelOf};
 ghost use Rattle.levels.specs.Stored.{AreLevels, AreStored, IsNextLevel, segments_of};
 
@@ -25,6 +25,7 @@ use budget::{NoMemory, Steps};
 use edge::Gate;
 use exact_cross::{MAX_EPSILON, PointList, Segment};
 use key_points::{KeyPoints, Keys};
+use options::{Bounds, Workers};
 use piece_join::{relaxed, segment_in_pieces, uneven_cuts};
 use segmenter::segment_counted;
 use std::alloc::Global;
@@ -35,31 +36,26 @@ use std::thread::Threads;
 impl Index {
     /// The index of keys, built on the calling thread.
     ///
-    /// `eps` is the error bound of level 0, in positions of the file, and `eps_rec` that of the
-    /// levels above, in places of their lists; 64 and 4 serve most keys. A caller that hasn't shown
-    /// that its keys never fall makes them by [`Keys::tested`].
+    /// The bound ε of level 0 is in positions of the file, and that of the levels above in places of
+    /// their lists; 64 and 4 serve most keys. A caller that hasn't shown that its keys never fall
+    /// makes them by [`Keys::tested`].
     ///
     /// # Errors
     ///
     /// `NoMemory` alone. Then the keys are given up.
     ///
     /// Source: Ferragina and Vinciguerra, PVLDB 13(8), 2020, section 2.
-    pub fn of(alloc: Global, keys: Keys, eps: u32, eps_rec: u32) -> Result<Index, NoMemory>
-        requires bounded { eps ≤ MAX_EPSILON }
-        requires bounded_rec { eps_rec ≤ MAX_EPSILON }
-        ensures keys { IfOk result (λ index. index.keys ≡ keys) }
-        ensures eps { IfOk result (λ index. index.eps ≡ eps) }
-        ensures eps_rec { IfOk result (λ index. index.eps_rec ≡ eps_rec) }
-        ensures index { IfOk result (λ index. IsIndex keys eps eps_rec index.levels) }
+    pub fn of(alloc: Global, keys: Keys, bounds: Bounds) -> Result<Index, NoMemory>
+        ensures index { IfOk result (IsIndexOf keys bounds.eps bounds.eps_rec) }
     {
-        Index::here::<Brand>(alloc, keys, eps, eps_rec, Blank::new(1))
+        Index::here::<Brand>(alloc, keys, bounds, Blank::new(1))
     }
 
     /// The index of keys that [`Index::of`] gives, its level 0 built by several workers.
     ///
-    /// The points of the keys are cut into 8 uneven pieces a worker, and each of the `workers`, 1
-    /// to 64, draws pieces until there are none left. Where a thread can't be started the caller
-    /// does its work. The gate is passed as by [`Index::build`]; `&OpenGate` holds nobody.
+    /// The points of the keys are cut into 8 uneven pieces a worker, and each of the `workers` draws
+    /// pieces until there are none left. Where a thread can't be started the caller does its work.
+    /// The gate is passed as by [`Index::build`]; `&OpenGate` holds nobody.
     ///
     /// # Errors
     ///
@@ -70,30 +66,20 @@ impl Index {
         rt: &R,
         alloc: Global,
         keys: Keys,
-        eps: u32,
-        eps_rec: u32,
-        workers: u32,
+        bounds: Bounds,
+        workers: Workers,
         gate: &G,
     ) -> Result<Index, NoMemory>
-        requires bounded { eps ≤ MAX_EPSILON }
-        requires bounded_rec { eps_rec ≤ MAX_EPSILON }
-        requires staffed { 1 ≤ workers }
-        requires few_workers { workers ≤ 64 }
-        ensures keys { IfOk result (λ index. index.keys ≡ keys) }
-        ensures eps { IfOk result (λ index. index.eps ≡ eps) }
-        ensures eps_rec { IfOk result (λ index. index.eps_rec ≡ eps_rec) }
-        ensures index { IfOk result (λ index. IsIndex keys eps eps_rec index.levels) }
+        ensures index { IfOk result (IsIndexOf keys bounds.eps bounds.eps_rec) }
     {
         let cuts = uneven_cuts(alloc, keys.point_count(), workers)?;
-        Index::build(rt, alloc, keys, eps, eps_rec, &cuts, workers, gate)
+        Index::build(rt, alloc, keys, bounds, &cuts, workers, gate)
     }
 
     /// The index of keys, built on the calling thread, which counts its steps.
     ///
-    /// `eps` is the error bound of level 0, in positions of the file, and `eps_rec` that of the
-    /// levels above, in places of their lists. It takes at most 12 steps for each place of the
-    /// lists of all its levels; a step is a comparison of two slopes or a test of a point against a
-    /// line.
+    /// It takes at most 12 steps for each place of the lists of all its levels; a step is a
+    /// comparison of two slopes or a test of a point against a line.
     ///
     /// # Errors
     ///
@@ -103,37 +89,30 @@ impl Index {
     pub fn build_here<L: Ledger>(
         alloc: Global,
         keys: Keys,
-        eps: u32,
-        eps_rec: u32,
+        bounds: Bounds,
         steps: &mut Steps<L>,
     ) -> Result<Index, NoMemory>
-        requires bounded { eps ≤ MAX_EPSILON }
-        requires bounded_rec { eps_rec ≤ MAX_EPSILON }
-        ensures keys { IfOk result (λ index. index.keys ≡ keys) }
-        ensures eps { IfOk result (λ index. index.eps ≡ eps) }
-        ensures eps_rec { IfOk result (λ index. index.eps_rec ≡ eps_rec) }
-        ensures index { IfOk result (λ index. IsIndex keys eps eps_rec index.levels) }
+        ensures index { IfOk result (IsIndexOf keys bounds.eps bounds.eps_rec) }
         ensures cost { IfOk result (λ index. steps.new ≤ steps.old
             + 12 * places_below keys index.levels (length index.levels)) }
     {
         let points = keys.points(alloc)?;
         let list = points.points();
-        let segments = segment_counted(alloc, list, eps, 0, list.xs.len() as u32, steps)?;
-        let stored = levels_over(alloc, &points, segments, eps, eps_rec, steps)?;
+        let segments = segment_counted(alloc, list, bounds.eps, 0, list.xs.len() as u32, steps)?;
+        let stored = levels_over(alloc, &points, segments, bounds, steps)?;
         drop(points);
-        Index::from_levels(alloc, keys, eps, eps_rec, stored)
+        Index::from_levels(alloc, keys, bounds, stored)
     }
 
     /// The index of keys, level 0 built piece by piece by several workers, and the levels above on
     /// the calling thread: the same index as [`Index::of`] gives, for all cuts, numbers of workers
     /// and gates.
     ///
-    /// `eps` is the error bound of level 0, in positions of the file, and `eps_rec` that of the
-    /// levels above, in places of their lists. The points of the keys are cut into pieces before
-    /// each place of `cuts`, which rise strictly from 1 to the last place and are 65,535 at most.
-    /// Each of the `workers`, 1 to 64, draws pieces until there are none left. The gate is passed
-    /// at `PieceBegun` before each piece of level 0 and at `PieceDone` after it, with the piece's
-    /// number. The call returns only if the gate does, and then no worker runs any more.
+    /// The points of the keys are cut into pieces before each place of `cuts`, which rise strictly
+    /// from 1 to the last place and are 65,535 at most. Each of the `workers` draws pieces until
+    /// there are none left. The gate is passed at `PieceBegun` before each piece of level 0 and at
+    /// `PieceDone` after it, with the piece's number. The call returns only if the gate does, and
+    /// then no worker runs any more.
     ///
     /// # Errors
     ///
@@ -144,30 +123,22 @@ impl Index {
         rt: &R,
         alloc: Global,
         keys: Keys,
-        eps: u32,
-        eps_rec: u32,
+        bounds: Bounds,
         cuts: &[u32],
-        workers: u32,
+        workers: Workers,
         gate: &G,
     ) -> Result<Index, NoMemory>
-        requires bounded { eps ≤ MAX_EPSILON }
-        requires bounded_rec { eps_rec ≤ MAX_EPSILON }
         requires cuts { AreCuts (length (xs_of keys)) cuts.now }
         requires few_cuts { length cuts.now ≤ 65535 }
-        requires staffed { 1 ≤ workers }
-        requires few_workers { workers ≤ 64 }
-        ensures keys { IfOk result (λ index. index.keys ≡ keys) }
-        ensures eps { IfOk result (λ index. index.eps ≡ eps) }
-        ensures eps_rec { IfOk result (λ index. index.eps_rec ≡ eps_rec) }
-        ensures index { IfOk result (λ index. IsIndex keys eps eps_rec index.levels) }
+        ensures index { IfOk result (IsIndexOf keys bounds.eps bounds.eps_rec) }
     {
         let points = keys.points(alloc)?;
         let list = points.points();
-        let segments = segment_in_pieces(rt, alloc, list, eps, cuts, workers, gate)?;
+        let segments = segment_in_pieces(rt, alloc, list, bounds.eps, cuts, workers, gate)?;
         let ledger = Blank::new(1);
-        let stored = levels_from::<Brand>(alloc, &points, segments, eps, eps_rec, ledger)?;
+        let stored = levels_from::<Brand>(alloc, &points, segments, bounds, ledger)?;
         drop(points);
-        Index::from_levels(alloc, keys, eps, eps_rec, stored)
+        Index::from_levels(alloc, keys, bounds, stored)
     }
 
     /// A relaxed index of keys: level 0 is built piece by piece by several workers as by
@@ -186,57 +157,43 @@ impl Index {
         rt: &R,
         alloc: Global,
         keys: Keys,
-        eps: u32,
-        eps_rec: u32,
+        bounds: Bounds,
         cuts: &[u32],
-        workers: u32,
+        workers: Workers,
         gate: &G,
     ) -> Result<Index, NoMemory>
-        requires bounded { eps ≤ MAX_EPSILON }
-        requires bounded_rec { eps_rec ≤ MAX_EPSILON }
         requires cuts { AreCuts (length (xs_of keys)) cuts.now }
         requires few_cuts { length cuts.now ≤ 65535 }
-        requires staffed { 1 ≤ workers }
-        requires few_workers { workers ≤ 64 }
-        ensures keys { IfOk result (λ index. index.keys ≡ keys) }
-        ensures eps { IfOk result (λ index. index.eps ≡ eps) }
-        ensures eps_rec { IfOk result (λ index. index.eps_rec ≡ eps_rec) }
-        ensures relaxed { IfOk result (λ index.
-            IsRelaxedIndex keys eps eps_rec cuts.now index.levels) }
+        ensures relaxed { IfOk result
+            (IsRelaxedIndexOf keys bounds.eps bounds.eps_rec cuts.now) }
         ensures slack { IfOk result (λ index. 0 < length keys →
             uncut (level_at index.levels 0) ≡ length cuts.now + 1) }
         // Level 0 is a cover, and any other one has at most one run fewer for each cut.
         ensures within { IfOk result (λ index. 0 < length keys → IsCoverWithin (length cuts.now)
-            (points_of (xs_of keys) (ys_of keys)) eps 0 (length (xs_of keys))
+            (points_of (xs_of keys) (ys_of keys)) bounds.eps 0 (length (xs_of keys))
             (starts_of (level_at index.levels 0))) }
     {
         let points = keys.points(alloc)?;
         let list = points.points();
-        let segments = relaxed(rt, alloc, list, eps, cuts, workers, gate)?;
+        let segments = relaxed(rt, alloc, list, bounds.eps, cuts, workers, gate)?;
         let ledger = Blank::new(1);
-        let stored = levels_from::<Brand>(alloc, &points, segments, eps, eps_rec, ledger)?;
+        let stored = levels_from::<Brand>(alloc, &points, segments, bounds, ledger)?;
         drop(points);
-        Index::from_levels(alloc, keys, eps, eps_rec, stored)
+        Index::from_levels(alloc, keys, bounds, stored)
     }
 
     /// The index of keys, its steps counted from a new ledger.
     fn here<L: Ledger>(
         alloc: Global,
         keys: Keys,
-        eps: u32,
-        eps_rec: u32,
+        bounds: Bounds,
         blank: Blank,
     ) -> Result<Index, NoMemory>
-        requires bounded { eps ≤ MAX_EPSILON }
-        requires bounded_rec { eps_rec ≤ MAX_EPSILON }
         requires ledger { IsNewLedger blank L.name L.parts }
-        ensures keys { IfOk result (λ index. index.keys ≡ keys) }
-        ensures eps { IfOk result (λ index. index.eps ≡ eps) }
-        ensures eps_rec { IfOk result (λ index. index.eps_rec ≡ eps_rec) }
-        ensures index { IfOk result (λ index. IsIndex keys eps eps_rec index.levels) }
+        ensures index { IfOk result (IsIndexOf keys bounds.eps bounds.eps_rec) }
     {
         let mut steps = Steps::<L>::new(blank);
-        Index::build_here(alloc, keys, eps, eps_rec, &mut steps)
+        Index::build_here(alloc, keys, bounds, &mut steps)
     }
 }
 
@@ -245,21 +202,19 @@ fn levels_from<L: Ledger>(
     alloc: Global,
     points: &KeyPoints,
     segments: Vec<Segment>,
-    eps: u32,
-    eps_rec: u32,
+    bounds: Bounds,
     blank: Blank,
 ) -> Result<Vec<Level>, NoMemory>
-    requires bounded { eps ≤ MAX_EPSILON }
-    requires bounded_rec { eps_rec ≤ MAX_EPSILON }
-    requires segments { IsLaid (points_of (xs_of points.now) (ys_of points.now)) eps 0
+    requires segments { IsLaid (points_of (xs_of points.now) (ys_of points.now)) bounds.eps 0
         (length (xs_of points.now)) segments.items }
     requires ledger { IsNewLedger blank L.name L.parts }
-    ensures stored { IfOk result (λ levels. AreStored points.now eps eps_rec levels.items) }
+    ensures stored { IfOk result (λ levels.
+        AreStored points.now bounds.eps bounds.eps_rec levels.items) }
     ensures base { IfOk result (λ levels. 0 < vec_len levels →
         level_at (segments_of levels.items) 0 ≡ segments.items) }
 {
     let mut steps = Steps::<L>::new(blank);
-    levels_over(alloc, points, segments, eps, eps_rec, &mut steps)
+    levels_over(alloc, points, segments, bounds, &mut steps)
 }
 
 /// All levels, over the segments of level 0.
@@ -267,15 +222,13 @@ fn levels_over<L: Ledger>(
     alloc: Global,
     points: &KeyPoints,
     segments: Vec<Segment>,
-    eps: u32,
-    eps_rec: u32,
+    bounds: Bounds,
     steps: &mut Steps<L>,
 ) -> Result<Vec<Level>, NoMemory>
-    requires bounded { eps ≤ MAX_EPSILON }
-    requires bounded_rec { eps_rec ≤ MAX_EPSILON }
-    requires segments { IsLaid (points_of (xs_of points.now) (ys_of points.now)) eps 0
+    requires segments { IsLaid (points_of (xs_of points.now) (ys_of points.now)) bounds.eps 0
         (length (xs_of points.now)) segments.items }
-    ensures stored { IfOk result (λ levels. AreStored points.now eps eps_rec levels.items) }
+    ensures stored { IfOk result (λ levels.
+        AreStored points.now bounds.eps bounds.eps_rec levels.items) }
     ensures base { IfOk result (λ levels. 0 < vec_len levels →
         level_at (segments_of levels.items) 0 ≡ segments.items) }
     // The steps that level 0 takes are left to the caller.
@@ -287,9 +240,9 @@ fn levels_over<L: Ledger>(
         return Ok(levels);
     }
     let mut runs = segments.len();
-    levels.push(level_0(alloc, points, segments, eps)?)?;
+    levels.push(level_0(alloc, points, segments, bounds.eps)?)?;
     while runs != 1 {
-        let level = level_above(alloc, points, &levels, eps, eps_rec, steps)?;
+        let level = level_above(alloc, points, &levels, bounds, steps)?;
         runs = level.segments.len();
         levels.push(level)?;
     }
@@ -324,13 +277,12 @@ fn level_above<L: Ledger>(
     alloc: Global,
     points: &KeyPoints,
     levels: &[Level],
-    _eps: u32,
-    eps_rec: u32,
+    bounds: Bounds,
     steps: &mut Steps<L>,
 ) -> Result<Level, NoMemory>
-    requires levels { AreLevels points.now _eps eps_rec levels.now }
+    requires levels { AreLevels points.now bounds.eps bounds.eps_rec levels.now }
     requires some { 0 < length levels.now }
-    ensures next { IfOk result (IsNextLevel points.now _eps eps_rec levels.now) }
+    ensures next { IfOk result (IsNextLevel points.now bounds.eps bounds.eps_rec levels.now) }
     ensures cost { IfOk result (λ level. steps.new ≤ steps.old
         + 12 * length (xs_at points.now (segments_of levels.now) (length levels.now))) }
 {
@@ -339,7 +291,7 @@ fn level_above<L: Ledger>(
     let xs = first_xs_of(alloc, list_at(points, levels, below), &level.segments)?;
     let ys = places_of(alloc, xs.as_slice())?;
     let list = PointList::new(xs.as_slice(), ys.as_slice());
-    let runs = runs_over(alloc, list, eps_rec, steps)?;
+    let runs = runs_over(alloc, list, bounds.eps_rec, steps)?;
     let Runs { segments, models } = runs;
     Ok(Level {
         segments,

@@ -14,7 +14,7 @@ ghost use Rattle.piece_join.specs.Cuttings.{AreCuts};
 ghost use Rattle.levels.specs.Heights.{IsLow, IsLowOverRuns, HasLongRuns, least_places};
 ghost use Rattle.levels.specs.Models.{IsEndOf, IsModelOf};
 ghost use Rattle.levels.specs.Entries.{IsEntry};
-ghost use Rattle.levels.specs.Stored.{AreLevels, AreStored, segments_of};
+ghost use Rattle.levels.specs.Stored.{AreLevels, AreStored, index_of, segments_of};
 ghost use Rattle.levels.specs.Entries.{share_of};
 ghost use Rattle.radix_table.specs.Tables.{IsBetween, IsLedTo, IsTableOf};
 
@@ -25,6 +25,7 @@ use crate::model::RunModel;
 use budget::NoMemory;
 use exact_cross::{MAX_EPSILON, Segment};
 use key_points::Keys;
+use options::Bounds;
 use radix_table::RadixTable;
 use std::alloc::Global;
 use std::marker::Model;
@@ -49,8 +50,7 @@ use std::marker::Model;
 #[derive(Drop)]
 pub struct Index {
     keys: Keys,
-    eps: u32,
-    eps_rec: u32,
+    bounds: Bounds,
     stored: Vec<Level>,
     /// Where lookups start that the table doesn't lead.
     entry: u32,
@@ -68,13 +68,14 @@ impl Model for Index {
 
     ghost view = { λ index. record {
       keys = index.keys;
-      eps = index.eps;
-      eps_rec = index.eps_rec;
+      eps = index.bounds.eps;
+      eps_rec = index.bounds.eps_rec;
       levels = segments_of index.stored.items;
     } };
 
     ghost invariant = { λ index.
-        IsWhole index.keys index.eps index.eps_rec index.stored.items index.entry index.table };
+        IsWhole index.keys index.bounds.eps index.bounds.eps_rec index.stored.items index.entry
+        index.table };
 }
 
 impl Index {
@@ -86,22 +87,18 @@ impl Index {
     pub(crate) fn from_levels(
         alloc: Global,
         keys: Keys,
-        eps: u32,
-        eps_rec: u32,
+        bounds: Bounds,
         stored: Vec<Level>,
     ) -> Result<Index, NoMemory>
-        requires { AreStored keys eps eps_rec stored.items }
-        ensures keys { IfOk result (λ index. index.keys ≡ keys) }
-        ensures eps { IfOk result (λ index. index.eps ≡ eps) }
-        ensures eps_rec { IfOk result (λ index. index.eps_rec ≡ eps_rec) }
-        ensures levels { IfOk result (λ index. index.levels ≡ segments_of stored.items) }
+        requires { AreStored keys bounds.eps bounds.eps_rec stored.items }
+        ensures { IfOk result (λ index.
+            index ≡ index_of keys bounds.eps bounds.eps_rec stored.items) }
     {
-        let entry = entry_of(&keys, eps_rec, &stored);
-        let table = table_of(alloc, &keys, eps_rec, &stored)?;
+        let entry = entry_of(&keys, bounds.eps_rec, &stored);
+        let table = table_of(alloc, &keys, bounds.eps_rec, &stored)?;
         Ok(Index {
             keys,
-            eps,
-            eps_rec,
+            bounds,
             stored,
             entry,
             table,
@@ -146,7 +143,7 @@ impl Index {
     /// They are few: two levels or more have more than `(2ε' + 2)^(levels - 2)` runs at level 0,
     /// where ε' is the bound above level 0. In the one index of the keys, where each run but the
     /// last one has two points or more, they stand on more than twice as many points.
-    pub fn levels(&self) -> u32
+    pub fn level_count(&self) -> u32
         ensures count { result ≡ length self.now.levels }
         ensures index { IsLaidIndex self.now.keys self.now.eps self.now.eps_rec self.now.levels }
         ensures few_over_runs { IsLowOverRuns self.now.eps_rec result
@@ -163,7 +160,7 @@ impl Index {
     /// Where they are the segmentation of these points, as those of each level above level 0 are,
     /// they are as few as lines within the level's bound can do with, a checker of covers takes
     /// them, and each run but the last one has 2 places or more at level 0, and `2ε' + 2` above it.
-    pub fn level(&self, i: u32) -> &[Segment]
+    pub fn segments(&self, i: u32) -> &[Segment]
         requires { i < length self.now.levels }
         ensures segments { result.now ≡ level_at self.now.levels i }
         ensures shown { AreShown (points_at self.now.keys self.now.levels i)
@@ -203,9 +200,9 @@ impl Index {
     /// # Errors
     ///
     /// `NoMemory` alone.
-    pub fn list(&self, alloc: Global, i: u32) -> Result<Vec<u64>, NoMemory>
+    pub fn xs(&self, alloc: Global, i: u32) -> Result<Vec<u64>, NoMemory>
         requires { i < length self.now.levels }
-        ensures { IfOk result (λ list. list.items ≡ xs_at self.now.keys self.now.levels i) }
+        ensures { IfOk result (λ xs. xs.items ≡ xs_at self.now.keys self.now.levels i) }
     {
         if i == 0 {
             let points = self.keys.points(alloc)?;
@@ -221,9 +218,9 @@ impl Index {
     /// # Errors
     ///
     /// `NoMemory` alone.
-    pub fn ranks(&self, alloc: Global, i: u32) -> Result<Vec<u32>, NoMemory>
+    pub fn ys(&self, alloc: Global, i: u32) -> Result<Vec<u32>, NoMemory>
         requires { i < length self.now.levels }
-        ensures { IfOk result (λ ranks. ranks.items ≡ ys_at self.now.keys self.now.levels i) }
+        ensures { IfOk result (λ ys. ys.items ≡ ys_at self.now.keys self.now.levels i) }
     {
         if i == 0 {
             let points = self.keys.points(alloc)?;
@@ -248,7 +245,11 @@ impl Index {
         ensures bound { result ≡ eps_at self.now.eps self.now.eps_rec i }
         ensures bounded { result ≤ MAX_EPSILON }
     {
-        if i == 0 { self.eps } else { self.eps_rec }
+        if i == 0 {
+            self.bounds.eps
+        } else {
+            self.bounds.eps_rec
+        }
     }
 
     /// The model of a run of a level.

@@ -49,8 +49,8 @@ impl Index {
             self.now.eps_rec (length self.now.levels)) steps.old steps.new }
         ensures cost_empty { length self.now.levels ≡ 0 → steps.new ≡ steps.old }
     {
-        let keys = self.keys().file();
-        let levels = self.levels();
+        let keys = self.keys().as_slice();
+        let levels = self.level_count();
         if levels == 0 {
             return 0;
         }
@@ -74,7 +74,7 @@ impl Index {
         ensures cost { TakesAtMost (share_of self.now.eps_rec (length self.now.levels)) steps.old
             steps.new }
     {
-        if self.levels() > 1 {
+        if self.level_count() > 1 {
             if let Some((low, high)) = self.runs_near(q) {
                 return predecessor_in(self.firsts(1), low, high, q, steps);
             }
@@ -111,7 +111,7 @@ impl Index {
         ensures cost { TakesAtMost ((4 * (2 * self.now.eps_rec + 3)) ^ (length self.now.levels
             - 1 - entry)) steps.old steps.new }
     {
-        let levels = self.levels();
+        let levels = self.level_count();
         if entry + 1 == levels {
             return 0;
         }
@@ -171,7 +171,7 @@ impl Index {
         ensures holds { HoldsAnswers self.now.keys self.now.levels level q result.0 result.1 }
     {
         let (low, high) = self.heights_of(level, run);
-        let segments = self.level(level);
+        let segments = self.segments(level);
         let segment = &segments[run as usize];
         let eps = self.eps_of(level);
         let len = self.extent_of(level);
@@ -195,7 +195,7 @@ impl Index {
         if level == 0 {
             return (self.position(model.first), high);
         }
-        let segments = self.level(level);
+        let segments = self.segments(level);
         let segment = &segments[run as usize];
         (segment.start, high)
     }

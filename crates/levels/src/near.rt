@@ -10,12 +10,6 @@ use budget::Steps;
 use std::marker::Brand;
 use std::sync::ledger::{Blank, Ledger};
 
-/// The error bound of level 0, in places, for which [`Index::position_near`] is made.
-pub const EPS: u32 = 64;
-
-/// The error bound of the levels above level 0, in places, that goes with [`EPS`].
-pub const EPS_REC: u32 = 4;
-
 /// How many keys are a group.
 const GROUP: usize = 8;
 
@@ -49,15 +43,15 @@ impl Index {
     /// whatever is said.
     ///
     /// Seventeen groups of eight keys are looked at from there on, in which are the places of
-    /// [`Index::start_near`] where the error bound is at most [`EPS`]: the last key of each group
-    /// but one, and then all of one group, with no branch on an answer. So reads wait for far
+    /// [`Index::start_near`] where the error bound is at most 64 ([`options::EPS`]): the last key of each group
+    /// but one, and then all of one group, with no branch on an answer. So reads wait for main
     /// memory twice, where those of halving do at each of some seven steps. Where the position
     /// isn't there it is searched as by [`Index::position`]. Cannot fail and takes no memory.
     #[inline]
     pub fn position_near(&self, start: usize, q: u64) -> u32
         ensures { result ≡ lb self.now.keys q }
     {
-        let keys = self.keys().file();
+        let keys = self.keys().as_slice();
         let place = place_near(keys, start, q);
         if is_bound(keys, place, q) {
             return place as u32;
@@ -120,8 +114,8 @@ fn start_from<L: Ledger>(index: &Index, q: u64, blank: Blank) -> u32
         (length index.now.keys + 1)) }
 {
     let mut steps = Steps::<L>::new(blank);
-    let keys = index.keys().file();
-    let _levels = index.levels();
+    let keys = index.keys().as_slice();
+    let _levels = index.level_count();
     let asked = q.max(keys[0]);
     let run = index.run_of(asked, &mut steps);
     let count = (2 * u64::from(index.eps_of(0)) + 3).min(keys.len() as u64 + 1);

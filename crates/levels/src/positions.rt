@@ -52,8 +52,8 @@ impl Index {
         ensures positions { into.new.items ≡ into.old.items ++ map (lb self.now.keys) qs.now }
         ensures capacity { vec_capacity into.old ≤ vec_capacity into.new }
     {
-        let first = self.keys().file()[0];
-        let _levels = self.levels();
+        let first = self.keys().as_slice()[0];
+        let _levels = self.level_count();
         let mut asked = [0; LANES];
         for lane in 0..LANES {
             asked[lane] = qs[lane].max(first);
@@ -95,7 +95,7 @@ impl Index {
         ensures near { IfSome result (λ count. AreNear (xs_at self.now.keys self.now.levels 1)
             qs.now lows.new count) }
     {
-        if self.levels() < 2 {
+        if self.level_count() < 2 {
             return None;
         }
         let mut count = 1;
@@ -142,7 +142,7 @@ impl Index {
         requires from_first { AreFromFirst self.now.keys qs.now }
         ensures { AreRuns (xs_at self.now.keys self.now.levels 1) qs.now places.new }
     {
-        let mut level = self.levels() - 1;
+        let mut level = self.level_count() - 1;
         while level > 0 {
             self.runs_below(level, qs, places);
             level -= 1;
@@ -192,7 +192,7 @@ impl Index {
         ensures found { (k : ℕ) → k < 16 → slice_index runs.new k ≡ lb self.now.keys
             (slice_index qs.now k) }
     {
-        let file = self.keys().file();
+        let file = self.keys().as_slice();
         let count = (2 * u64::from(self.eps_of(0)) + 3).min(file.len() as u64 + 1);
         for lane in 0..LANES {
             runs[lane] = self.start_bound(runs[lane], qs[lane], count);

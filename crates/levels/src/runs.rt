@@ -22,11 +22,11 @@ impl Index {
         ensures index { IsLaidIndex self.now.keys self.now.eps self.now.eps_rec self.now.levels }
     {
         let keys = self.keys();
-        let _file = keys.file();
-        if self.levels() == 0 {
+        let _file = keys.as_slice();
+        if self.level_count() == 0 {
             return 0;
         }
-        self.level(0).len() as u32
+        self.segments(0).len() as u32
     }
 
     /// The first x of a run of level 0.
@@ -60,7 +60,7 @@ impl Index {
             steps.new }
     {
         let _runs = self.runs();
-        let keys = self.keys().file();
+        let keys = self.keys().as_slice();
         let begun = self.begun(q, least, most, steps);
         if begun == 0 {
             return 0;
@@ -118,7 +118,7 @@ impl Index {
         if keys.is_empty() {
             return;
         }
-        let first = keys.file()[0];
+        let first = keys.as_slice()[0];
         let mut asked = [0; LANES];
         for lane in 0..LANES {
             asked[lane] = qs[lane].max(first);
@@ -131,7 +131,7 @@ impl Index {
             lows[lane] = run;
             count = count.max(high.saturating_sub(run));
         }
-        if self.levels() > 1 {
+        if self.level_count() > 1 {
             self.runs_among(&asked, &lows, count, places);
         } else {
             self.runs_by_levels_interleaved(&asked, places);

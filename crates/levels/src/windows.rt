@@ -7,6 +7,7 @@ ghost use Rattle.budget.specs.Ledgers.{IsNewLedger};
 ghost use Rattle.exact_cross.specs.declared.segment.Segment.{Segment};
 ghost use Rattle.window_search.specs.Searches.{IsPredecessor};
 ghost use Rattle.levels.specs.Indexes.{IsIndex, IsLaidFile, IsLaidIndex, xs_at};
+ghost use Rattle.levels.specs.declared.windows.LevelWindow.{LevelWindow};
 ghost use Rattle.levels.specs.Lookups.{AreWindows, HoldsAnswers, HasWindowsTo, IsNarrow};
 
 use crate::index::Index;
@@ -16,9 +17,18 @@ use std::marker::Brand;
 use std::sync::ledger::{Blank, Ledger};
 use window_search::predecessor_in;
 
+/// The window of a level along a lookup: places that hold what is looked for there.
+#[derive(Clone, Copy, Debug, PartialEq, Eq)]
+pub struct LevelWindow {
+    /// The number of the level, 0 the lowest.
+    pub level: u32,
+    /// The first place of the window and the last.
+    pub low: u32,
+    pub high: u32,
+}
+
 impl Index {
-    /// The windows along the lookup of `q`: of each level its number, and the first and the last
-    /// place of the window there, from the last level down to level 0.
+    /// The windows along the lookup of `q`, one of each level, from the last level down to level 0.
     ///
     /// Above level 0 a place is one of the level's list, and at level 0 a position in the file. A
     /// window is that of the run whose points include the last one with an x at most `q`. It has
@@ -33,39 +43,39 @@ impl Index {
     /// `NoMemory` alone.
     ///
     /// Source: Ferragina and Vinciguerra, PVLDB 13(8), 2020, section 2.
-    pub fn windows(&self, alloc: Global, q: u64) -> Result<Vec<(u32, u32, u32)>, NoMemory>
+    pub fn windows(&self, alloc: Global, q: u64) -> Result<Vec<LevelWindow>, NoMemory>
         ensures windows { IfOk result (λ windows. AreWindows self.now.keys self.now.eps
             self.now.eps_rec self.now.levels q windows.items) }
         ensures holds { IfOk result (λ windows. All (λ window. HoldsAnswers self.now.keys
-            self.now.levels window.0 q window.1 window.2) windows.items) }
+            self.now.levels window.level q window.low window.high) windows.items) }
         ensures narrow { IfOk result (λ windows. All (λ window. IsNarrow self.now.eps
-            self.now.eps_rec window.0 window.1 window.2) windows.items) }
+            self.now.eps_rec window.level window.low window.high) windows.items) }
     {
-        let mut windows = Vec::with_capacity(alloc, self.levels() as usize)?;
+        let mut windows = Vec::with_capacity(alloc, self.level_count() as usize)?;
         self.windows_into(q, &mut windows);
         Ok(windows)
     }
 
     /// Puts what [`Index::windows`] gives into a list that is empty and has room for
-    /// [`Index::levels`] windows.
+    /// [`Index::level_count`] windows.
     ///
     /// Cannot fail and takes no memory.
-    pub fn windows_into(&self, q: u64, into: &mut Vec<(u32, u32, u32)>)
+    pub fn windows_into(&self, q: u64, into: &mut Vec<LevelWindow>)
         requires empty { vec_len into.old ≡ 0 }
         requires room { length self.now.levels ≤ vec_capacity into.old }
         ensures windows { AreWindows self.now.keys self.now.eps self.now.eps_rec self.now.levels q
             into.new.items }
-        ensures holds { All (λ window. HoldsAnswers self.now.keys self.now.levels window.0 q
-            window.1 window.2) into.new.items }
-        ensures narrow { All (λ window. IsNarrow self.now.eps self.now.eps_rec window.0 window.1
-            window.2) into.new.items }
+        ensures holds { All (λ window. HoldsAnswers self.now.keys self.now.levels window.level q
+            window.low window.high) into.new.items }
+        ensures narrow { All (λ window. IsNarrow self.now.eps self.now.eps_rec window.level window.low
+            window.high) into.new.items }
         ensures capacity { vec_capacity into.old ≤ vec_capacity into.new }
     {
         windows_from::<Brand>(self, q, into, Blank::new(1));
     }
 
     /// The windows of the levels, where `q` isn't below the first key.
-    fn windows_down<L: Ledger>(&self, q: u64, into: &mut Vec<(u32, u32, u32)>, steps: &mut Steps<L>)
+    fn windows_down<L: Ledger>(&self, q: u64, into: &mut Vec<LevelWindow>, steps: &mut Steps<L>)
         requires laid { IsLaidFile self.now }
         requires some { 0 < length self.now.keys }
         requires from_first { slice_index self.now.keys 0 ≤ q }
@@ -75,7 +85,7 @@ impl Index {
             0 into.new.items }
         ensures capacity { vec_capacity into.old ≤ vec_capacity into.new }
     {
-        let mut level = self.levels() - 1;
+        let mut level = self.level_count() - 1;
         let mut run = 0;
         while level > 0 {
             let (low, high) = self.push_window(level, run, q, into);
@@ -86,13 +96,7 @@ impl Index {
     }
 
     /// Adds the window of `q` in a run of a level to those of the levels above it, and gives it.
-    fn push_window(
-        &self,
-        level: u32,
-        run: u32,
-        q: u64,
-        into: &mut Vec<(u32, u32, u32)>,
-    ) -> (u32, u32)
+    fn push_window(&self, level: u32, run: u32, q: u64, into: &mut Vec<LevelWindow>) -> (u32, u32)
         requires laid { IsLaidFile self.now }
         requires inside { level < length self.now.levels }
         requires run { IsPredecessor (xs_at self.now.keys self.now.levels (level + 1)) q run }
@@ -108,29 +112,29 @@ impl Index {
         ensures holds { HoldsAnswers self.now.keys self.now.levels level q result.0 result.1 }
     {
         let (low, high) = self.window_of(level, run, q);
-        into.push_reserved((level, low, high));
+        into.push_reserved(LevelWindow { level, low, high });
         (low, high)
     }
 }
 
 /// The windows of `q`, the steps counted in a new ledger.
-fn windows_from<L: Ledger>(index: &Index, q: u64, into: &mut Vec<(u32, u32, u32)>, blank: Blank)
+fn windows_from<L: Ledger>(index: &Index, q: u64, into: &mut Vec<LevelWindow>, blank: Blank)
     requires ledger { IsNewLedger blank L.name L.parts }
     requires empty { vec_len into.old ≡ 0 }
     requires room { length index.now.levels ≤ vec_capacity into.old }
     ensures windows { AreWindows index.now.keys index.now.eps index.now.eps_rec index.now.levels q
         into.new.items }
-    ensures holds { All (λ window. HoldsAnswers index.now.keys index.now.levels window.0 q window.1
-        window.2) into.new.items }
-    ensures narrow { All (λ window. IsNarrow index.now.eps index.now.eps_rec window.0 window.1
-        window.2) into.new.items }
+    ensures holds { All (λ window. HoldsAnswers index.now.keys index.now.levels window.level q window.low
+        window.high) into.new.items }
+    ensures narrow { All (λ window. IsNarrow index.now.eps index.now.eps_rec window.level window.low
+        window.high) into.new.items }
     ensures capacity { vec_capacity into.old ≤ vec_capacity into.new }
 {
-    let keys = index.keys().file();
+    let keys = index.keys().as_slice();
     if keys.is_empty() || q < keys[0] {
         return;
     }
-    let _levels = index.levels();
+    let _levels = index.level_count();
     let mut steps = Steps::<L>::new(blank);
     index.windows_down(q, into, &mut steps);
 }
@@ -139,11 +143,11 @@ fn windows_from<L: Ledger>(index: &Index, q: u64, into: &mut Vec<(u32, u32, u32)
 /// relaxed one.
 pub fn one_list_of_windows()
     ensures index { (keys : List ℕ) (eps eps_rec : ℕ) (levels : List (List Segment)) (q : ℕ)
-        (one two : List (ℕ × ℕ × ℕ)) → IsNonDecreasing keys →
+        (one two : List LevelWindow) → IsNonDecreasing keys →
         IsIndex keys eps eps_rec levels → AreWindows keys eps eps_rec levels q one →
         AreWindows keys eps eps_rec levels q two → one ≡ two }
     ensures laid { (keys : List ℕ) (eps eps_rec : ℕ) (levels : List (List Segment)) (q : ℕ)
-        (one two : List (ℕ × ℕ × ℕ)) → IsNonDecreasing keys →
+        (one two : List LevelWindow) → IsNonDecreasing keys →
         IsLaidIndex keys eps eps_rec levels → AreWindows keys eps eps_rec levels q one →
         AreWindows keys eps eps_rec levels q two → one ≡ two }
 {}
@@ -152,8 +156,8 @@ pub fn one_list_of_windows()
 pub fn some_windows()
     ensures index { (keys : List ℕ) (eps eps_rec : ℕ) (levels : List (List Segment)) (q : ℕ) →
         IsNonDecreasing keys → IsIndex keys eps eps_rec levels →
-        (windows : List (ℕ × ℕ × ℕ)) × AreWindows keys eps eps_rec levels q windows }
+        (windows : List LevelWindow) × AreWindows keys eps eps_rec levels q windows }
     ensures laid { (keys : List ℕ) (eps eps_rec : ℕ) (levels : List (List Segment)) (q : ℕ) →
         IsNonDecreasing keys → IsLaidIndex keys eps eps_rec levels →
-        (windows : List (ℕ × ℕ × ℕ)) × AreWindows keys eps eps_rec levels q windows }
+        (windows : List LevelWindow) × AreWindows keys eps eps_rec levels q windows }
 {}

@@ -14,7 +14,8 @@ const FORMAT: u64 = 3_559_372_479_576_236_651;
 
 const LAST: u64 = u64::MAX;
 
-// Two lines and a table, a key that repeats, both ends of 64 bits, no key, and a line that is ε off.
+/// Two lines and a table, a key that repeats, both ends of 64 bits, no key, and a line that is ε
+/// off.
 static ROWS: [Row; 5] = [
     Row {
         keys: &[0, 1, 2, 10],

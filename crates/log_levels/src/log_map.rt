@@ -15,8 +15,9 @@ ghost use Rattle.log_levels.specs.Maps.{map_after};
 ghost use Rattle.log_levels.specs.Accepted.{entries_of};
 
 use budget::NoMemory;
-use levels::{EPS, EPS_REC, Index};
+use levels::Index;
 use map_level::Level;
+use options::{EPS, EPS_REC};
 use std::alloc::Global;
 use std::marker::Model;
 use std::sync::Arc;

@@ -6,19 +6,12 @@ use denote.Param.Members.{Shared}
 use denote.Ref.{Bor}
 use Rattle.tombstones.specs.declared.entry.Entry.{Entry}
 use Rattle.tombstones.specs.Entries.{IsAscending, entry_at, winner_at, kept}
-use Rattle.levels.specs.Indexes.{PgmIndex, IsIndex}
+use Rattle.levels.specs.Indexes.{PgmIndex, IsIndexOf}
 
 -- the merge of two lists of entries, unless memory ran out
 pub record IsMergeOf (newer older : List Entry) (deepest : Bool) (merged : Result (Vec Entry Global) AllocError) : Type 0 where
   pub ascending : IfOk merged (λ list. IsAscending list.items)
   pub winners : IfOk merged (λ list. (key : ℕ) → entry_at list.items key ≡ kept deepest (winner_at newer older key))
-
--- the index of the keys of a level, unless memory ran out
-pub record IsIndexFor (keys : List ℕ) (built : Result PgmIndex AllocError) : Type 0 where
-  pub keys_are : IfOk built (λ index. index.keys ≡ keys)
-  pub eps : IfOk built (λ index. index.eps ≡ 64)
-  pub eps_rec : IfOk built (λ index. index.eps_rec ≡ 4)
-  pub index : IfOk built (λ index. IsIndex keys 64 4 index.levels)
 
 -- the closure may be called with any two ascending lists, and gives their merge
 abbrev pub Merges : {F : Type 0} → Shared F (Bor (List Entry) × (Bor (List Entry) × (Bool × Unit {0}))) (Result (Vec Entry Global) AllocError) → F → Type 0
@@ -27,4 +20,4 @@ Merges g f = (newer older : Bor (List Entry)) (deepest : Bool) → IsAscending n
 
 -- the closure may be called with any keys, and gives their index
 abbrev pub Builds : {F : Type 0} → Shared F (List ℕ × Unit {0}) (Result PgmIndex AllocError) → F → Type 0
-Builds g f = (keys : List ℕ) → g.pre f (keys, tt) × ((built : Result PgmIndex AllocError) → g.post f (keys, tt) built → IsIndexFor keys built)
+Builds g f = (keys : List ℕ) → g.pre f (keys, tt) × ((built : Result PgmIndex AllocError) → g.post f (keys, tt) built → IfOk built (IsIndexOf keys 64 4))

@@ -1,12 +1,13 @@
 // How levels are made: on the calling thread, or by workers.
 ghost use Rattle.std.specs.Prelude.{◌≡◌, ℕ, ◌≤◌, IfOk};
 ghost use Rattle.tombstones.specs.Entries.{IsAscending, entry_at, winner_at, kept};
-ghost use Rattle.levels.specs.Indexes.{IsIndex};
+ghost use Rattle.levels.specs.Indexes.{IsIndexOf};
 ghost use Rattle.map_level.specs.Builders.{Merges, Builds};
 
 use budget::NoMemory;
 use edge::Gate;
-use levels::{EPS, EPS_REC, Index, Keys};
+use levels::{Index, Keys};
+use options::{Bounds, EPS, EPS_REC, Pieces};
 use piece_join::even_cuts;
 use std::alloc::Global;
 use std::thread::Threads;
@@ -36,10 +37,7 @@ pub trait Builder {
     /// Builds the index of a level's keys.
     fn index(&self, keys: Keys) -> Built
         requires { ready self.now }
-        ensures keys { IfOk result (λ index. index.keys ≡ keys) }
-        ensures eps { IfOk result (λ index. index.eps ≡ EPS) }
-        ensures eps_rec { IfOk result (λ index. index.eps_rec ≡ EPS_REC) }
-        ensures index { IfOk result (λ index. IsIndex keys EPS EPS_REC index.levels) };
+        ensures { IfOk result (IsIndexOf keys EPS EPS_REC) };
 }
 
 /// The calling thread.
@@ -56,7 +54,11 @@ impl Builder for Here {
     }
 
     fn index(&self, keys: Keys) -> Built {
-        Index::of(self.alloc, keys, EPS, EPS_REC)
+        let bounds = Bounds {
+            eps: EPS,
+            eps_rec: EPS_REC,
+        };
+        Index::of(self.alloc, keys, bounds)
     }
 }
 
@@ -100,13 +102,17 @@ pub fn index_in_pieces<R: Threads + Sync, G: Gate>(
 ) -> Built
     requires staffed { 1 ≤ workers }
     requires few_workers { workers ≤ 64 }
-    ensures keys { IfOk result (λ index. index.keys ≡ keys) }
-    ensures eps { IfOk result (λ index. index.eps ≡ EPS) }
-    ensures eps_rec { IfOk result (λ index. index.eps_rec ≡ EPS_REC) }
-    ensures index { IfOk result (λ index. IsIndex keys EPS EPS_REC index.levels) }
+    ensures { IfOk result (IsIndexOf keys EPS EPS_REC) }
 {
     let points = keys.point_count();
-    let pieces = (points / PIECE).clamp(1, workers);
+    let pieces = Pieces {
+        count: (points / PIECE).clamp(1, workers),
+    };
     let cuts = even_cuts(alloc, points, pieces)?;
-    Index::build(rt, alloc, keys, EPS, EPS_REC, &cuts, workers, gate)
+    let bounds = Bounds {
+        eps: EPS,
+        eps_rec: EPS_REC,
+    };
+    let workers = options::Workers { count: workers };
+    Index::build(rt, alloc, keys, bounds, &cuts, workers, gate)
 }

@@ -13,7 +13,8 @@ use crate::builder::Builder;
 use crate::filter::{Filter, HashedKey, keys_with_filter};
 use crate::grid::Grid;
 use budget::NoMemory;
-use levels::{EPS, EPS_REC, Index};
+use levels::Index;
+use options::{EPS, EPS_REC};
 use std::alloc::Global;
 use std::marker::Model;
 use tombstones::Entry;
@@ -72,7 +73,7 @@ impl Level {
         let (keys, filter) = keys_with_filter(alloc, &entries)?;
         let index = builder.index(keys)?;
         // The keys are in a nearer cache than the entries.
-        let grid = Grid::of(alloc, index.keys().file())?;
+        let grid = Grid::of(alloc, index.keys().as_slice())?;
         Ok(Level {
             entries,
             index,

@@ -119,7 +119,7 @@ fn three_blocks_by_workers(rt: HostRuntime) -> Result<(), Fail> {
     if three.shape(1).is_some() {
         let index = three.index(1);
         assert_eq!(rt; index.keys().len(), 96);
-        assert_eq!(rt; index.levels(), 1);
+        assert_eq!(rt; index.level_count(), 1);
         assert_eq!(rt; index.position(0), 0);
         assert_eq!(rt; index.position(40), 40);
         assert_eq!(rt; index.position(96), 96);

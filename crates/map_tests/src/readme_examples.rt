@@ -5,7 +5,7 @@ use crate::tombstones_rows::{del, put};
 use boxes::Boxes;
 use cut_witness::check_cover;
 use exact_cross::PointList;
-use levels::{Index, Keys, OpenGate};
+use levels::{Bounds, Index, Keys, OpenGate};
 use lines::{lines_of, position, upper_bound};
 use log_levels::{LogMap, Update};
 use map_level::{HashedKey, Here, Level, latest_of};
@@ -18,7 +18,11 @@ use zorder::Region;
 fn levels_example(rt: HostRuntime) -> Result<(), Fail> {
     let list = vec![in rt.alloc(); 1, 4, 9, 9, 16]?;
     let keys = Keys::tested(list)?;
-    let index = Index::of(rt.alloc(), keys, 64, 4)?;
+    let bounds = Bounds {
+        eps: 64,
+        eps_rec: 4,
+    };
+    let index = Index::of(rt.alloc(), keys, bounds)?;
     assert_eq!(rt; index.position(9), 2);
     assert_eq!(rt; index.position(10), 4);
     Ok(())

@@ -19,6 +19,7 @@ use claims::{Claims, Seat};
 use edge::Gate;
 use exact_cross::{MAX_EPSILON, PointList, Segment};
 use hulls::Hulls;
+use options::Workers;
 use std::alloc::Global;
 use std::marker::Brand;
 use std::sync::ledger::{Blank, Ledger};
@@ -29,7 +30,7 @@ use std::thread::Threads;
 /// makes, for all cuts, numbers of workers and gates.
 ///
 /// The places are cut into pieces before each place of `cuts`, which rise strictly from 1 to the
-/// last place and are 65,535 at most. Each of the `workers`, 1 to 64, draws the number of the next
+/// last place and are 65,535 at most. Each of the `workers` draws the number of the next
 /// piece and segments it until there are none left, and then the pieces are joined. Worker threads
 /// are joined before the call returns; where one can't be started the caller does its work. The
 /// gate is passed at `PieceBegun` before each piece and at `PieceDone` after it. The call returns
@@ -54,14 +55,12 @@ pub fn segment_in_pieces<R: Threads + Sync, G: Gate>(
     points: PointList<'_>,
     eps: u32,
     cuts: &[u32],
-    workers: u32,
+    workers: Workers,
     gate: &G,
 ) -> Result<Vec<Segment>, NoMemory>
     requires bounded { eps ≤ MAX_EPSILON }
     requires cuts { AreCuts (length points.xs.now) cuts.now }
     requires few_cuts { length cuts.now ≤ 65535 }
-    requires staffed { 1 ≤ workers }
-    requires few_workers { workers ≤ 64 }
     ensures segmentation { IfOk result (λ segments.
         IsSegmentation (points_in points.entry) eps 0 (length points.entry.xs.now) segments.items) }
     // It is the list that one thread makes of all points.
@@ -79,15 +78,13 @@ pub fn all_parts<'a, R: Threads + Sync, G: Gate>(
     rt: &R,
     alloc: Global,
     work: &'a Work<'a>,
-    workers: u32,
+    workers: Workers,
     gate: &G,
 ) -> Result<Vec<Vec<Segment>>, NoMemory>
-    requires staffed { 1 ≤ workers }
-    requires few_workers { workers ≤ 64 }
     ensures { IfOk result (λ parts. ArePlaced work.now parts.items) }
 {
     // A worker without a piece would only be started and told that there is none.
-    let seated = workers.min(work.pieces());
+    let seated = workers.count.min(work.pieces());
     let (claims, seats) = Claims::new(alloc, work.pieces(), seated)?;
     let done = all_done(rt, alloc, work, &claims, gate, seats)?;
     placed(alloc, work, claims, done)

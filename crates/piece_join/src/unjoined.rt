@@ -12,6 +12,7 @@ use crate::work::Work;
 use budget::NoMemory;
 use edge::Gate;
 use exact_cross::{MAX_EPSILON, PointList, Segment};
+use options::Workers;
 use std::alloc::Global;
 use std::thread::Threads;
 
@@ -31,14 +32,12 @@ pub fn relaxed<R: Threads + Sync, G: Gate>(
     points: PointList<'_>,
     eps: u32,
     cuts: &[u32],
-    workers: u32,
+    workers: Workers,
     gate: &G,
 ) -> Result<Vec<Segment>, NoMemory>
     requires bounded { eps ≤ MAX_EPSILON }
     requires cuts { AreCuts (length points.xs.now) cuts.now }
     requires few_cuts { length cuts.now ≤ 65535 }
-    requires staffed { 1 ≤ workers }
-    requires few_workers { workers ≤ 64 }
     ensures relaxed { IfOk result (λ segments. IsRelaxed
         (points_in points.entry) eps 0 (length points.entry.xs.now) cuts.now segments.items) }
     // It is the list that one thread makes of the pieces.

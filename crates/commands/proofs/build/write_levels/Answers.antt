@@ -25,7 +25,7 @@ pub loop-i-preserved : goal.loop-i-preserved
 loop-i-preserved g c =
     let piece = c.as_bytes.result.now in
     written_more g.S.Sink c.args.out.now c.loop-i.out c.hand_over.new.out _ _ _ (piece ∷ [])
-    (begins c.args.index.now.keys (bounds_of c.args.bounds) c.args.slack c.args.index.now.levels c.loop-i.i piece (omega (arith, c.levels-i-end.ensures.count))
+    (begins c.args.index.now.keys (bounds_of c.args.bounds) c.args.slack c.args.index.now.levels c.loop-i.i piece (omega (arith, c.level_count-i-end.ensures.count))
     (c.as_bytes.ensures ∙ c.fill_level_line.ensures)) c.in_ok-hand_over.ensures.ok c.loop-i.invariant
 
 pub returns-in_err-hand_over-clause-err : goal.returns-in_err-hand_over-clause-err
@@ -33,11 +33,11 @@ returns-in_err-hand_over-clause-err g c =
     let piece = c.as_bytes.result.now in
     on_err c.from_residual.result _
     (breaks_off_there g.S.Sink c.args.out.now c.loop-i.out c.hand_over.new.out _ _ _ (piece ∷ [])
-    (begins c.args.index.now.keys (bounds_of c.args.bounds) c.args.slack c.args.index.now.levels c.loop-i.i piece (omega (arith, c.levels-i-end.ensures.count))
+    (begins c.args.index.now.keys (bounds_of c.args.bounds) c.args.slack c.args.index.now.levels c.loop-i.i piece (omega (arith, c.level_count-i-end.ensures.count))
     (c.as_bytes.ensures ∙ c.fill_level_line.ensures)) c.in_err-hand_over.ensures.err c.loop-i.invariant)
 
 pub returns-clause-ok : goal.returns-clause-ok
 returns-clause-ok g c =
     written_all g.S.Sink c.args.out.now c.loop-i.out _ _
     (told_end (built_level c.args.index.now.keys (bounds_of c.args.bounds) c.args.slack c.args.index.now.levels) (length c.args.index.now.levels) c.loop-i.i
-    (omega (arith, c.levels-i-end.ensures.count))) c.loop-i.invariant
+    (omega (arith, c.level_count-i-end.ensures.count))) c.loop-i.invariant

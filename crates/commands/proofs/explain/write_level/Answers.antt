@@ -21,7 +21,7 @@ returns-clause-ok g c =
     let index = c.args.index.now in
     let head = level_line_of index.keys (bounds_of c.args.bounds) None index.levels c.args.i in
     let runs = run_lines (level_at index.levels c.args.i) (length (xs_at index.keys index.levels c.args.i)) in
-    let runs_are = ap₂ run_lines c.level.ensures.segments c.point_count.ensures in
+    let runs_are = ap₂ run_lines c.segments.ensures.segments c.point_count.ensures in
     ok_behind g.S.Sink c.args.out.now c.hand_over.new.out c.write_runs.new.out (head ∷ []) runs c.write_runs.result
     (head_written g.S.Sink _ _ c.as_bytes.result.now head (c.as_bytes.ensures ∙ c.fill_level_line.ensures) c.in_ok-hand_over.ensures.ok)
     (subst (λ (r : List (List ℕ)). OnOk c.write_runs.result (Writes g.S.Sink c.hand_over.new.out c.write_runs.new.out r)) runs_are c.write_runs.ensures.ok)
@@ -31,7 +31,7 @@ returns-clause-err g c =
     let index = c.args.index.now in
     let head = level_line_of index.keys (bounds_of c.args.bounds) None index.levels c.args.i in
     let runs = run_lines (level_at index.levels c.args.i) (length (xs_at index.keys index.levels c.args.i)) in
-    let runs_are = ap₂ run_lines c.level.ensures.segments c.point_count.ensures in
+    let runs_are = ap₂ run_lines c.segments.ensures.segments c.point_count.ensures in
     err_behind g.S.Sink c.args.out.now c.hand_over.new.out c.write_runs.new.out (head ∷ []) runs c.write_runs.result
     (head_written g.S.Sink _ _ c.as_bytes.result.now head (c.as_bytes.ensures ∙ c.fill_level_line.ensures) c.in_ok-hand_over.ensures.ok)
     (subst (λ (r : List (List ℕ)). OnErr c.write_runs.result (BreaksOff g.S.Sink c.hand_over.new.out c.write_runs.new.out r)) runs_are c.write_runs.ensures.err)

@@ -1,13 +1,17 @@
 use Rattle.std.proofs.Common.{◌≡◌, ◌+◌, ◌<◌, [], ◌∷◌, ◌++◌, ◌∙◌, ap, sym, drop, drop-cons, add-one, get_or, length, arith, ℕ, List}
 use Rattle.std.proofs.lemmas.List.{drop_all}
 use Rattle.written.proofs.CallerLemmas.{written_none, written_more, written_all, breaks_off_there}
+use Rattle.levels.specs.declared.windows.LevelWindow.{LevelWindow}
 use Rattle.commands.specs.Texts.Query.{window_line, window_lines}
 use Rattle.commands.proofs.WritingLemmas.{on_err}
 use Rattle.commands.proofs.query.write_windows.Goals as goal
 
+no_window : LevelWindow
+no_window = record { level = 0; low = 0; high = 0 }
+
 -- what is left begins with the piece of this window
-begins : (windows : List (ℕ × ℕ × ℕ)) (i : ℕ) (d : ℕ × ℕ × ℕ) (piece : List ℕ) → i < length windows →
-    piece ≡ window_line (get_or windows i d).0 (get_or windows i d).1 (get_or windows i d).2 →
+begins : (windows : List LevelWindow) (i : ℕ) (d : LevelWindow) (piece : List ℕ) → i < length windows →
+    piece ≡ window_line (get_or windows i d).level (get_or windows i d).low (get_or windows i d).high →
     window_lines (drop i windows) ≡ (piece ∷ []) ++ window_lines (drop (i + 1) windows)
 begins windows i d piece there is =
     ap window_lines (drop-cons windows i d there ∙ ap (λ (n : ℕ). get_or windows i d ∷ drop n windows) (sym (add-one i)))
@@ -20,14 +24,14 @@ pub loop-i-preserved : goal.loop-i-preserved
 loop-i-preserved g c =
     let piece = c.as_bytes.result.now in
     written_more g.S.Sink c.args.out.now c.loop-i.out c.hand_over.new.out _ _ _ (piece ∷ [])
-    (begins c.args.windows.now c.loop-i.i (0, 0, 0) piece (omega arith) (c.as_bytes.ensures ∙ c.fill_window_line.ensures)) c.in_ok-hand_over.ensures.ok c.loop-i.invariant
+    (begins c.args.windows.now c.loop-i.i no_window piece (omega arith) (c.as_bytes.ensures ∙ c.fill_window_line.ensures)) c.in_ok-hand_over.ensures.ok c.loop-i.invariant
 
 pub returns-in_err-hand_over-clause-err : goal.returns-in_err-hand_over-clause-err
 returns-in_err-hand_over-clause-err g c =
     let piece = c.as_bytes.result.now in
     on_err c.from_residual.result _
     (breaks_off_there g.S.Sink c.args.out.now c.loop-i.out c.hand_over.new.out _ _ _ (piece ∷ [])
-    (begins c.args.windows.now c.loop-i.i (0, 0, 0) piece (omega arith) (c.as_bytes.ensures ∙ c.fill_window_line.ensures)) c.in_err-hand_over.ensures.err c.loop-i.invariant)
+    (begins c.args.windows.now c.loop-i.i no_window piece (omega arith) (c.as_bytes.ensures ∙ c.fill_window_line.ensures)) c.in_err-hand_over.ensures.err c.loop-i.invariant)
 
 pub returns-clause-ok : goal.returns-clause-ok
 returns-clause-ok g c =

@@ -18,7 +18,7 @@ returns-in_err-write_index-clause-err g c =
 
 pub returns-clause-ok : goal.returns-clause-ok
 returns-clause-ok g c =
-    let keys : c.file-keys.result.now ≡ c.args.index.now.keys = c.file-keys.ensures.keys ∙ c.keys.ensures in
+    let keys : c.as_slice-keys.result.now ≡ c.args.index.now.keys = c.as_slice-keys.ensures.keys ∙ c.keys.ensures in
     ok_told_behind g.S.Sink c.args.out.now c.write_index.new.out c.write_answers.new.out _
     (λ p. IsAnswered c.args.index.now.keys (bounds_of c.args.bounds) c.args.questions.now false p) c.write_answers.result c.in_ok-write_index.ensures.ok
     (subst (λ (k : List ℕ). OnOk c.write_answers.result ((p : List (List ℕ)) × IsAnswered k (bounds_of c.args.bounds) c.args.questions.now false p
@@ -26,7 +26,7 @@ returns-clause-ok g c =
 
 pub returns-clause-err : goal.returns-clause-err
 returns-clause-err g c =
-    let keys : c.file-keys.result.now ≡ c.args.index.now.keys = c.file-keys.ensures.keys ∙ c.keys.ensures in
+    let keys : c.as_slice-keys.result.now ≡ c.args.index.now.keys = c.as_slice-keys.ensures.keys ∙ c.keys.ensures in
     err_told_behind g.S.Sink c.args.out.now c.write_index.new.out c.write_answers.new.out _
     (λ p. IsAnswered c.args.index.now.keys (bounds_of c.args.bounds) c.args.questions.now false p) c.write_answers.result c.in_ok-write_index.ensures.ok
     (subst (λ (k : List ℕ). OnErr c.write_answers.result ((p : List (List ℕ)) × IsAnswered k (bounds_of c.args.bounds) c.args.questions.now false p

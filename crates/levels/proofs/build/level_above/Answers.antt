@@ -5,7 +5,7 @@ use Rattle.levels.proofs.build.level_above.Goals as goal
 
 pub first_xs_of-requires : goal.first_xs_of-requires
 first_xs_of-requires g c =
-    starts_inside c.args.points.now c.args._eps c.args.eps_rec c.args.levels.now (length c.args.levels.now - 1) c.index-levels-below.result c.list_at.result.now c.deref.result.now
+    starts_inside c.args.points.now c.args.bounds.eps c.args.bounds.eps_rec c.args.levels.now (length c.args.levels.now - 1) c.index-levels-below.result c.list_at.result.now c.deref.result.now
     c.requires.levels (omega (arith, c.requires.some)) c.index-levels-below.is c.deref.ensures.value c.list_at.ensures
 
 pub places_of-requires : goal.places_of-requires
@@ -15,7 +15,7 @@ places_of-requires g c =
     let last : length levels - 1 + 1 ≡ length levels = omega (arith, c.requires.some) in
     let xs_are = above_xs keys levels (length levels - 1) c.index-levels-below.result c.list_at.result.now c.in_ok-xs.xs.items c.deref.result.now last
     c.index-levels-below.is c.deref.ensures.value c.list_at.ensures c.in_ok-xs.ensures in
-    let ascends = ascends_next keys c.args._eps c.args.eps_rec levels c.requires.levels (length levels) (omega arith) in
+    let ascends = ascends_next keys c.args.bounds.eps c.args.bounds.eps_rec levels c.requires.levels (length levels) (omega arith) in
     omega (arith, ap length c.as_slice.ensures.value, ap length xs_are, ascends.few, c.requires.levels.few)
 
 pub new-list-requires : goal.new-list-requires
@@ -26,7 +26,7 @@ new-list-requires g c =
     let xs_are = above_xs keys levels (length levels - 1) c.index-levels-below.result c.list_at.result.now c.in_ok-xs.xs.items c.deref.result.now last
     c.index-levels-below.is c.deref.ensures.value c.list_at.ensures c.in_ok-xs.ensures in
     let ys_are = above_ys keys levels (length levels - 1) c.in_ok-xs.xs.items c.in_ok-ys.ys.items last xs_are (rw c.as_slice.ensures.value at c.in_ok-ys.ensures) in
-    let ascends = ascends_list keys c.args._eps c.args.eps_rec levels c.in_ok-xs.xs.items c.in_ok-ys.ys.items c.requires.levels xs_are ys_are in
+    let ascends = ascends_list keys c.args.bounds.eps c.args.bounds.eps_rec levels c.in_ok-xs.xs.items c.in_ok-ys.ys.items c.requires.levels xs_are ys_are in
     rw (c.as_slice-2.ensures.value, c.as_slice-3.ensures.value) (record { same_length = ascends.0; rising = ascends.1; never_falls = ascends.2; few = ascends.3 })
 
 pub returns-clause-next : goal.returns-clause-next
@@ -39,9 +39,9 @@ returns-clause-next g c =
     let ys_are = above_ys keys levels (length levels - 1) c.in_ok-xs.xs.items c.in_ok-ys.ys.items last xs_are (rw c.as_slice.ensures.value at c.in_ok-ys.ensures) in
     let own = rw (c.new-list.ensures.xs, c.new-list.ensures.ys, c.as_slice-2.ensures.value, c.as_slice-3.ensures.value) at c.in_ok-runs.ensures in
     record {
-      segments = above_level keys c.args._eps c.args.eps_rec levels c.in_ok-xs.xs.items c.in_ok-ys.ys.items c.in_ok-runs.runs.segments.items (omega (arith, last)) xs_are ys_are own.segments;
-      models = level_models keys c.args._eps c.args.eps_rec levels c.in_ok-xs.xs.items c.in_ok-ys.ys.items c.args.eps_rec c.in_ok-runs.runs.segments.items c.in_ok-runs.runs.models.items
-          xs_are ys_are (eps_at-above c.args._eps c.args.eps_rec (length levels) (omega (arith, last))) own.models;
+      segments = above_level keys c.args.bounds.eps c.args.bounds.eps_rec levels c.in_ok-xs.xs.items c.in_ok-ys.ys.items c.in_ok-runs.runs.segments.items (omega (arith, last)) xs_are ys_are own.segments;
+      models = level_models keys c.args.bounds.eps c.args.bounds.eps_rec levels c.in_ok-xs.xs.items c.in_ok-ys.ys.items c.args.bounds.eps_rec c.in_ok-runs.runs.segments.items c.in_ok-runs.runs.models.items
+          xs_are ys_are (eps_at-above c.args.bounds.eps c.args.bounds.eps_rec (length levels) (omega (arith, last))) own.models;
       xs = xs_are;
     }
 

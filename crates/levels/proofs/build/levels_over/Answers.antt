@@ -20,7 +20,7 @@ loop-runs-init g c =
     let order = rw c.keys.ensures.keys at c.keys.ensures.never_falls in
     let few = rw c.keys.ensures.keys at c.keys.ensures.few in
     let is : c.push.new.self.items ≡ level ∷ [] = rw c.new-levels.ensures.items at c.in_ok-push.ensures.items in
-    let all = AreLevels-base keys c.args.eps c.args.eps_rec level order few c.requires.bounded c.requires.bounded_rec (rw own c.requires.segments) (rw own c.in_ok-level_0.ensures.models) in
+    let all = AreLevels-base keys c.args.bounds.eps c.args.bounds.eps_rec level order few c.args.bounds.bounded c.args.bounds.bounded_above (rw own c.requires.segments) (rw own c.in_ok-level_0.ensures.models) in
     rw is (record {
       levels = all;
       some = some;
@@ -34,7 +34,7 @@ pub loop-runs-smaller : goal.loop-runs-smaller
 loop-runs-smaller g c =
     let inv = c.loop-runs.invariant in
     let own = rw c.deref.ensures.value at c.in_ok-level.ensures in
-    let fewer = fewer_above c.args.points.now c.args.eps c.args.eps_rec c.loop-runs.levels.items c.loop-runs.runs c.in_ok-level.level.segments.items inv.levels inv.some inv.above inv.last
+    let fewer = fewer_above c.args.points.now c.args.bounds.eps c.args.bounds.eps_rec c.loop-runs.levels.items c.loop-runs.runs c.in_ok-level.level.segments.items inv.levels inv.some inv.above inv.last
     (λ one. c.loop-runs-test.true one) own.next.segments in
     omega (arith, fewer, c.in_ok-level.level.segments.ok.0)
 
@@ -46,8 +46,8 @@ loop-runs-preserved g c =
     let inv = c.loop-runs.invariant in
     let own = rw c.deref.ensures.value at c.in_ok-level.ensures in
     let to = length (xs_at keys (segments_of levels) (length levels)) in
-    let laid = IsLaid-from_piece (points_at keys (segments_of levels) (length levels)) (eps_at c.args.eps c.args.eps_rec (length levels)) 0 to level.segments.items (omega arith) own.next.segments in
-    let all = AreLevels-push keys c.args.eps c.args.eps_rec levels level inv.levels (λ i last one. c.loop-runs-test.true (sym (inv.last i last) ∙ one)) laid (λ some. own.next.segments) own.next.models
+    let laid = IsLaid-from_piece (points_at keys (segments_of levels) (length levels)) (eps_at c.args.bounds.eps c.args.bounds.eps_rec (length levels)) 0 to level.segments.items (omega arith) own.next.segments in
+    let all = AreLevels-push keys c.args.bounds.eps c.args.bounds.eps_rec levels level inv.levels (λ i last one. c.loop-runs-test.true (sym (inv.last i last) ∙ one)) laid (λ some. own.next.segments) own.next.models
     (λ some. own.next.xs) in
     let count : length (levels ++ level ∷ []) ≡ length levels + 1 = length-append levels (level ∷ []) in
     let places : places_below keys (segments_of (levels ++ level ∷ [])) (length (levels ++ level ∷ []))
@@ -65,4 +65,4 @@ loop-runs-preserved g c =
 pub returns-clause-stored : goal.returns-clause-stored
 returns-clause-stored g c =
     let inv = c.loop-runs.invariant in
-    AreStored-in c.args.points.now c.args.eps c.args.eps_rec c.loop-runs.levels.items inv.levels inv.some inv.above (λ i last. inv.last i last ∙ omega (arith, c.loop-runs-test.false))
+    AreStored-in c.args.points.now c.args.bounds.eps c.args.bounds.eps_rec c.loop-runs.levels.items inv.levels inv.some inv.above (λ i last. inv.last i last ∙ omega (arith, c.loop-runs-test.false))

@@ -8,7 +8,7 @@ use Rattle.levels.proofs.build.levels_over.Given as goal
 
 abbrev pub invariant-loop-runs : goal.invariant-loop-runs
 invariant-loop-runs g l = record {
-  levels : AreLevels l.points l.eps l.eps_rec l.levels.items;
+  levels : AreLevels l.points l.bounds.eps l.bounds.eps_rec l.levels.items;
   some : 0 < length l.points;
   above : 0 < length l.levels.items;
   last : (i : ℕ) → i + 1 ≡ length l.levels.items → length (level_at (segments_of l.levels.items) i) ≡ l.runs;

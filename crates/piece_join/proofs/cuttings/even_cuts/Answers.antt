@@ -7,7 +7,7 @@ use Rattle.piece_join.proofs.cuttings.even_cuts.Goals as goal
 pub loop-k-preserved : goal.loop-k-preserved
 loop-k-preserved c =
     let m = c.args.m in
-    let pieces = c.args.pieces in
+    let pieces = c.args.pieces.count in
     let k = c.loop-k.k in
     let items = c.loop-k.cuts.items in
     let inv = c.loop-k.invariant in
@@ -20,5 +20,5 @@ loop-k-preserved c =
 
 pub returns-clause-places : goal.returns-clause-places
 returns-clause-places c =
-    let at_end : c.loop-k.k ≡ c.args.pieces = omega (arith, c.loop-k.auto.k-end (omega arith)) in
-    subst (λ (n : ℕ). AreCutsAt c.args.m n (even_place c.args.m c.args.pieces) c.loop-k.cuts.items) at_end c.loop-k.invariant.places
+    let at_end : c.loop-k.k ≡ c.args.pieces.count = omega (arith, c.loop-k.auto.k-end (omega arith)) in
+    subst (λ (n : ℕ). AreCutsAt c.args.m n (even_place c.args.m c.args.pieces.count) c.loop-k.cuts.items) at_end c.loop-k.invariant.places

@@ -10,7 +10,7 @@ use Rattle.levels.proofs.index.Index.entry_run.Goals as goal
 pub returns-then-entry-levels-clause-found : goal.returns-then-entry-levels-clause-found
 returns-then-entry-levels-clause-found g c =
     let value = c.args.self.now in
-    top_run value.keys value.eps value.eps_rec value.levels c.requires.laid.never_falls c.requires.laid.index no_segment c.args.entry c.args.q (omega (arith, c.levels-levels.ensures.count, c.if-entry-levels.true))
+    top_run value.keys value.eps value.eps_rec value.levels c.requires.laid.never_falls c.requires.laid.index no_segment c.args.entry c.args.q (omega (arith, c.level_count-levels.ensures.count, c.if-entry-levels.true))
     (some_keys value.keys value.levels c.requires.laid.index.none c.requires.some) c.requires.from_first
 
 pub overflow_cast-list : goal.overflow_cast-list

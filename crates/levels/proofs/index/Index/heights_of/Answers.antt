@@ -35,7 +35,7 @@ overflow_cast-high c =
     omega (arith, model.ends, c.eps_of.ensures.bound, c.from.ensures, height, c.requires.laid.few)
 
 pub bounds-segments-run : goal.bounds-segments-run
-bounds-segments-run c = omega (arith, c.requires.run, ap length c.level-segments.ensures.segments)
+bounds-segments-run c = omega (arith, c.requires.run, ap length c.segments-segments.ensures.segments)
 
 pub returns-then-level-eq0 : goal.returns-then-level-eq0
 returns-then-level-eq0 c = λ e d ends.
@@ -62,8 +62,8 @@ returns c = λ e d ends.
     let line = line_there value.keys value.eps value.eps_rec value.levels order index c.requires.laid.few level c.args.run d (level_at value.levels level)
     (omega (arith, c.eps_of.ensures.bound, c.eps_of.ensures.bounded)) c.requires.inside c.requires.run refl in
     let start = (slice_index_or (level_at value.levels level) c.args.run d).start in
-    let own : (slice_index_or c.level-segments.result.now c.args.run no_segment).start ≡ start =
-    ap (λ (s : List Segment). (slice_index_or s c.args.run no_segment).start) c.level-segments.ensures.segments
+    let own : (slice_index_or c.segments-segments.result.now c.args.run no_segment).start ≡ start =
+    ap (λ (s : List Segment). (slice_index_or s c.args.run no_segment).start) c.segments-segments.ensures.segments
     ∙ ap (λ (s : Segment). s.start) (get_or_default (level_at value.levels level) c.args.run no_segment d c.requires.run) in (
       own ∙ sym (height_above value.keys value.eps value.eps_rec value.levels order index level start (omega (arith, c.if-level-eq0.false)) (omega (arith, line.some, line.within))),
       omega (arith, model.ends, c.eps_of.ensures.bound, c.from.ensures),

@@ -15,8 +15,8 @@ none_below keys q order first =
 pub returns-then-q-first-clause-found : goal.returns-then-q-first-clause-found
 returns-then-q-first-clause-found g c =
     let keys = c.args.self.now.keys in
-    let file : c.file-keys.result.now ≡ keys = c.file-keys.ensures.keys ∙ c.keys.ensures in
-    let order : IsNonDecreasing keys = subst IsNonDecreasing file c.file-keys.ensures.never_falls in
+    let file : c.as_slice-keys.result.now ≡ keys = c.as_slice-keys.ensures.keys ∙ c.keys.ensures in
+    let order : IsNonDecreasing keys = subst IsNonDecreasing file c.as_slice-keys.ensures.never_falls in
     let read : c.read-first.result ≡ slice_index keys 0 = c.read-first.ensures.key ∙ ap (λ (l : List ℕ). slice_index l 0) (c.new.ensures ∙ file) in
     none_below keys c.args.q order (λ some. omega (arith, c.if-q-first.true, read))
 
@@ -28,7 +28,7 @@ returns-then-q-first-clause-cost g c = λ some.
 pub run_of-run-requires-clause-from_first : goal.run_of-run-requires-clause-from_first
 run_of-run-requires-clause-from_first g c =
     let value = c.args.self.now in
-    let file : c.file-keys.result.now ≡ value.keys = c.file-keys.ensures.keys ∙ c.keys.ensures in
+    let file : c.as_slice-keys.result.now ≡ value.keys = c.as_slice-keys.ensures.keys ∙ c.keys.ensures in
     let read : c.read-first.result ≡ slice_index value.keys 0 = c.read-first.ensures.key ∙ ap (λ (l : List ℕ). slice_index l 0) (c.new.ensures ∙ file) in
     omega (arith, c.if-q-first.false, read)
 

@@ -30,7 +30,7 @@ loop-lane-2-preserved c =
     let here = c.begun_between-low in
     let first = first_run value.keys value.eps value.eps_rec value.levels runs.never_falls runs.index c.loop-lane.invariant.some in
     let rises = (ascends value.keys value.eps value.eps_rec value.levels runs.never_falls runs.index 1 (runs.index.some c.loop-lane.invariant.some)).rises in
-    let file : slice_index c.file.result.now 0 ≡ slice_index xs 0 = ap (λ (l : List ℕ). slice_index l 0) (c.file.ensures.keys ∙ c.keys-keys.ensures) ∙ sym first.1 in
+    let file : slice_index c.as_slice.result.now 0 ≡ slice_index xs 0 = ap (λ (l : List ℕ). slice_index l 0) (c.as_slice.ensures.keys ∙ c.keys-keys.ensures) ∙ sym first.1 in
     let asked : slice_index c.loop-lane.asked lane ≡ max (slice_index c.args.qs.now lane) (slice_index xs 0) =
     c.loop-lane.invariant.done lane (omega (arith, c.loop-lane-test.false, c.loop-lane-2-test.true)) ∙ ap (max (slice_index c.args.qs.now lane)) file in
     record {
@@ -47,6 +47,6 @@ loop-lane-2-preserved c =
 pub returns-clause-found : goal.returns-clause-found
 returns-clause-found c = λ k inside.
     let value = c.args.self.now in
-    let file : c.file.result.now ≡ value.keys = c.file.ensures.keys ∙ c.keys-keys.ensures in
+    let file : c.as_slice.result.now ≡ value.keys = c.as_slice.ensures.keys ∙ c.keys-keys.ensures in
     c.bounds_below.ensures.found k inside ∙ ap (λ (q : ℕ). lb value.keys q) (c.loop-lane.invariant.done k (omega (arith, inside, c.loop-lane-test.false)))
-    ∙ lb-raised value.keys (slice_index c.args.qs.now k) (slice_index c.file.result.now 0) c.runs-runs.ensures.never_falls (ap (λ (l : List ℕ). slice_index l 0) file)
+    ∙ lb-raised value.keys (slice_index c.args.qs.now k) (slice_index c.as_slice.result.now 0) c.runs-runs.ensures.never_falls (ap (λ (l : List ℕ). slice_index l 0) file)

@@ -32,11 +32,11 @@ pub overflow_sub-high : goal.overflow_sub-high
 overflow_sub-high c =
     let value = c.args.self.now in
     (fits value.keys value.eps value.eps_rec value.levels (slice_index c.args.qs.now c.loop-lane.lane) _ c.in-Some.low c.in-Some.high c.requires.laid.never_falls c.requires.laid.few c.requires.laid.index c.requires.some
-    (omega (arith, c.levels.ensures.count, c.if-levels-lt2.false)) (c.requires.from_first c.loop-lane.lane (omega (arith, c.loop-lane-test.true, c.loop-lane.auto.lane-end))) c.in-Some.ensures).0
+    (omega (arith, c.level_count.ensures.count, c.if-level_count-lt2.false)) (c.requires.from_first c.loop-lane.lane (omega (arith, c.loop-lane-test.true, c.loop-lane.auto.lane-end))) c.in-Some.ensures).0
 
 pub overflow_add-high : goal.overflow_add-high
 overflow_add-high c =
     let value = c.args.self.now in
     let all = fits value.keys value.eps value.eps_rec value.levels (slice_index c.args.qs.now c.loop-lane.lane) _ c.in-Some.low c.in-Some.high c.requires.laid.never_falls c.requires.laid.few c.requires.laid.index c.requires.some
-    (omega (arith, c.levels.ensures.count, c.if-levels-lt2.false)) (c.requires.from_first c.loop-lane.lane (omega (arith, c.loop-lane-test.true, c.loop-lane.auto.lane-end))) c.in-Some.ensures in
+    (omega (arith, c.level_count.ensures.count, c.if-level_count-lt2.false)) (c.requires.from_first c.loop-lane.lane (omega (arith, c.loop-lane-test.true, c.loop-lane.auto.lane-end))) c.in-Some.ensures in
     omega (arith, all.0, all.1, all.2)

@@ -18,7 +18,7 @@ heights_of-low-requires-clause-run c =
 
 pub bounds-segments-run : goal.bounds-segments-run
 bounds-segments-run c =
-    omega (arith, c.requires.run.inside, xs_at-length c.args.self.now.keys c.args.self.now.levels c.args.level, ap length c.level-segments.ensures.segments)
+    omega (arith, c.requires.run.inside, xs_at-length c.args.self.now.keys c.args.self.now.levels c.args.level, ap length c.segments-segments.ensures.segments)
 
 pub extent_of-len-requires-clause-few : goal.extent_of-len-requires-clause-few
 extent_of-len-requires-clause-few c =
@@ -36,9 +36,9 @@ window-requires-clause-in_range c =
     let order = c.requires.laid.never_falls in
     let index = c.requires.laid.index in
     let there = run_there keys eps eps_rec levels order index level c.args.run c.args.q c.requires.run in
-    let line = line_there keys eps eps_rec levels order index c.requires.laid.few level c.args.run no_segment c.level-segments.result.now
-    (omega (arith, c.eps_of-eps.ensures.bound, c.eps_of-eps.ensures.bounded)) c.requires.inside there c.level-segments.ensures.segments in
-    let segment = slice_index_or c.level-segments.result.now c.args.run no_segment in
+    let line = line_there keys eps eps_rec levels order index c.requires.laid.few level c.args.run no_segment c.segments-segments.result.now
+    (omega (arith, c.eps_of-eps.ensures.bound, c.eps_of-eps.ensures.bounded)) c.requires.inside there c.segments-segments.ensures.segments in
+    let segment = slice_index_or c.segments-segments.result.now c.args.run no_segment in
     let end = end_at (level_at levels level) c.args.run (length (xs_at keys levels level)) in
     line.in_range
 
@@ -52,13 +52,13 @@ window-requires-clause-rises c =
     let order = c.requires.laid.never_falls in
     let index = c.requires.laid.index in
     let there = run_there keys eps eps_rec levels order index level c.args.run c.args.q c.requires.run in
-    let line = line_there keys eps eps_rec levels order index c.requires.laid.few level c.args.run no_segment c.level-segments.result.now
-    (omega (arith, c.eps_of-eps.ensures.bound, c.eps_of-eps.ensures.bounded)) c.requires.inside there c.level-segments.ensures.segments in
-    let segment = slice_index_or c.level-segments.result.now c.args.run no_segment in
+    let line = line_there keys eps eps_rec levels order index c.requires.laid.few level c.args.run no_segment c.segments-segments.result.now
+    (omega (arith, c.eps_of-eps.ensures.bound, c.eps_of-eps.ensures.bounded)) c.requires.inside there c.segments-segments.ensures.segments in
+    let segment = slice_index_or c.segments-segments.result.now c.args.run no_segment in
     let end = end_at (level_at levels level) c.args.run (length (xs_at keys levels level)) in
     let heights = c.heights_of-low.ensures end no_segment (run_ends keys eps eps_rec levels order index level c.args.run no_segment c.requires.inside there) in
     let lowest : c.heights_of-low.result.0 ≡ slice_index (ys_at keys levels level) segment.start =
-    heights.0 ∙ ap (λ (s : List Segment). slice_index (ys_at keys levels level) (slice_index_or s c.args.run no_segment).start) (sym c.level-segments.ensures.segments) in
+    heights.0 ∙ ap (λ (s : List Segment). slice_index (ys_at keys levels level) (slice_index_or s c.args.run no_segment).start) (sym c.segments-segments.ensures.segments) in
     let highest : c.heights_of-low.result.1 ≡ slice_index (ys_at keys levels level) (end - 1) = heights.1 in
     let here = ascends keys eps eps_rec levels order index level (omega (arith, c.requires.inside)) in
     omega (arith, lowest, highest, here.ascends.y_never_falls segment.start (end - 1) (omega (arith, line.some)) (omega (arith, line.some, line.within)))
@@ -73,13 +73,13 @@ window-requires-clause-within c =
     let order = c.requires.laid.never_falls in
     let index = c.requires.laid.index in
     let there = run_there keys eps eps_rec levels order index level c.args.run c.args.q c.requires.run in
-    let line = line_there keys eps eps_rec levels order index c.requires.laid.few level c.args.run no_segment c.level-segments.result.now
-    (omega (arith, c.eps_of-eps.ensures.bound, c.eps_of-eps.ensures.bounded)) c.requires.inside there c.level-segments.ensures.segments in
-    let segment = slice_index_or c.level-segments.result.now c.args.run no_segment in
+    let line = line_there keys eps eps_rec levels order index c.requires.laid.few level c.args.run no_segment c.segments-segments.result.now
+    (omega (arith, c.eps_of-eps.ensures.bound, c.eps_of-eps.ensures.bounded)) c.requires.inside there c.segments-segments.ensures.segments in
+    let segment = slice_index_or c.segments-segments.result.now c.args.run no_segment in
     let end = end_at (level_at levels level) c.args.run (length (xs_at keys levels level)) in
     let heights = c.heights_of-low.ensures end no_segment (run_ends keys eps eps_rec levels order index level c.args.run no_segment c.requires.inside there) in
     let lowest : c.heights_of-low.result.0 ≡ slice_index (ys_at keys levels level) segment.start =
-    heights.0 ∙ ap (λ (s : List Segment). slice_index (ys_at keys levels level) (slice_index_or s c.args.run no_segment).start) (sym c.level-segments.ensures.segments) in
+    heights.0 ∙ ap (λ (s : List Segment). slice_index (ys_at keys levels level) (slice_index_or s c.args.run no_segment).start) (sym c.segments-segments.ensures.segments) in
     let highest : c.heights_of-low.result.1 ≡ slice_index (ys_at keys levels level) (end - 1) = heights.1 in
     omega (
       arith,
@@ -98,13 +98,13 @@ returns-clause-exact c =
     let order = c.requires.laid.never_falls in
     let index = c.requires.laid.index in
     let there = run_there keys eps eps_rec levels order index level c.args.run c.args.q c.requires.run in
-    let line = line_there keys eps eps_rec levels order index c.requires.laid.few level c.args.run no_segment c.level-segments.result.now
-    (omega (arith, c.eps_of-eps.ensures.bound, c.eps_of-eps.ensures.bounded)) c.requires.inside there c.level-segments.ensures.segments in
-    let segment = slice_index_or c.level-segments.result.now c.args.run no_segment in
+    let line = line_there keys eps eps_rec levels order index c.requires.laid.few level c.args.run no_segment c.segments-segments.result.now
+    (omega (arith, c.eps_of-eps.ensures.bound, c.eps_of-eps.ensures.bounded)) c.requires.inside there c.segments-segments.ensures.segments in
+    let segment = slice_index_or c.segments-segments.result.now c.args.run no_segment in
     let end = end_at (level_at levels level) c.args.run (length (xs_at keys levels level)) in
     let heights = c.heights_of-low.ensures end no_segment (run_ends keys eps eps_rec levels order index level c.args.run no_segment c.requires.inside there) in
     let lowest : c.heights_of-low.result.0 ≡ slice_index (ys_at keys levels level) segment.start =
-    heights.0 ∙ ap (λ (s : List Segment). slice_index (ys_at keys levels level) (slice_index_or s c.args.run no_segment).start) (sym c.level-segments.ensures.segments) in
+    heights.0 ∙ ap (λ (s : List Segment). slice_index (ys_at keys levels level) (slice_index_or s c.args.run no_segment).start) (sym c.segments-segments.ensures.segments) in
     let highest : c.heights_of-low.result.1 ≡ slice_index (ys_at keys levels level) (end - 1) = heights.1 in
     let predecessor = has_predecessor keys eps eps_rec levels order index no_segment level c.args.run c.args.q c.requires.inside c.requires.run in
     let place : ℕ = predecessor.0 in
@@ -122,13 +122,13 @@ returns-clause-holds c =
     let order = c.requires.laid.never_falls in
     let index = c.requires.laid.index in
     let there = run_there keys eps eps_rec levels order index level c.args.run c.args.q c.requires.run in
-    let line = line_there keys eps eps_rec levels order index c.requires.laid.few level c.args.run no_segment c.level-segments.result.now
-    (omega (arith, c.eps_of-eps.ensures.bound, c.eps_of-eps.ensures.bounded)) c.requires.inside there c.level-segments.ensures.segments in
-    let segment = slice_index_or c.level-segments.result.now c.args.run no_segment in
+    let line = line_there keys eps eps_rec levels order index c.requires.laid.few level c.args.run no_segment c.segments-segments.result.now
+    (omega (arith, c.eps_of-eps.ensures.bound, c.eps_of-eps.ensures.bounded)) c.requires.inside there c.segments-segments.ensures.segments in
+    let segment = slice_index_or c.segments-segments.result.now c.args.run no_segment in
     let end = end_at (level_at levels level) c.args.run (length (xs_at keys levels level)) in
     let heights = c.heights_of-low.ensures end no_segment (run_ends keys eps eps_rec levels order index level c.args.run no_segment c.requires.inside there) in
     let lowest : c.heights_of-low.result.0 ≡ slice_index (ys_at keys levels level) segment.start =
-    heights.0 ∙ ap (λ (s : List Segment). slice_index (ys_at keys levels level) (slice_index_or s c.args.run no_segment).start) (sym c.level-segments.ensures.segments) in
+    heights.0 ∙ ap (λ (s : List Segment). slice_index (ys_at keys levels level) (slice_index_or s c.args.run no_segment).start) (sym c.segments-segments.ensures.segments) in
     let highest : c.heights_of-low.result.1 ≡ slice_index (ys_at keys levels level) (end - 1) = heights.1 in
     let predecessor = has_predecessor keys eps eps_rec levels order index no_segment level c.args.run c.args.q c.requires.inside c.requires.run in
     let place : ℕ = predecessor.0 in

@@ -2,7 +2,7 @@
 use Rattle.std.proofs.Common.{◌∙◌, ap}
 use Rattle.key_points.specs.KeyPoints.{xs_of}
 use Rattle.levels.proofs.LevelLemmas.{xs_at-base}
-use Rattle.levels.proofs.index.Index.list.Goals as goal
+use Rattle.levels.proofs.index.Index.xs.Goals as goal
 
 pub returns-then-i-eq0 : goal.returns-then-i-eq0
 returns-then-i-eq0 c =

@@ -6,7 +6,7 @@ use Rattle.levels.specs.Stored.{segments_of}
 use Rattle.levels.proofs.StoredLemmas.{level_at-kept, segments_of-count}
 use Rattle.levels.proofs.IndexLemmas.{IsLevel-least, laid-shown, laid-checked}
 use Rattle.levels.proofs.HeightLemmas.{long_level}
-use Rattle.levels.proofs.index.Index.level.Goals as goal
+use Rattle.levels.proofs.index.Index.segments.Goals as goal
 
 pub returns-clause-shown : goal.returns-clause-shown
 returns-clause-shown c =
@@ -15,7 +15,7 @@ returns-clause-shown c =
     let inside : c.args.i < length levels = omega (arith, segments_of-count levels, rw (← c.self.view_is) at c.requires) in
     let here : c.deref.result.now ≡ level_at (segments_of levels) c.args.i =
     c.deref.ensures.value ∙ ap (λ (l : Level). l.segments.items) c.index-level.ensures ∙ sym (level_at-kept levels c.args.i c.index-level.result.now inside) in
-    rw (← c.self.view_is, here) (laid-shown own.keys own.eps own.eps_rec (segments_of levels) c.self.invariant.stored.first.never_falls c.self.invariant.stored.index c.self.invariant.stored.first.few
+    rw (← c.self.view_is, here) (laid-shown own.keys own.bounds.eps own.bounds.eps_rec (segments_of levels) c.self.invariant.stored.first.never_falls c.self.invariant.stored.index c.self.invariant.stored.first.few
     c.self.invariant.stored.first.bounded c.self.invariant.stored.first.bounded_rec c.args.i (omega (arith, inside, segments_of-count levels)))
 
 pub returns-clause-above : goal.returns-clause-above
@@ -32,7 +32,7 @@ returns-clause-least c =
     let inside : c.args.i < length levels = omega (arith, segments_of-count levels, rw (← c.self.view_is) at c.requires) in
     let here : c.deref.result.now ≡ level_at (segments_of levels) c.args.i =
     c.deref.ensures.value ∙ ap (λ (l : Level). l.segments.items) c.index-level.ensures ∙ sym (level_at-kept levels c.args.i c.index-level.result.now inside) in
-    rw (← c.self.view_is, here) (IsLevel-least own.keys own.eps own.eps_rec (segments_of levels) c.args.i)
+    rw (← c.self.view_is, here) (IsLevel-least own.keys own.bounds.eps own.bounds.eps_rec (segments_of levels) c.args.i)
 
 pub returns-clause-checked : goal.returns-clause-checked
 returns-clause-checked c =
@@ -41,7 +41,7 @@ returns-clause-checked c =
     let inside : c.args.i < length levels = omega (arith, segments_of-count levels, rw (← c.self.view_is) at c.requires) in
     let here : c.deref.result.now ≡ level_at (segments_of levels) c.args.i =
     c.deref.ensures.value ∙ ap (λ (l : Level). l.segments.items) c.index-level.ensures ∙ sym (level_at-kept levels c.args.i c.index-level.result.now inside) in
-    rw (← c.self.view_is, here) (laid-checked own.keys own.eps own.eps_rec (segments_of levels) c.self.invariant.stored.first.never_falls c.self.invariant.stored.index c.self.invariant.stored.first.few
+    rw (← c.self.view_is, here) (laid-checked own.keys own.bounds.eps own.bounds.eps_rec (segments_of levels) c.self.invariant.stored.first.never_falls c.self.invariant.stored.index c.self.invariant.stored.first.few
     c.self.invariant.stored.first.bounded c.self.invariant.stored.first.bounded_rec c.args.i (omega (arith, inside, segments_of-count levels)))
 
 pub returns-clause-long : goal.returns-clause-long
@@ -52,4 +52,4 @@ returns-clause-long c =
     let here : c.deref.result.now ≡ level_at (segments_of levels) c.args.i =
     c.deref.ensures.value ∙ ap (λ (l : Level). l.segments.items) c.index-level.ensures ∙ sym (level_at-kept levels c.args.i c.index-level.result.now inside) in
     rw (← c.self.view_is, here)
-    (long_level own.keys own.eps own.eps_rec (segments_of levels) c.self.invariant.stored.first.never_falls c.self.invariant.stored.index c.args.i (omega (arith, inside, segments_of-count levels)))
+    (long_level own.keys own.bounds.eps own.bounds.eps_rec (segments_of levels) c.self.invariant.stored.first.never_falls c.self.invariant.stored.index c.args.i (omega (arith, inside, segments_of-count levels)))

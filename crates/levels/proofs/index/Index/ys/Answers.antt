@@ -7,7 +7,7 @@ use Rattle.levels.specs.Indexes.{xs_at, ys_at}
 use Rattle.levels.specs.Stored.{segments_of}
 use Rattle.levels.proofs.LevelLemmas.{ys_at-base, ys_at-above, xs_at-length}
 use Rattle.levels.proofs.LookupLemmas.{ascends}
-use Rattle.levels.proofs.index.Index.ranks.Goals as goal
+use Rattle.levels.proofs.index.Index.ys.Goals as goal
 
 pub returns-then-i-eq0 : goal.returns-then-i-eq0
 returns-then-i-eq0 c =
@@ -19,7 +19,7 @@ places_of-requires c =
     let levels = segments_of own.stored.items in
     let first = c.self.invariant.stored.first in
     let inside : c.args.i < length levels = rw (← c.self.view_is) at c.requires in
-    let here = ascends own.keys own.eps own.eps_rec levels first.never_falls c.self.invariant.stored.index c.args.i (omega (arith, inside)) in
+    let here = ascends own.keys own.bounds.eps own.bounds.eps_rec levels first.never_falls c.self.invariant.stored.index c.args.i (omega (arith, inside)) in
     let is : c.firsts.result.now ≡ xs_at own.keys levels c.args.i = rw (← c.self.view_is) at c.firsts.ensures in
     omega (arith, ap length is, here.few, first.few)
 
