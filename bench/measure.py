@@ -3,16 +3,19 @@
 
 A part runs all sides of its table in turn, so many rounds, keeps the least of each, compares what
 they found, and writes the table between the marks `<!-- NAME -->` and `<!-- end of NAME -->` of the
-page, with the date, the processor and the commit.
+page, with what it shows, the date, the processor and the commit. What a part shows in short goes
+between the marks `<!-- seen NAME -->` and `<!-- end of seen NAME -->`.
 """
 import argparse
 import datetime
 import hashlib
+import math
 import os
 import pathlib
 import re
 import subprocess
 import sys
+import textwrap
 import time
 
 TOP = pathlib.Path(__file__).resolve().parent.parent
@@ -121,6 +124,27 @@ def agree(what, found):
     return values.pop()
 
 
+def mean(values):
+    """The geometric mean."""
+    values = list(values)
+    return math.exp(sum(map(math.log, values)) / len(values))
+
+
+def made_kinds(by_kind):
+    """The times of the kinds that are made, but for consecutive numbers."""
+    return [by_kind[kind] for kind in KINDS[:-1]]
+
+
+def parts(many, way, base):
+    """What part of another way's time a way takes, in each of many."""
+    return [times[way] / times[base] for times in many]
+
+
+def between(values, digits=2):
+    """The least and the greatest of some values."""
+    return f"{min(values):.{digits}f} to {max(values):.{digits}f}"
+
+
 def least(times, key, value):
     times[key] = min(float(value), times.get(key, float("inf")))
 
@@ -161,7 +185,8 @@ def timed_lookups(runs, kind):
     keys, questions = runs.keys(kind), runs.questions(kind)
     times, sums = {}, {}
     for _ in runs.rounds():
-        by_rivals(runs, kind, times, sums)
+        by_rivals(runs, kind, times, sums, "lower_bound", "halving", "pgm_64", "pgm_16",
+                  "buckets_16", "spline_16", "rmi_16", "rmi_20")
         for eps, bits in ((64, ()), (16, (16,))):
             text = runs.run(runs.bench, "lookup", keys, questions, eps, *bits)
             names = f"{eps} index", f"{eps} buckets"
@@ -175,10 +200,31 @@ def pair(times, name):
     return f"{times[name + ' alone']:.0f}, {times[name + ' chained']:.0f}"
 
 
+def by_halving(many, *ways):
+    """What parts of the time of `std::lower_bound` ways take, each a name and what to say of it."""
+    said = []
+    for name, way in ways:
+        alone = parts(many, f"{way} alone", "lower_bound alone")
+        chained = parts(many, f"{way} chained", "lower_bound chained")
+        said.append(f"{name} {mean(alone):.2f} ({max(alone):.2f}), chained "
+                    f"{mean(chained):.2f} ({max(chained):.2f})")
+    return "; ".join(said)
+
+
+def together_by_halving(many, *ways):
+    """The same of sixteen together."""
+    return ", ".join(f"{name} {mean(parts(many, f'{way} together', 'lower_bound alone')):.2f}"
+                     for name, way in ways)
+
+
+SHARES = ("In geometric means over the kinds but `numbers`, parts of the time of "
+          "`std::lower_bound`, with the most on one kind in brackets: ")
+
+
 def lookups(runs):
-    first, second = [], []
+    first, second, by_kind = [], [], {}
     for kind in runs.kinds():
-        times = timed_lookups(runs, kind)
+        times = by_kind[kind] = timed_lookups(runs, kind)
 
         def together(name):
             return f"{times[name + ' together']:.0f}"
@@ -189,11 +235,30 @@ def lookups(runs):
         second.append([kind, *(pair(times, name) for name in (
             "pgm_16", "buckets_16", "spline_16", "rmi_16", "rmi_20", "16 index", "16 buckets")),
             together("16 index"), together("16 buckets")])
+    many = made_kinds(by_kind)
+    says = SHARES + by_halving(many, ("C++ PGM", "pgm_64"), ("`Index`", "64 index"))
+    says += ". Sixteen together, of a single question's: " + together_by_halving(
+        many, ("halving", "halving"), ("C++ PGM", "pgm_64"), ("`Index::positions`", "64 index"))
     write(runs, "lookups", ["ε 64", "`std::lower_bound`", "C++ PGM", "`Index`, one at a time",
-                            "halving, 16", "C++ PGM, 16", "`Index::positions`, 16"], first)
+                            "halving, 16", "C++ PGM, 16", "`Index::positions`, 16"], first,
+          f"{says}.")
+    says = SHARES + by_halving(
+        many, ("C++ PGM", "pgm_16"), ("C++ PGM by buckets", "buckets_16"),
+        ("RadixSpline", "spline_16"), ("RMI 2^16", "rmi_16"), ("RMI 2^20", "rmi_20"),
+        ("`Index`", "16 index"), ("`Buckets`", "16 buckets"))
+    says += ". Sixteen together, of a single question's: " + together_by_halving(
+        many, ("`Index`", "16 index"), ("`Buckets`", "16 buckets"))
     write(runs, "lookups by tables", ["ε 16", "C++ PGM", "C++ PGM by buckets", "RadixSpline",
                                       "RMI 2^16", "RMI 2^20", "`Index`", "`Buckets`",
-                                      "`Index`, 16", "`Buckets`, 16"], second)
+                                      "`Index`, 16", "`Buckets`, 16"], second, f"{says}.")
+
+    def part(way, base="lower_bound alone"):
+        return f"{mean(parts(many, way, base)):.2f}"
+
+    seen(runs, "lookups", f"one at a time {part('16 index alone')} of the former in the mean with "
+         f"ε 16 and {part('64 index alone')} with ε 64, where the latter takes "
+         f"{part('pgm_16 alone')} and {part('pgm_64 alone')}; sixteen together "
+         f"{part('16 index together')} and {part('64 index together')}")
 
 
 def timed_lines(runs, kind):
@@ -216,10 +281,21 @@ def timed_lines(runs, kind):
     return times, taken
 
 
+def says_of_lines(many):
+    other = parts(many, "64 other alone", "lower_bound alone")
+    return SHARES + by_halving(
+        many, ("C++ PGM, ε 16", "pgm_16"), ("RadixSpline, ε 16", "spline_16"),
+        ("`position`, ε 16", "16 own"), ("ε 64", "64 own")) + (
+            ". Sixteen together, of a single question's: ") + together_by_halving(
+                many, ("halving", "halving"), ("C++ PGM, ε 64", "pgm_64"),
+                ("`positions`, ε 16", "16 own"), ("ε 64", "64 own")) + (
+                    f". With the words of other keys {mean(other):.2f} ({max(other):.2f}).")
+
+
 def lines(runs):
-    first, second = [], []
+    first, second, by_kind, sizes_of = [], [], {}, {}
     for kind in runs.kinds():
-        times, taken = timed_lines(runs, kind)
+        times, taken = by_kind[kind], sizes_of[kind] = timed_lines(runs, kind)
         first.append([kind, *(pair(times, name) for name in (
             "lower_bound", "pgm_16", "pgm_64", "spline_16", "16 own", "64 own", "64 other")),
             *(f"{times[name + ' together']:.0f}" for name in ("halving", "pgm_64", "16 own",
@@ -232,11 +308,27 @@ def lines(runs):
     write(runs, "lines", ["nanoseconds", "`std::lower_bound`", "C++ PGM, ε 16", "ε 64",
                           "RadixSpline, ε 16", "`position`, ε 16", "ε 64",
                           "ε 64, words of other keys", "halving, 16", "C++ PGM, 16, ε 64",
-                          "`positions`, ε 16", "ε 64"], first)
+                          "`positions`, ε 16", "ε 64"], first, says_of_lines(made_kinds(by_kind)))
+    bytes_of, times_of = made_kinds(sizes_of), made_kinds(by_kind)
+    sizes, builds = ({eps: parts(of, f"{eps} own{what}", f"pgm_{eps}{what}") for eps in (16, 64)}
+                     for of, what in ((bytes_of, ""), (times_of, " build")))
     write(runs, "words of lines", ["bytes; milliseconds of building", "C++ PGM, ε 16", "ε 64",
                                    "RadixSpline, ε 16", "words, ε 16", "ε 64",
                                    "C++ PGM builds, ε 16", "ε 64", "RadixSpline, ε 16",
-                                   "`lines_of`, ε 16", "ε 64"], second)
+                                   "`lines_of`, ε 16", "ε 64"], second,
+          "In geometric means over the same kinds, of the C++ PGM-index's: bytes "
+          f"{mean(sizes[16]):.2f} and {mean(sizes[64]):.2f} with ε 16 and 64, at most "
+          f"{max(sizes[16]):.2f} and {max(sizes[64]):.2f}; the time of building "
+          f"{mean(builds[16]):.2f} and {mean(builds[64]):.2f}.")
+    many = times_of
+
+    def part(way):
+        return f"{mean(parts(many, way, 'lower_bound alone')):.2f}"
+
+    seen(runs, "lines", f"{part('16 own alone')} of the former in the mean with ε 16, where the "
+         f"latter takes {part('pgm_16 alone')}; {part('16 own together')} sixteen together; "
+         f"{mean(sizes[16]):.1f} times the latter's bytes, and {mean(builds[16]):.2f} of its time "
+         "of building")
 
 
 def live_bytes(runs, kind, eps):
@@ -253,7 +345,7 @@ def live_bytes(runs, kind, eps):
 
 
 def memory(runs):
-    rows = []
+    rows, by_kind = [], {}
     for kind in runs.kinds():
         keys = runs.keys(kind)
         text = runs.run(runs.rival("lookups"), keys, runs.questions(kind), 0)
@@ -267,16 +359,23 @@ def memory(runs):
         cells = [saved[16], saved[64], live_bytes(runs, kind, 16), live_bytes(runs, kind, 64)]
         cells += [ways[name] for name in ("pgm_16", "pgm_64", "buckets_16", "spline_16", "rmi_16")]
         cells += [ways["btree_map"]] if "btree_map" in ways else ["-"]
+        by_kind[kind] = {"saved 16": saved[16], "saved 64": saved[64], "index 16": cells[2],
+                         "index 64": cells[3], **ways}
         rows.append([kind, *(cell if cell == "-" else f"{cell:,}" for cell in cells)])
     write(runs, "memory", ["bytes beyond the keys", "saved, ε 16", "ε 64", "`Index`, ε 16", "ε 64",
                            "C++ PGM, ε 16", "ε 64", "by buckets, ε 16", "RadixSpline, ε 16",
-                           "RMI 2^16", "`btree_map`, with the keys"], rows)
+                           "RMI 2^16", "`btree_map`, with the keys"], rows,
+          "In geometric means over the kinds but `numbers`, of the C++ PGM-index's bytes: a saved "
+          "index {} and {} with ε 16 and 64, `Index` {} and {}.".format(
+              *(f"{mean(parts(made_kinds(by_kind), f'{side} {eps}', f'pgm_{eps}')):.2f}"
+                for side in ("saved", "index") for eps in (16, 64))))
 
 
 def building(runs):
-    first, second = [], []
+    first, second, by_kind = [], [], {}
     for kind in runs.kinds():
         keys, times, found = runs.keys(kind), {}, {}
+        by_kind[kind] = times
         saved = runs.made / "saved"
         for _ in runs.rounds():
             for workers in (1, 4):
@@ -300,13 +399,25 @@ def building(runs):
         first.append([kind, *map(cell, ("build 1", "build 4", "C++ build", "C++ read"))])
         second.append([kind, *map(cell, ("build 1", "save", "check")), f"{runs_in_all:,}",
                        f"{size:,}", f"{size / max(runs_in_all, 1):.1f}"])
-    write(runs, "building", ["seconds", "`build`, 1", "4", "C++ build", "C++ read"], first)
+    many = made_kinds(by_kind)
+    one, four = (parts(many, f"build {workers}", "C++ build") for workers in (1, 4))
+    says = (f"Of the C++ program's time `build` takes {between(one)} with one worker, "
+            f"{mean(one):.2f} in the geometric mean over the kinds but `numbers`, and "
+            f"{between(four)}, {mean(four):.2f}, with four")
+    write(runs, "building", ["seconds", "`build`, 1", "4", "C++ build", "C++ read"], first,
+          f"{says}; on `numbers` {by_kind[KINDS[-1]]['build 1']:.2g} and "
+          f"{by_kind[KINDS[-1]]['build 4']:.2g} seconds beside "
+          f"{by_kind[KINDS[-1]]['C++ build']:.2g}.")
+    checks = parts(many, "check", "build 1")
     write(runs, "saved indexes", ["seconds", "`build`", "`save`", "`check`", "Runs",
-                                  "Bytes of the file", "Bytes a run"], second)
+                                  "Bytes of the file", "Bytes a run"], second,
+          f"`check` takes {between(checks)} of the time of `build` on the same kinds.")
+    seen(runs, "building", f"`build` takes {mean(one):.2f} of a C++ program's time in the mean "
+         f"with one worker, {mean(four):.2f} with four")
 
 
 def questions(runs):
-    rows = []
+    rows, by_kind = [], {}
     for kind in runs.kinds():
         keys, asked_for = runs.keys(kind), runs.questions(kind)
         script = runs.file(f"{asked_for.stem}.finds", "finds", asked_for)
@@ -322,15 +433,24 @@ def questions(runs):
                     least(times, side, runs.wall(program, *words, out=file))
                 texts[side] = hashlib.sha256(path.read_bytes()).hexdigest()
         agree(kind, texts)
+        by_kind[kind] = times
         rows.append([kind, *(f"{times[side]:.3f}" for side in ("query 1", "query 4", "by itself"))])
+    many = made_kinds(by_kind)
+    one, four = (parts(many, f"query {workers}", "by itself") for workers in (1, 4))
     write(runs, "a script of questions", ["seconds, with huge pages", "`query`, 1", "4",
-                                          "C++, halving, 16"], rows)
+                                          "C++, halving, 16"], rows,
+          f"Of the C++ program's time `query` takes {between(one)} with one worker and "
+          f"{between(four)} with four, {mean(one):.2f} and {mean(four):.2f} in geometric means "
+          "over the kinds but `numbers`.")
+    seen(runs, "questions", f"`query` takes {mean(one):.2f} of the time of halving sixteen "
+         f"together with one worker, {mean(four):.2f} with four")
 
 
 def segmenting(runs):
-    bounds, rows, by_workers = (4, 16, 64, 256), [], []
+    bounds, rows, by_workers, by_kind = (4, 16, 64, 256), [], [], {}
     for kind in runs.kinds():
         keys, times = runs.keys(kind), {}
+        by_kind[kind] = times
         for _ in runs.rounds():
             for eps in bounds:
                 found = {}
@@ -349,9 +469,18 @@ def segmenting(runs):
                              for eps in bounds)])
         by_workers.append([kind, *(f"{times[name]:.1f}" for name in (
             "C++ 64", "segment 64", "pieces 1", "pieces 2", "pieces 4"))])
-    write(runs, "segmenting", ["nanoseconds a key", *(f"ε {eps}" for eps in bounds)], rows)
+    many = made_kinds(by_kind)
+    ratios = [part for eps in bounds for part in parts(many, f"segment {eps}", f"C++ {eps}")]
+    write(runs, "segmenting", ["nanoseconds a key", *(f"ε {eps}" for eps in bounds)], rows,
+          f"`segment` takes {between(ratios)} of the C++ program's time on the kinds but `numbers`, "
+          f"{mean(ratios):.2f} in the geometric mean.")
+    one, two, four = (parts(many, f"pieces {workers}", "C++ 64") for workers in (1, 2, 4))
     write(runs, "segmenting by workers", ["ε 64", "C++ fitter", "`segment`", "pieces, 1 worker",
-                                          "2", "4"], by_workers)
+                                          "2", "4"], by_workers,
+          f"Of the C++ fitter's time one worker takes {between(one)}, two take {between(two)} and "
+          f"four {between(four)} on the same kinds.")
+    seen(runs, "segmenting", f"{between(ratios)} of its time, {mean(ratios):.2f} in the mean; by "
+         f"four workers {mean(four):.2f} with ε 64")
 
 
 SETS = ("square1e-6", "square1e-4", "square1e-2", "square1e-1", "thin1e-4")
@@ -359,6 +488,7 @@ SETS = ("square1e-6", "square1e-4", "square1e-2", "square1e-1", "thin1e-4")
 
 def boxes(runs):
     rows, points, seed = [], runs.given.size // 10, runs.given.seed
+    ways = {"count": [], "fill": [], "visit": []}
     for kind, dims in ((kind, dims) for kind in ("uniform", "clustered") for dims in (2, 3)):
         base = runs.made / "data" / f"{kind}{dims}d.{points}.{seed}"
         if not base.with_name(base.name + ".points").exists():
@@ -381,16 +511,22 @@ def boxes(runs):
         for script, name in zip(scripts, SETS):
             agree(script, found[script])
             plain = times[f"{script} C++"]
+            for way, ratios in ways.items():
+                ratios.append(times[f"{script} {way}"] / plain)
             rows.append([f"{kind}{dims}d, {name.replace('1e', ' 1e')}", f"{plain / 1e3:.2f}",
-                         *(f"{times[f'{script} {way}'] / plain:.2f}"
-                           for way in ("count", "fill", "visit"))])
+                         *(f"{ratios[-1]:.2f}" for ratios in ways.values())])
     write(runs, "boxes", ["microseconds a box, and parts of it", "C++", "`count`", "`fill`",
-                          "`visit`"], rows)
+                          "`visit`"], rows,
+          "In the geometric mean over the sets: " + ", ".join(
+              f"`{way}` {mean(ratios):.2f} ({between(ratios)})" for way, ratios in ways.items())
+          + ".")
+    seen(runs, "boxes", f"{mean(ways['count']):.2f} to {mean(ways['visit']):.2f} of its time in "
+         "the mean")
 
 
 def near(runs):
     """The search for the nearest points by itself."""
-    rows = []
+    rows, ratios = [], {1: [], 10: [], 100: []}
     for kind, dims in runs.point_sets():
         points, times, found = runs.points(kind, dims), {}, {}
         scripts = [runs.centres(points, dims, k) for k in (1, 10, 100)]
@@ -403,12 +539,16 @@ def near(runs):
             for line, sums in zip(rows_of(text, "script"), rows_of(text, "distances")):
                 least(times, f"near {line['script']}", sums["nanoseconds"])
                 found[line["script"]]["near"] = line["points"], sums["distances"]
-        for script in map(str, scripts):
+        for script, k in zip(map(str, scripts), ratios):
             agree(script, found[script])
+            ratios[k].append(times[f"near {script}"] / times[f"tree {script}"])
         rows.append([f"{kind}, {dims} coordinates", *(
             ", ".join(f"{times[f'{side} {script}'] / 1e3:.2f}" for side in ("near", "tree"))
             for script in scripts)])
-    write(runs, "near", ["microseconds a centre", "k = 1", "k = 10", "k = 100"], rows)
+    said = [f"{between(values, 1)} at k = {k}" for k, values in ratios.items()]
+    write(runs, "near", ["microseconds a centre", "k = 1", "k = 10", "k = 100"], rows,
+          f"Of the tree's time `nearest_into` takes {', '.join(said)}.")
+    seen(runs, "near", f"the search takes {', '.join(said)} of the tree's time")
 
 
 def nearest(runs):
@@ -458,12 +598,16 @@ def ordered_map(runs):
         if len(found) != 2:
             raise Missing(f"{work} is of one side alone")
         agree(work, found)
+    def part(work):
+        return f"{times[f'map {work}'] / times[f'tree {work}']:.2f}"
+
     for name, works in (("the map", WORKS), ("the map as a whole", WHOLES)):
-        rows = []
-        for work, meaning in works:
-            ours, tree = times[f"map {work}"], times[f"tree {work}"]
-            rows.append([meaning, f"{ours:.0f}", f"{tree:.0f}", f"{ours / tree:.2f}"])
+        rows = [[meaning, f"{times[f'map {work}']:.0f}", f"{times[f'tree {work}']:.0f}", part(work)]
+                for work, meaning in works]
         write(runs, name, [f"{size:,} keys", "`LogMap`", "`absl::btree_map`", "ratio"], rows)
+    seen(runs, "map", f"puts {part('put')}, finds {part('hit')}, of keys that aren't there "
+         f"{part('miss')}, `next` {part('next')} to {part('next3')}, ranges {part('range')} and "
+         f"{part('range2')}, a walk {part('walk')} and {part('walk2')}, a load {part('load')}")
 
 
 def readers(runs):
@@ -489,6 +633,10 @@ def readers(runs):
     write(runs, "readers beside a writer", ["millions of looks", "map, writer still",
                                             "map, publishing", "batches", "tree and lock, still",
                                             "tree and lock, publishing", "batches"], rows)
+    map4, tree4 = best["map", "4", "true"], best["tree", "4", "true"]
+    seen(runs, "readers", f"{map4['looks']} million looks a second of four readers beside "
+         f"{map4['batches']} batches, where the tree has {tree4['looks']} beside "
+         f"{tree4['batches']}")
 
 
 def rate(many, seconds, digits):
@@ -514,6 +662,9 @@ def senders(runs):
                      rate(many, beyond, 1)])
     write(runs, "several senders", ["millions of updates a second", "deque, `yield`",
                                     "deque, `wait`", "`mix` beyond `replay`"], rows)
+    ours, theirs = ([row[at] for row in rows] for at in (3, 1))
+    seen(runs, "senders", f"{', '.join(ours)} million updates a second by one, two and four "
+         f"senders, where the deque has {', '.join(theirs)}")
 
 
 def runs_of_level_0(path):
@@ -548,6 +699,8 @@ def explain(runs):
              f"{times[side + ' processor']:.2g}", f"{times[side + ' wall']:.2g}"]
             for side in ("pgmtool", "plain")]
     write(runs, "explain", ["ε 0", "Output", "Processor seconds", "Seconds"], rows)
+    part = times["pgmtool processor"] / times["plain processor"]
+    seen(runs, "explain", f"{part:.2f} of its processor time")
 
 
 def measured_on(runs):
@@ -562,21 +715,31 @@ def measured_on(runs):
             f"{os.cpu_count()} processors, load {os.getloadavg()[0]:.1f}; commit {commit}.")
 
 
-def write(runs, name, head, rows):
-    """Writes a table between its marks, or prints it."""
+def write(runs, name, head, rows, says=None):
+    """Writes a table, and what it shows, between its marks."""
     head = [f"{datetime.date.today()}, {head[0]}", *head[1:]]
     lines = ["| " + " | ".join(map(str, line)) + " |" for line in (head, *rows)]
     table = "\n".join([lines[0], "|---" * len(head) + "|", *lines[1:]])
-    text = f"{table}\n\n{measured_on(runs)}"
+    below = [textwrap.fill(text, 100) for text in (says, measured_on(runs)) if text]
+    put(runs, name, "\n\n".join(["", table, *below])[1:] + "\n")
+
+
+def seen(runs, name, text):
+    """Writes what a part shows in short."""
+    put(runs, f"seen {name}", text)
+
+
+def put(runs, name, text):
+    """Writes a text between its marks, or prints it."""
     if runs.given.print:
-        print(f"{name}\n\n{text}\n", flush=True)
+        print(f"{name}: {text}\n", flush=True)
         return
     begin, end = f"<!-- {name} -->", f"<!-- end of {name} -->"
     page = PAGE.read_text()
     if begin not in page or end not in page:
         raise Missing(f"{PAGE} has no marks for `{name}`")
     before, after = page.split(begin)[0], page.split(end)[1]
-    PAGE.write_text(f"{before}{begin}\n{text}\n{end}{after}")
+    PAGE.write_text(f"{before}{begin}{text}{end}{after}")
 
 
 PARTS = {"lookups": lookups, "lines": lines, "memory": memory, "building": building,

@@ -19,7 +19,7 @@ draw tables "Lookups" "nanoseconds a question" --table 2
 draw building "Building, and a script of questions" "seconds" "1=build, 1 thread" "2=build, 4 threads" 3 4
 draw questions "Building, and a script of questions" "seconds" --table 2
 draw boxes "Boxes" "part of the C++ program's time, which is the line" 2 3 4 --line 1
-draw nearest "The nearest points" "microseconds a question" --parts "near" "k-d tree"
+draw nearest "The nearest points" "microseconds a centre" --parts "nearest_into" "k-d tree"
 draw map "The map" "nanoseconds an operation" 2 1
 draw readers "Readers beside a writer" "millions of looks a second" 1 2 4 5
 draw senders "Several senders" "millions of updates a second"
