@@ -1,6 +1,6 @@
 // How levels are made: on the calling thread, or by workers.
 ghost use Rattle.std.specs.Prelude.{◌≡◌, ℕ, ◌≤◌, IfOk};
-ghost use Rattle.tombstones.specs.Entries.{IsAscending, entry_at, winner_at, kept};
+ghost use Rattle.tombstones.specs.Entries.{IsAscending, IsMerge};
 ghost use Rattle.levels.specs.Indexes.{IsIndexOf};
 ghost use Rattle.map_level.specs.Builders.{Merges, Builds};
 
@@ -30,9 +30,7 @@ pub trait Builder {
         requires ready { ready self.now }
         requires newer_ascending { IsAscending newer.now }
         requires older_ascending { IsAscending older.now }
-        ensures ascending { IfOk result (λ merged. IsAscending merged.items) }
-        ensures winners { IfOk result (λ merged. (key : ℕ) →
-            entry_at merged.items key ≡ kept deepest (winner_at newer.now older.now key)) };
+        ensures { IfOk result (λ merged. IsMerge newer.now older.now deepest merged.items) };
 
     /// Builds the index of a level's keys.
     fn index(&self, keys: Keys) -> Built

@@ -1,6 +1,6 @@
 // A merge by threads: both lists are cut at the same keys, and the parts are merged side by side.
 ghost use Rattle.std.specs.Prelude.{◌≡◌, ℕ, ◌<◌, ◌≤◌, length, max, IfOk};
-ghost use Rattle.tombstones.specs.Entries.{IsAscending, entry_at, winner_at, kept};
+ghost use Rattle.tombstones.specs.Entries.{IsAscending, IsMerge, entry_at};
 ghost use Rattle.tombstones.specs.Parts.{IsBetween, IsCutAt, IsMergedPart, edge_of, longer_of};
 ghost use Rattle.tombstones.specs.Parts.{merged_at};
 
@@ -40,9 +40,7 @@ pub fn merge_in_pieces<R: Threads + Sync>(
 ) -> Result<Vec<Entry>, NoMemory>
     requires newer_ascending { IsAscending newer.now }
     requires older_ascending { IsAscending older.now }
-    ensures ascending { IfOk result (λ merged. IsAscending merged.items) }
-    ensures winners { IfOk result (λ merged. (key : ℕ) →
-        entry_at merged.items key ≡ kept deepest (winner_at newer.now older.now key)) }
+    ensures { IfOk result (λ merged. IsMerge newer.now older.now deepest merged.items) }
 {
     let longest = newer.len().max(older.len());
     let parts = (workers.count as usize).min(longest / SHORTEST);
@@ -60,9 +58,7 @@ fn merge_parts<R: Threads + Sync>(
 ) -> Result<Vec<Entry>, NoMemory>
     requires newer_ascending { IsAscending newer.now }
     requires older_ascending { IsAscending older.now }
-    ensures ascending { IfOk result (λ merged. IsAscending merged.items) }
-    ensures winners { IfOk result (λ merged. (key : ℕ) →
-        entry_at merged.items key ≡ kept deepest (winner_at newer.now older.now key)) }
+    ensures { IfOk result (λ merged. IsMerge newer.now older.now deepest merged.items) }
 {
     let parts = most.min(newer.len().max(older.len()));
     if parts < 2 {
