@@ -8,7 +8,7 @@ use Rattle.log_levels.specs.declared.fault.MapFault.TheVariants.{Full, NoMemory}
 use Rattle.log_levels.specs.declared.update.Update.{Update}
 use Rattle.log_levels.specs.declared.update.Update.TheVariants.{Put, Del, Sweep}
 use Rattle.log_levels.specs.Maps.{updated, map_after}
-use Rattle.log_levels.specs.Accepted.{entries_for, entries_from, entries_of, put_entry, del_entry, IsPlain}
+use Rattle.log_levels.specs.Accepted.{entries_for, entries_from, entries_of, IsPlain}
 use Rattle.log_levels.specs.Kept.{IsFull, plain_entry}
 use Rattle.log_levels.proofs.CutLemmas.{take-add}
 

@@ -277,7 +277,7 @@ fn have_values(entries: &[Entry]) -> bool
 }
 
 /// A level of entries, to be shared.
-fn shared<B: Builder>(
+pub fn shared<B: Builder>(
     builder: &B,
     alloc: Global,
     entries: Vec<Entry>,
@@ -307,18 +307,18 @@ fn highest_change(before: u64, after: u64) -> usize
     top
 }
 
-/// The entries from one place to another.
-fn part(entries: &[Entry], start: usize, end: usize) -> &[Entry]
+/// The items from one place to another.
+pub fn part<T>(items: &[T], start: usize, end: usize) -> &[T]
     requires order { start ≤ end }
-    requires within { end ≤ length entries.now }
-    ensures part { result.now ≡ take (end - start) (drop start entries.now) }
+    requires within { end ≤ length items.now }
+    ensures part { result.now ≡ take (end - start) (drop start items.now) }
     ensures len { length result.now ≡ end - start }
 {
-    &entries[start..end]
+    &items[start..end]
 }
 
 /// How many entries the blocks of the bits from bit `i` on have.
-fn entries_from_bit(i: usize, blocks: u64) -> u64
+pub fn entries_from_bit(i: usize, blocks: u64) -> u64
     requires shift { i < 64 }
     requires few { blocks < 2 ^ 58 }
     ensures { result ≡ BLOCK * from_bit i blocks }
