@@ -11,10 +11,10 @@
 //! since none follows a value through a lock: a test does.
 #![tactic(auto)]
 
-mod batching;
+mod context;
 mod notes;
 mod publishing;
 
-pub use batching::Batching;
+pub use context::Context;
 pub use notes::{learn_newest, look_until, slots_for};
 pub use publishing::{publish_all, publish_batch};

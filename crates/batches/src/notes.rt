@@ -2,7 +2,7 @@
 ghost use Rattle.std.specs.Prelude.{◌≡◌, IfOk, vec_len};
 ghost use mathlib.Core.List.{IsPrefix};
 
-use published::{Look, MapName, PlainDoor, Reader, Slot};
+use published::{Look, MapName, Reader, Slot};
 use std::alloc::{AllocError, Global};
 use std::sync::Wait;
 
@@ -28,14 +28,14 @@ pub fn learn_newest<M: MapName + Send + Sync, R: Wait>(rt: &R, reader: &mut Read
     }
 }
 
-/// Looks until the door lets the reader in.
-pub fn look_until<R: Wait>(rt: &R, reader: Reader, door: &mut PlainDoor) -> Look
+/// Looks until the reader is let in.
+pub fn look_until<R: Wait>(rt: &R, reader: Reader) -> Look
     ensures shown { IsPrefix reader.batches result.batches }
     ensures own { result.origin ≡ reader.origin }
 {
     let mut reader = reader;
     for _turn in rt.forever() {
-        match reader.look(door) {
+        match reader.look() {
             Ok(look) => return look,
             Err(back) => reader = back,
         }

@@ -4,58 +4,44 @@ ghost use Rattle.std.specs.Prelude.{OnOk, OnErr};
 ghost use mathlib.Core.List.{IsPrefix};
 ghost use Rattle.log_levels.specs.Accepted.{entries_of};
 ghost use Rattle.published.specs.Histories.{published, updates_of};
+ghost use Rattle.published.specs.Writers.{IsEmptyWriter, IsSameMap};
 ghost use Rattle.batches.specs.Batches.{AreBatches, AreFull};
 
-use crate::Batching;
+use crate::context::Context;
 use budget::NoMemory;
 use edge::{Gate, Place};
 use log_levels::{MapFault, Update};
+use options::{Plan, Workers};
 use published::{MapName, Slot, Writer};
-use std::alloc::Global;
 use std::sync::Wait;
 use std::thread::Threads;
 
-/// Publishes all updates, and leaves each reader a note of each batch.
+/// Publishes all updates in batches of a plan's size, and leaves each reader a note of each batch.
 ///
 /// # Errors
 ///
 /// `NoMemory` alone, with the first batch that can't be published. What is published then are the
 /// first updates, in full batches, and nothing is staged: [`publish_batch`] takes the next ones.
 pub fn publish_all<M: MapName + Send + Sync, R: Threads + Wait + Sync, G: Gate>(
-    rt: &R,
-    alloc: Global,
+    context: &Context<'_, M, R, G>,
     writer: &mut Writer,
     updates: &[Update],
-    batching: Batching,
-    slots: &[Slot<M>],
-    gate: &G,
+    plan: Plan,
 ) -> Result<(), NoMemory>
-    requires own { writer.old.origin ≡ M.origin }
-    requires empty { writer.old.history ≡ [] }
-    requires none_staged { writer.old.batch ≡ [] }
-    requires fits { length (entries_of updates.now) ≤ writer.old.capacity }
-    ensures own { writer.new.origin ≡ writer.old.origin }
-    ensures capacity { writer.new.capacity ≡ writer.old.capacity }
+    requires { IsEmptyWriter M.origin (length (entries_of updates.now)) writer.old }
+    ensures same_map { IsSameMap writer.old writer.new }
     ensures none_staged { writer.new.batch ≡ [] }
     ensures all { OnOk result (updates_of writer.new.history ≡ updates.now) }
-    ensures batches { AreBatches batching.size writer.new.history }
+    ensures batches { AreBatches plan.batch writer.new.history }
     ensures begins { IsPrefix (updates_of writer.new.history) updates.now }
-    ensures full { OnErr result (AreFull batching.size writer.new.history) }
+    ensures full { OnErr result (AreFull plan.batch writer.new.history) }
 {
-    let size = batching.size as usize;
+    let size = plan.batch as usize;
     for number in 0..updates.len().div_ceil(size) {
         let from = number * size;
         let to = updates.len().min(from + size);
-        publish_batch(
-            rt,
-            alloc,
-            writer,
-            &updates[from..to],
-            number as u64 + 1,
-            batching.workers,
-            slots,
-            gate,
-        )?;
+        let batch = &updates[from..to];
+        publish_batch(context, writer, batch, number as u64 + 1, plan.workers)?;
     }
     Ok(())
 }
@@ -67,37 +53,31 @@ pub fn publish_all<M: MapName + Send + Sync, R: Threads + Wait + Sync, G: Gate>(
 /// `NoMemory` alone, where the batch can't be staged. The writer is as it was then, with nothing
 /// staged and nothing published, and the same call may be made again.
 pub fn publish_batch<M: MapName + Send + Sync, R: Threads + Wait + Sync, G: Gate>(
-    rt: &R,
-    alloc: Global,
+    context: &Context<'_, M, R, G>,
     writer: &mut Writer,
     batch: &[Update],
     number: u64,
-    workers: u32,
-    slots: &[Slot<M>],
-    gate: &G,
+    workers: Workers,
 ) -> Result<(), NoMemory>
     requires own { writer.old.origin ≡ M.origin }
     requires some { 0 < length batch.now }
     requires none_staged { writer.old.batch ≡ [] }
-    requires staffed { 1 ≤ workers }
-    requires few_workers { workers ≤ 64 }
     requires fits { length (entries_of (updates_of writer.old.history ++ batch.now))
         ≤ writer.old.capacity }
-    ensures own { writer.new.origin ≡ writer.old.origin }
-    ensures capacity { writer.new.capacity ≡ writer.old.capacity }
+    ensures same_map { IsSameMap writer.old writer.new }
     ensures none_staged { writer.new.batch ≡ [] }
     ensures published { OnOk result
         (writer.new.history ≡ writer.old.history ++ batch.now ∷ []) }
     ensures unchanged { OnErr result (writer.new ≡ writer.old) }
 {
-    match writer.stage(rt, alloc, batch, workers, gate) {
+    match writer.stage(context.rt, context.alloc, batch, workers, context.gate) {
         Ok(()) => {}
         Err(MapFault::NoMemory) => return Err(NoMemory),
         Err(MapFault::Full { .. }) => unreachable!(),
     }
-    publish_staged(rt, writer);
-    tell_all(rt, writer, slots);
-    gate.at(Place::Published(number));
+    publish_staged(context.rt, writer);
+    tell_all(context.rt, writer, context.slots);
+    context.gate.at(Place::Published(number));
     Ok(())
 }
 
@@ -106,8 +86,7 @@ pub fn publish_batch<M: MapName + Send + Sync, R: Threads + Wait + Sync, G: Gate
 fn publish_staged<R: Wait>(rt: &R, writer: &mut Writer)
     ensures published { writer.new.history ≡ published writer.old.history writer.old.batch }
     ensures emptied { writer.new.batch ≡ [] }
-    ensures own { writer.new.origin ≡ writer.old.origin }
-    ensures capacity { writer.new.capacity ≡ writer.old.capacity }
+    ensures same_map { IsSameMap writer.old writer.new }
 {
     for _turn in rt.forever() {
         if writer.publish(rt).is_ok() {

@@ -1,15 +1,24 @@
 -- Pairs that rise, and a put of each.
-use Rattle.std.proofs.Common.{◌≡◌, ℕ, zero, suc, ◌+◌, ◌-◌, ◌<◌, ◌≤◌, eqb, if◌then◌else◌, List, [], ◌∷◌, length, slice_index_or, Option, Some, None, refl, sym, ap, ◌∙◌, inl, inr, arith}
+use Rattle.std.proofs.Common.{◌≡◌, ℕ, zero, suc, ◌+◌, ◌-◌, ◌*◌, ◌/◌, ◌^◌, ◌<◌, ◌≤◌, eqb, Bool, true, false, if◌then◌else◌, List, [], ◌∷◌, length, take, drop, slice_index_or, All, IsSome, Option, Some, None, refl, sym, ap, subst, ◌∙◌, inl, inr, arith}
 use Rattle.std.specs.Option.{option_or, option_map}
+use Rattle.std.specs.Int.{bit_at}
 use Rattle.std.proofs.lemmas.Bool.{cases_eq, eq-eqb, ne_eqb}
+use Rattle.std.proofs.lemmas.List.{length-map, take-map, drop-map}
+use Rattle.std.proofs.lemmas.List.Elements.{All-cons}
+use Rattle.std.proofs.lemmas.List.Kept.{AllPairs-cons}
+use Rattle.std.proofs.lemmas.List.Sorted.{IsPermutation-refl}
+use Rattle.tombstones.specs.Entries.{IsAscending, entry_at, kept}
 use Rattle.tombstones.specs.declared.entry.Entry.{Entry}
 use Rattle.log_levels.specs.declared.update.Update.TheVariants.{Put}
 use Rattle.log_levels.specs.Maps.{updated, map_after, value_at, AreRising, IsFirstStall}
 use Rattle.log_levels.specs.Accepted.{entries_of, entries_from, put_entry, puts_of}
 use Rattle.log_levels.specs.Kept.{value_of, entries_put}
-use Rattle.map_level.specs.Levels.{last_at}
-use Rattle.map_level.proofs.LastLemmas.{last_at-cons}
-use Rattle.log_levels.proofs.MapLemmas.{RisesFrom, rises-after, value-here, value-later, value-below, same-pairs}
+use Rattle.log_levels.specs.Shapes.{Held, IsCutOf, IsLevelFor, block_of, from_bit, level_of}
+use Rattle.map_level.specs.Levels.{IsLastOfEach, last_at}
+use Rattle.map_level.proofs.LastLemmas.{last_at-cons, latest-sorted}
+use Rattle.log_levels.proofs.BitLemmas.{from_bit-more}
+use Rattle.log_levels.proofs.KeptLemmas.{kept-values}
+use Rattle.log_levels.proofs.MapLemmas.{RisesFrom, rises-after, rises-lower, value-here, value-later, value-below, same-pairs}
 use Rattle.log_levels.proofs.ValueLemmas.{value-after}
 
 puts-from : (before pairs : List (ℕ × ℕ)) → entries_from before (puts_of pairs) ≡ entries_put pairs
@@ -75,3 +84,77 @@ no-stall pairs zero rises stall = absurd (omega (arith, stall.some))
 no-stall pairs (suc k) rises stall =
     let here : suc k - 1 ≡ k = omega arith in
     absurd (omega (arith, stall.stalls, pairs-apart 0 pairs k rises stall.inside, ap (λ i. (slice_index_or pairs i (0, 0)).0) here))
+
+-- rising pairs from a place on, and up to one
+rises-drop : (low n : ℕ) (pairs : List (ℕ × ℕ)) → RisesFrom low pairs → RisesFrom low (drop n pairs)
+rises-drop low zero pairs rises = rises
+rises-drop low (suc n) [] rises = tt
+rises-drop low (suc n) (pair ∷ pairs) (from, rest) = rises-lower (pair.0 + 1) low (drop n pairs) (omega arith) (rises-drop (pair.0 + 1) n pairs rest)
+
+rises-take : (low n : ℕ) (pairs : List (ℕ × ℕ)) → RisesFrom low pairs → RisesFrom low (take n pairs)
+rises-take low zero pairs rises = tt
+rises-take low (suc n) [] rises = tt
+rises-take low (suc n) (pair ∷ pairs) (from, rest) = (from, rises-take (pair.0 + 1) n pairs rest)
+
+-- their entries rise too, and each has a value
+above-put : (low from : ℕ) (pairs : List (ℕ × ℕ)) → low < from → RisesFrom from pairs → All (λ (e : Entry). low < e.key) (entries_put pairs)
+above-put low from [] less rises = λ i e inside. absurd (omega arith)
+above-put low from (pair ∷ pairs) less (here, rest) =
+    All-cons (λ (e : Entry). low < e.key) (put_entry pair.0 pair.1) (entries_put pairs) (omega arith) (above-put low (pair.0 + 1) pairs (omega arith) rest)
+
+ascending-put : (low : ℕ) (pairs : List (ℕ × ℕ)) → RisesFrom low pairs → IsAscending (entries_put pairs)
+ascending-put low [] rises = λ i j d less inside. absurd (omega arith)
+ascending-put low (pair ∷ pairs) (from, rest) =
+    AllPairs-cons (λ (x y : Entry). x.key < y.key) (put_entry pair.0 pair.1) (entries_put pairs) (above-put pair.0 (pair.0 + 1) pairs (omega arith) rest) (ascending-put (pair.0 + 1) pairs rest)
+
+values-put : (pairs : List (ℕ × ℕ)) → All (λ (e : Entry). IsSome e.value) (entries_put pairs)
+values-put [] = λ i e inside. absurd (omega arith)
+values-put (pair ∷ pairs) = All-cons (λ (e : Entry). IsSome e.value) (put_entry pair.0 pair.1) (entries_put pairs) refl (values-put pairs)
+
+-- so they are a level as they are, also the deepest
+level-put : (low : ℕ) (pairs : List (ℕ × ℕ)) (deepest : Bool) → RisesFrom low pairs → IsLastOfEach deepest (entries_put pairs) (entries_put pairs)
+level-put low pairs deepest rises = record { ascending = ascending-put low pairs rises; lasts = λ key. here deepest key }
+  where
+    lasts : (key : ℕ) → entry_at (entries_put pairs) key ≡ last_at (entries_put pairs) key
+    lasts key = (latest-sorted (entries_put pairs) (entries_put pairs) (IsPermutation-refl (entries_put pairs)) (ascending-put low pairs rises)).lasts key
+
+    here : (deepest : Bool) (key : ℕ) → entry_at (entries_put pairs) key ≡ kept deepest (last_at (entries_put pairs) key)
+    here false key = lasts key
+    here true key = kept-values (entries_put pairs) key (values-put pairs) ∙ ap (kept true) (lasts key)
+
+pub ascending-part : (pairs : List (ℕ × ℕ)) (start end : ℕ) → RisesFrom 0 pairs → IsAscending (entries_put (take (end - start) (drop start pairs)))
+ascending-part pairs start end rises = ascending-put 0 (take (end - start) (drop start pairs)) (rises-take 0 (end - start) (drop start pairs) (rises-drop 0 start pairs rises))
+
+-- the level of a bit, of its part of the pairs
+pub part-put : (pairs : List (ℕ × ℕ)) (f i start end : ℕ) → RisesFrom 0 pairs → bit_at f i ≡ 1 → start ≡ 64 * from_bit (i + 1) f → end ≡ 64 * from_bit i f
+    → IsLevelFor (entries_put pairs) f i (Some (entries_put (take (end - start) (drop start pairs))))
+part-put pairs f i start end rises set from to =
+    let put = λ (pair : ℕ × ℕ). put_entry pair.0 pair.1 in
+    let part = take (end - start) (drop start pairs) in
+    let size : 64 * (bit_at f i * 2 ^ i) ≡ end - start = omega (arith, from_bit-more i f) in
+    let block : block_of (entries_put pairs) f i ≡ entries_put part =
+    ap (λ n. take n (drop (64 * from_bit (i + 1) f) (entries_put pairs))) size ∙ ap (λ n. take (end - start) (drop n (entries_put pairs))) (sym from)
+    ∙ ap (take (end - start)) (drop-map put start pairs) ∙ take-map put (end - start) (drop start pairs) in
+    (set, subst (λ list. IsLastOfEach (eqb (f / 2 ^ (i + 1)) 0) list (entries_put part)) (sym block) (level-put 0 part (eqb (f / 2 ^ (i + 1)) 0) (rises-take 0 (end - start) (drop start pairs) (rises-drop 0 start pairs rises))))
+
+-- what is behind all blocks
+pub rest-put : (pairs : List (ℕ × ℕ)) (n : ℕ) → drop n (entries_put pairs) ≡ entries_put (drop n pairs)
+rest-put pairs n = drop-map (λ (pair : ℕ × ℕ). put_entry pair.0 pair.1) n pairs
+
+pub length-put : (pairs : List (ℕ × ℕ)) → length (entries_put pairs) ≡ length pairs
+length-put pairs = length-map pairs (λ (pair : ℕ × ℕ). put_entry pair.0 pair.1)
+
+-- a map of these levels, with the rest in its buffer
+pub cut-put : (pairs : List (ℕ × ℕ)) (map : Held) (levels : ℕ) → map.accepted ≡ length pairs → map.buffer ≡ entries_put (drop (length pairs / 64 * 64) pairs)
+    → length map.levels ≡ levels → length pairs < 64 * 2 ^ levels → ((i : ℕ) → i < length map.levels → IsLevelFor (entries_put pairs) (length pairs / 64) i (level_of map i))
+    → IsCutOf map (entries_put pairs)
+cut-put pairs map levels accepted buffer count fit each =
+    let long = length-put pairs in
+    let blocks : length (entries_put pairs) / 64 ≡ length pairs / 64 = ap (λ n. n / 64) long in
+    let place : length pairs / 64 * 64 ≡ 64 * (length (entries_put pairs) / 64) = omega (arith, blocks) in
+    record {
+      accepted = accepted ∙ sym long;
+      fits = omega (arith, long, ap (λ k. 64 * 2 ^ k) count);
+      buffer = buffer ∙ sym (rest-put pairs (length pairs / 64 * 64)) ∙ ap (λ n. drop n (entries_put pairs)) place;
+      levels = λ i inside. subst (λ f. IsLevelFor (entries_put pairs) f i (level_of map i)) (sym blocks) (each i inside);
+    }

@@ -8,7 +8,7 @@ use Rattle.log_levels.specs.declared.fault.MapFault.TheVariants.{Full, NoMemory}
 use Rattle.log_levels.specs.declared.update.Update.{Update}
 use Rattle.log_levels.specs.declared.update.Update.TheVariants.{Put, Del, Sweep}
 use Rattle.log_levels.specs.Maps.{updated, map_after}
-use Rattle.log_levels.specs.Accepted.{entries_for, entries_from, entries_of, put_entry, del_entry, IsPlain}
+use Rattle.log_levels.specs.Accepted.{entries_for, entries_from, entries_of, IsPlain}
 use Rattle.log_levels.specs.Kept.{IsFull, plain_entry}
 use Rattle.log_levels.proofs.CutLemmas.{take-add}
 
@@ -28,15 +28,6 @@ entries_of-append xs ys = entries_from-append [] xs ys
 pub entries_of-none : entries_of [] ≡ []
 unfolding entries_from
 entries_of-none = refl
-
--- a put and a deletion have one
-pub entries_of-put : (xs : List Update) (key value : ℕ) → entries_of (xs ++ Put key value ∷ []) ≡ entries_of xs ++ put_entry key value ∷ []
-unfolding entries_from
-entries_of-put xs key value = entries_of-append xs (Put key value ∷ [])
-
-pub entries_of-del : (xs : List Update) (key : ℕ) → entries_of (xs ++ Del key ∷ []) ≡ entries_of xs ++ del_entry key ∷ []
-unfolding entries_from
-entries_of-del xs key = entries_of-append xs (Del key ∷ [])
 
 -- a sweep has one for each key that it takes away
 pub entries_of-sweep : (xs : List Update) (low high : ℕ) → entries_of (xs ++ Sweep low high ∷ []) ≡ entries_of xs ++ entries_for (map_after xs) (Sweep low high)

@@ -18,7 +18,7 @@ use Rattle.log_levels.specs.declared.update.Update.{Update}
 use Rattle.log_levels.specs.declared.update.Update.TheVariants.{Put, Del, Sweep}
 use Rattle.log_levels.specs.Accepted.{put_entry, del_entry}
 use Rattle.map_level.specs.Levels.{level_keys, last_at, IsBelow}
-use Rattle.log_levels.specs.Shapes.{Held, IsCutOf, level_of, from_bit}
+use Rattle.log_levels.specs.Shapes.{Held, IsCutOf, IsLevelFor, capacity_of, level_of, from_bit}
 
 -- the entries of shared levels
 abbrev pub levels_of : {Z : Type 0} → List (Option (Arc (List Entry) Z)) → List (Option (List Entry))
@@ -45,6 +45,16 @@ pub record IsHighestChange (accepted count top : ℕ) : Type 0 where
   pub above : accepted / 64 / 2 ^ (top + 1) ≡ (accepted + count) / 64 / 2 ^ (top + 1)
   pub was_clear : bit_at (accepted / 64) top ≡ 0
   pub is_set : bit_at ((accepted + count) / 64) top ≡ 1
+
+-- `count` more entries fit a map, and bit `top`, which has a level, is the highest one that they change
+pub record IsGrowth (held : Held) (count top : ℕ) : Type 0 where
+  pub inside : top < length held.levels
+  pub change : IsHighestChange held.accepted count top
+  pub room : held.accepted + count ≤ capacity_of held
+
+-- what level i is with new entries, whatever the entries are that are held
+abbrev pub IsGrownLevel : Held → List Entry → ℕ → Option (List Entry) → Type 0
+IsGrownLevel held new i level = (entries : List Entry) → IsCutOf held entries → IsLevelFor (entries ++ new) ((held.accepted + length new) / 64) i level
 
 -- the entries of a level, if there is one
 abbrev pub shared_of : {Z : Type 0} → Option (Arc (List Entry) Z) → Option (List Entry)

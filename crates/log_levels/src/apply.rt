@@ -7,7 +7,8 @@ ghost use Rattle.log_levels.specs.declared.fault.MapFault.TheVariants.{Full};
 ghost use Rattle.tombstones.specs.Entries.{IsAscending};
 ghost use Rattle.log_levels.specs.Accepted.{IsPlain, entries_of};
 ghost use Rattle.log_levels.specs.Refusals.{AreApplied, Refuses};
-ghost use Rattle.map_level.specs.Builders.{IsMergeOf, IsIndexFor};
+ghost use Rattle.levels.specs.Indexes.{IsIndexOf};
+ghost use Rattle.map_level.specs.Builders.{IsMergeOf};
 ghost use Rattle.log_levels.specs.Kept.{IsFull, plain_entry};
 ghost use Rattle.log_levels.specs.Shapes.{StandsFor, capacity_of};
 
@@ -17,7 +18,8 @@ use crate::update::Update;
 use budget::NoMemory;
 use edge::Gate;
 use levels::Keys;
-use map_level::{Builder, Built, Here, Merged, Workers, index_in_pieces};
+use map_level::{Builder, Built, ByWorkers, Here, Merged, index_in_pieces};
+use options::{EPS, EPS_REC, Workers};
 use std::alloc::Global;
 use std::thread::Threads;
 use tombstones::{Entry, merge_in_pieces};
@@ -42,11 +44,11 @@ impl LogMap {
     /// They are applied to a copy, which shares the levels, and the map is replaced at the end. So
     /// many updates without a sweep between them are merged into the levels at once.
     ///
-    /// The levels are made by `workers` workers, 1 to 64: long lists are merged in parts, and each
-    /// level's index is built in pieces. The gate is passed at `PieceBegun` before each piece of an
-    /// index and at `PieceDone` after it, with the piece's number in that index. Worker threads are
-    /// joined before the call returns, which it does only if the gate does; where one can't be
-    /// started the caller does its work. The map is the same for all numbers of workers and gates.
+    /// The levels are made by workers: long lists are merged in parts, and each level's index is
+    /// built in pieces. The gate is passed at `PieceBegun` before each piece of an index and at
+    /// `PieceDone` after it, with the piece's number in that index. Worker threads are joined before
+    /// the call returns, which it does only if the gate does; where one can't be started the caller
+    /// does its work. The map is the same for all numbers of workers and gates.
     ///
     /// # Errors
     ///
@@ -60,11 +62,9 @@ impl LogMap {
         rt: &R,
         alloc: Global,
         updates: &[Update],
-        workers: u32,
+        workers: Workers,
         gate: &G,
     ) -> Result<(), MapFault>
-        requires staffed { 1 ≤ workers }
-        requires few_workers { workers ≤ 64 }
         ensures { AreApplied self.old self.new updates.now result }
     {
         *self = self.applied(rt, alloc, updates, workers, gate)?;
@@ -81,29 +81,23 @@ impl LogMap {
         rt: &R,
         alloc: Global,
         updates: &[Update],
-        workers: u32,
+        workers: Workers,
         gate: &G,
     ) -> Result<LogMap, MapFault>
-        requires staffed { 1 ≤ workers }
-        requires few_workers { workers ≤ 64 }
         ensures applied { IfOk result (λ map. (before : List Update) →
             StandsFor self.now before → StandsFor map (before ++ updates.now)) }
         ensures refused { Refuses self.now updates.now result }
         ensures levels { IfOk result (λ map. length map.levels ≡ length self.now.levels) }
     {
         let merge = |newer: &[Entry], older: &[Entry], deepest: bool| -> Merged
-            requires staffed { 1 ≤ workers }
-            requires few_workers { workers ≤ 64 }
             requires newer_ascending { IsAscending newer.now }
             requires older_ascending { IsAscending older.now }
             ensures { IsMergeOf newer.now older.now deepest result }
         { merge_in_pieces(rt, alloc, newer, older, deepest, workers) };
         let index = |keys: Keys| -> Built
-            requires staffed { 1 ≤ workers }
-            requires few_workers { workers ≤ 64 }
-            ensures { IsIndexFor keys result }
+            ensures { IfOk result (IsIndexOf keys EPS EPS_REC) }
         { index_in_pieces(rt, alloc, keys, workers, gate) };
-        let builder = Workers { merge, index };
+        let builder = ByWorkers { merge, index };
         self.with_updates(&builder, alloc, updates)
     }
 

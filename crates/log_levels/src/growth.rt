@@ -11,9 +11,9 @@ ghost use Rattle.std.specs.Arc.{arc_value};
 ghost use Rattle.tombstones.specs.declared.entry.Entry.{Entry};
 ghost use Rattle.tombstones.specs.Entries.{IsAscending, entry_at, kept};
 ghost use Rattle.map_level.specs.Levels.{IsLastOfEach};
-ghost use Rattle.log_levels.specs.Shapes.{IsCutOf, IsLevelFor};
-ghost use Rattle.log_levels.specs.Shapes.{capacity_of, level_of, from_bit};
-ghost use Rattle.log_levels.specs.Kept.{IsMergedTo, IsHighestChange, shared_of, levels_of};
+ghost use Rattle.log_levels.specs.Shapes.{IsCutOf, capacity_of, level_of, from_bit};
+ghost use Rattle.log_levels.specs.Kept.{IsGrowth, IsGrownLevel, IsMergedTo};
+ghost use Rattle.log_levels.specs.Kept.{shared_of, levels_of};
 
 use crate::log_map::{BLOCK, LogMap};
 use budget::NoMemory;
@@ -42,7 +42,7 @@ impl LogMap {
         let _ = self.accepted();
         let blocks = self.blocks_with(0);
         let latest = self.latest_with(builder, alloc, new)?;
-        let mut merged = kept_of(builder, alloc, latest, blocks == 0)?;
+        let mut merged = kept_of(builder, latest, blocks == 0)?;
         for i in 0..top {
             if let Some(level) = self.level(i) {
                 merged = builder.merge(&merged, level.entries(), blocks >> (i + 1) == 0)?;
@@ -78,12 +78,9 @@ impl LogMap {
         top: usize,
     ) -> Result<Arc<Level>, NoMemory>
         requires ready { B.ready builder.now }
-        requires inside { top < length self.now.levels }
-        requires change { IsHighestChange self.now.accepted (length new.now) top }
-        requires room { self.now.accepted + length new.now ≤ capacity_of self.now }
-        ensures { IfOk result (λ level. (entries : List Entry) → IsCutOf self.now entries →
-            IsLevelFor (entries ++ new.now) ((self.now.accepted + length new.now) / BLOCK) top
-            (Some (arc_value level))) }
+        requires growth { IsGrowth self.now (length new.now) top }
+        ensures { IfOk result (λ level.
+            IsGrownLevel self.now new.now top (Some (arc_value level))) }
     {
         let blocks = self.blocks_with(new.len());
         let end = entries_from_bit(top, blocks) - self.accepted();
@@ -101,13 +98,9 @@ impl LogMap {
         i: usize,
     ) -> Result<Option<Arc<Level>>, NoMemory>
         requires ready { B.ready builder.now }
-        requires inside { top < length self.now.levels }
-        requires change { IsHighestChange self.now.accepted (length new.now) top }
-        requires room { self.now.accepted + length new.now ≤ capacity_of self.now }
+        requires growth { IsGrowth self.now (length new.now) top }
         requires below { i < top }
-        ensures { IfOk result (λ level. (entries : List Entry) → IsCutOf self.now entries →
-            IsLevelFor (entries ++ new.now) ((self.now.accepted + length new.now) / BLOCK) i
-            (shared_of level)) }
+        ensures { IfOk result (λ level. IsGrownLevel self.now new.now i (shared_of level)) }
     {
         let blocks = self.blocks_with(new.len());
         if (blocks >> i) % 2 == 0 {
@@ -131,13 +124,9 @@ impl LogMap {
         i: usize,
     ) -> Result<Option<Arc<Level>>, NoMemory>
         requires ready { B.ready builder.now }
-        requires inside { top < length self.now.levels }
-        requires change { IsHighestChange self.now.accepted (length new.now) top }
-        requires room { self.now.accepted + length new.now ≤ capacity_of self.now }
+        requires growth { IsGrowth self.now (length new.now) top }
         requires occupied { i < length self.now.levels }
-        ensures { IfOk result (λ level. (entries : List Entry) → IsCutOf self.now entries →
-            IsLevelFor (entries ++ new.now) ((self.now.accepted + length new.now) / BLOCK) i
-            (shared_of level)) }
+        ensures { IfOk result (λ level. IsGrownLevel self.now new.now i (shared_of level)) }
     {
         match i.cmp(&top) {
             Ordering::Less => self.fresh_level(builder, alloc, new, top, i),
@@ -155,14 +144,10 @@ impl LogMap {
         top: usize,
     ) -> Result<Vec<Option<Arc<Level>>>, NoMemory>
         requires ready { B.ready builder.now }
-        requires inside { top < length self.now.levels }
-        requires change { IsHighestChange self.now.accepted (length new.now) top }
-        requires room { self.now.accepted + length new.now ≤ capacity_of self.now }
+        requires growth { IsGrowth self.now (length new.now) top }
         ensures count { IfOk result (λ levels. length levels.items ≡ length self.now.levels) }
-        ensures levels { IfOk result (λ levels. (entries : List Entry) (i : ℕ) →
-            IsCutOf self.now entries → i < length self.now.levels →
-            IsLevelFor (entries ++ new.now) ((self.now.accepted + length new.now) / BLOCK) i
-            (slice_index_or (levels_of levels.items) i None)) }
+        ensures levels { IfOk result (λ levels. (i : ℕ) → i < length self.now.levels →
+            IsGrownLevel self.now new.now i (slice_index_or (levels_of levels.items) i None)) }
     {
         let count = self.stored.len();
         let mut levels = Vec::with_capacity(alloc, count)?;
@@ -266,7 +251,6 @@ fn push_each(into: &mut Vec<Entry>, new: &[Entry])
 /// Entries, without deletions where no level lies below.
 fn kept_of<B: Builder>(
     builder: &B,
-    alloc: Global,
     entries: Vec<Entry>,
     deepest: bool,
 ) -> Result<Vec<Entry>, NoMemory>
@@ -293,7 +277,7 @@ fn have_values(entries: &[Entry]) -> bool
 }
 
 /// A level of entries, to be shared.
-fn shared<B: Builder>(
+pub fn shared<B: Builder>(
     builder: &B,
     alloc: Global,
     entries: Vec<Entry>,
@@ -323,18 +307,18 @@ fn highest_change(before: u64, after: u64) -> usize
     top
 }
 
-/// The entries from one place to another.
-fn part(entries: &[Entry], start: usize, end: usize) -> &[Entry]
+/// The items from one place to another.
+pub fn part<T>(items: &[T], start: usize, end: usize) -> &[T]
     requires order { start ≤ end }
-    requires within { end ≤ length entries.now }
-    ensures part { result.now ≡ take (end - start) (drop start entries.now) }
+    requires within { end ≤ length items.now }
+    ensures part { result.now ≡ take (end - start) (drop start items.now) }
     ensures len { length result.now ≡ end - start }
 {
-    &entries[start..end]
+    &items[start..end]
 }
 
 /// How many entries the blocks of the bits from bit `i` on have.
-fn entries_from_bit(i: usize, blocks: u64) -> u64
+pub fn entries_from_bit(i: usize, blocks: u64) -> u64
     requires shift { i < 64 }
     requires few { blocks < 2 ^ 58 }
     ensures { result ≡ BLOCK * from_bit i blocks }

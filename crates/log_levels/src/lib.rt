@@ -20,6 +20,7 @@ mod growth;
 mod heads;
 mod load;
 mod log_map;
+mod names;
 mod questions;
 mod range;
 mod upcoming;

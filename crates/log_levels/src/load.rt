@@ -1,27 +1,31 @@
 // Maps of pairs, made at once.
-ghost use Rattle.std.specs.Prelude.{◌≡◌, ◌-◌, ◌*◌, ◌<◌, ◌≤◌, ◌^◌, ◌⊎◌};
+ghost use Rattle.std.specs.Prelude.{◌≡◌, ◌+◌, ◌-◌, ◌*◌, ◌/◌, ◌<◌, ◌≤◌, ◌^◌, ◌⊎◌, ◌++◌};
 ghost use Rattle.std.specs.Prelude.{ℕ, List, length, map, IfOk, OnOk, Err, IfSome, IsNone};
+ghost use Rattle.std.specs.Prelude.{vec_len, vec_capacity};
 ghost use Rattle.tombstones.specs.declared.entry.Entry.{Entry};
 ghost use Rattle.log_levels.specs.declared.update.Update.{Update};
 ghost use Rattle.log_levels.specs.declared.fault.MapFault.TheVariants.{Full};
 ghost use Rattle.log_levels.specs.declared.fault.LoadFault.TheVariants.{Unsorted};
-ghost use Rattle.log_levels.specs.Shapes.{IsCutOf, StandsFor};
+ghost use Rattle.log_levels.specs.Shapes.{IsCutOf, IsLevelFor, StandsFor};
 ghost use Rattle.log_levels.specs.Maps.{map_after, AreRising, IsFirstStall};
 ghost use Rattle.log_levels.specs.Accepted.{puts_of};
-ghost use Rattle.log_levels.specs.Kept.{entries_put};
+ghost use Rattle.log_levels.specs.Kept.{entries_put, shared_of};
 
 use crate::fault::{LoadFault, MapFault};
+use crate::growth::{entries_from_bit, part, shared};
 use crate::log_map::{BLOCK, LogMap};
 use budget::NoMemory;
-use map_level::Here;
+use map_level::{Here, Level};
 use std::alloc::Global;
+use std::sync::Arc;
 use tombstones::Entry;
 
 impl LogMap {
     /// The map of pairs of key and value whose keys rise strictly, with so many levels, 1 to 26: as
     /// after a put of each.
     ///
-    /// Each level is cut from the list as the logarithmic form says, and made once.
+    /// Each level is cut from the pairs as the logarithmic form says, and made once: nothing is
+    /// merged, and no list of all entries is made.
     ///
     /// # Errors
     ///
@@ -55,9 +59,7 @@ impl LogMap {
         if pairs.len() as u64 > accepted {
             return Err(LoadFault::Full { accepted });
         }
-        let entries = entries_put(alloc, pairs)?;
-        let mut map = LogMap::new(alloc, levels)?;
-        map.append(&Here { alloc }, alloc, &entries)?;
+        let map = map_put(alloc, levels, pairs)?;
         Ok(map)
     }
 
@@ -125,16 +127,59 @@ fn first_stall(pairs: &[(u64, u64)]) -> Option<usize>
     None
 }
 
-/// The entries of puts of these pairs.
-fn entries_put(alloc: Global, pairs: &[(u64, u64)]) -> Result<Vec<Entry>, NoMemory>
-    ensures { IfOk result (λ entries. entries.items ≡ entries_put pairs.now) }
+/// The map of rising pairs, which fit it: each level's entries are made of its part of the pairs.
+fn map_put(alloc: Global, levels: u32, pairs: &[(u64, u64)]) -> Result<LogMap, NoMemory>
+    requires some { 1 ≤ levels }
+    requires few { levels ≤ 26 }
+    requires rising { AreRising pairs.now }
+    requires fit { length pairs.now < 64 * 2 ^ levels }
+    ensures cut { IfOk result (λ map. IsCutOf map (entries_put pairs.now)) }
+    ensures levels { IfOk result (λ map. length map.levels ≡ levels) }
 {
-    let mut entries = Vec::with_capacity(alloc, pairs.len())?;
+    let mut stored = Vec::with_capacity(alloc, levels as usize)?;
+    for i in 0..levels as usize {
+        stored.push(level_put(alloc, pairs, i)?)?;
+    }
+    let block = BLOCK as usize;
+    let mut buffer = Vec::with_capacity(alloc, block)?;
+    put_each(&mut buffer, &pairs[pairs.len() / block * block..]);
+    Ok(LogMap {
+        accepted: pairs.len() as u64,
+        buffer,
+        stored,
+    })
+}
+
+/// Level `i` of the map of rising pairs, if it is occupied.
+fn level_put(alloc: Global, pairs: &[(u64, u64)], i: usize) -> Result<Option<Arc<Level>>, NoMemory>
+    requires low { i < 26 }
+    requires rising { AreRising pairs.now }
+    requires few { length pairs.now < 2 ^ 32 }
+    ensures { IfOk result (λ level.
+        IsLevelFor (entries_put pairs.now) (length pairs.now / BLOCK) i (shared_of level)) }
+{
+    let blocks = pairs.len() as u64 / BLOCK;
+    if (blocks >> i) % 2 == 0 {
+        return Ok(None);
+    }
+    let start = entries_from_bit(i + 1, blocks);
+    let end = entries_from_bit(i, blocks);
+    let part = part(pairs, start as usize, end as usize);
+    let mut entries = Vec::with_capacity(alloc, part.len())?;
+    put_each(&mut entries, part);
+    Ok(Some(shared(&Here { alloc }, alloc, entries)?))
+}
+
+/// Puts the entries of puts of these pairs behind those of a list, which has room for them.
+fn put_each(into: &mut Vec<Entry>, pairs: &[(u64, u64)])
+    requires room { vec_len into.old + length pairs.now ≤ vec_capacity into.old }
+    ensures items { into.new.items ≡ into.old.items ++ entries_put pairs.now }
+    ensures capacity { vec_capacity into.new ≡ vec_capacity into.old }
+{
     for pair in pairs {
-        entries.push(Entry {
+        into.push_reserved(Entry {
             key: pair.0,
             value: Some(pair.1),
-        })?;
+        });
     }
-    Ok(entries)
 }

@@ -133,7 +133,7 @@ impl LogMap {
 
     /// How many entries level `i` has, if it is occupied. It is where bit `i` of a 64th of
     /// [`LogMap::accepted`] is 1.
-    pub fn shape(&self, i: u32) -> Option<u64>
+    pub fn level_len(&self, i: u32) -> Option<u64>
         requires { i < length self.now.levels }
         ensures count { result ≡ option_map length (level_of self.now i) }
         ensures free { IsNone result ↔ (bit_at (self.now.accepted / BLOCK) i ≡ 0) }

@@ -2,5 +2,4 @@ pub mod LevelLemmas
 pub mod LastLemmas
 pub mod FilterLemmas
 pub mod PutLemmas
-pub mod ResultLemmas
 pub mod WordLemmas

@@ -5,13 +5,12 @@ use Rattle.std.specs.declared.alloc.Global.{Global}
 use denote.Param.Members.{Shared}
 use denote.Ref.{Bor}
 use Rattle.tombstones.specs.declared.entry.Entry.{Entry}
-use Rattle.tombstones.specs.Entries.{IsAscending, entry_at, winner_at, kept}
+use Rattle.tombstones.specs.Entries.{IsAscending, IsMerge}
 use Rattle.levels.specs.Indexes.{PgmIndex, IsIndexOf}
 
 -- the merge of two lists of entries, unless memory ran out
-pub record IsMergeOf (newer older : List Entry) (deepest : Bool) (merged : Result (Vec Entry Global) AllocError) : Type 0 where
-  pub ascending : IfOk merged (λ list. IsAscending list.items)
-  pub winners : IfOk merged (λ list. (key : ℕ) → entry_at list.items key ≡ kept deepest (winner_at newer older key))
+abbrev pub IsMergeOf : List Entry → List Entry → Bool → Result (Vec Entry Global) AllocError → Type 0
+IsMergeOf newer older deepest merged = IfOk merged (λ list. IsMerge newer older deepest list.items)
 
 -- the closure may be called with any two ascending lists, and gives their merge
 abbrev pub Merges : {F : Type 0} → Shared F (Bor (List Entry) × (Bor (List Entry) × (Bool × Unit {0}))) (Result (Vec Entry Global) AllocError) → F → Type 0

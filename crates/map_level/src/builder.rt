@@ -1,13 +1,13 @@
 // How levels are made: on the calling thread, or by workers.
 ghost use Rattle.std.specs.Prelude.{◌≡◌, ℕ, ◌≤◌, IfOk};
-ghost use Rattle.tombstones.specs.Entries.{IsAscending, entry_at, winner_at, kept};
+ghost use Rattle.tombstones.specs.Entries.{IsAscending, IsMerge};
 ghost use Rattle.levels.specs.Indexes.{IsIndexOf};
 ghost use Rattle.map_level.specs.Builders.{Merges, Builds};
 
 use budget::NoMemory;
 use edge::Gate;
 use levels::{Index, Keys};
-use options::{Bounds, EPS, EPS_REC, Pieces};
+use options::{Bounds, EPS, EPS_REC, Pieces, Workers};
 use piece_join::even_cuts;
 use std::alloc::Global;
 use std::thread::Threads;
@@ -30,9 +30,7 @@ pub trait Builder {
         requires ready { ready self.now }
         requires newer_ascending { IsAscending newer.now }
         requires older_ascending { IsAscending older.now }
-        ensures ascending { IfOk result (λ merged. IsAscending merged.items) }
-        ensures winners { IfOk result (λ merged. (key : ℕ) →
-            entry_at merged.items key ≡ kept deepest (winner_at newer.now older.now key)) };
+        ensures { IfOk result (λ merged. IsMerge newer.now older.now deepest merged.items) };
 
     /// Builds the index of a level's keys.
     fn index(&self, keys: Keys) -> Built
@@ -65,12 +63,12 @@ impl Builder for Here {
 /// Workers, as the two calls that they do: the methods of a trait can't start threads by a handle
 /// of their type.
 #[derive(Drop)]
-pub struct Workers<M, I> {
+pub struct ByWorkers<M, I> {
     pub merge: M,
     pub index: I,
 }
 
-impl<M: Fn(&[Entry], &[Entry], bool) -> Merged, I: Fn(Keys) -> Built> Builder for Workers<M, I> {
+impl<M: Fn(&[Entry], &[Entry], bool) -> Merged, I: Fn(Keys) -> Built> Builder for ByWorkers<M, I> {
     ghost ready = { λ workers. Merges M.Fn workers.merge × Builds I.Fn workers.index };
 
     fn merge(&self, newer: &[Entry], older: &[Entry], deepest: bool) -> Merged {
@@ -87,8 +85,8 @@ impl<M: Fn(&[Entry], &[Entry], bool) -> Merged, I: Fn(Keys) -> Built> Builder fo
 /// thousand points to segment.
 const PIECE: u32 = 131_072;
 
-/// The index of keys, built by several workers, 1 to 64: in as many pieces, but in fewer where
-/// these would be short. The gate is passed before and after each piece.
+/// The index of keys, built by several workers: in as many pieces, but in fewer where these would
+/// be short. The gate is passed before and after each piece.
 ///
 /// # Errors
 ///
@@ -97,22 +95,19 @@ pub fn index_in_pieces<R: Threads + Sync, G: Gate>(
     rt: &R,
     alloc: Global,
     keys: Keys,
-    workers: u32,
+    workers: Workers,
     gate: &G,
 ) -> Built
-    requires staffed { 1 ≤ workers }
-    requires few_workers { workers ≤ 64 }
     ensures { IfOk result (IsIndexOf keys EPS EPS_REC) }
 {
     let points = keys.point_count();
     let pieces = Pieces {
-        count: (points / PIECE).clamp(1, workers),
+        count: (points / PIECE).clamp(1, workers.count),
     };
     let cuts = even_cuts(alloc, points, pieces)?;
     let bounds = Bounds {
         eps: EPS,
         eps_rec: EPS_REC,
     };
-    let workers = options::Workers { count: workers };
     Index::build(rt, alloc, keys, bounds, &cuts, workers, gate)
 }

@@ -72,7 +72,7 @@ impl Level {
     {
         let (keys, filter) = keys_with_filter(alloc, &entries)?;
         let index = builder.index(keys)?;
-        // The keys are in a nearer cache than the entries.
+        // The keys are still in the cache.
         let grid = Grid::of(alloc, index.keys().as_slice())?;
         Ok(Level {
             entries,

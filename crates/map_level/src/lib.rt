@@ -15,7 +15,7 @@ mod grid;
 mod latest;
 mod level;
 
-pub use builder::{Builder, Built, Here, Merged, Workers, index_in_pieces};
+pub use builder::{Builder, Built, ByWorkers, Here, Merged, index_in_pieces};
 pub use filter::HashedKey;
 pub use latest::latest_of;
 pub use level::Level;

@@ -5,7 +5,7 @@ use Rattle.log_levels.specs.declared.update.Update.{Update}
 use Rattle.log_levels.specs.Accepted.{entries_of, IsPlain}
 use Rattle.logbook.specs.Pages.{Book}
 use Rattle.published.specs.Histories.{updates_of, count_of}
-use Rattle.published.specs.Writers.{Written}
+use Rattle.published.specs.Writers.{IsEmptyWriter, Written}
 use Rattle.map_replay.specs.declared.question.Question.{Question}
 use Rattle.map_replay.specs.declared.reader_states.WaitingReader.{WaitingReader}
 use Rattle.map_replay.specs.declared.reader_states.FinishedReader.{FinishedReader}
@@ -59,13 +59,6 @@ pub record AreFinal (history : List (List Update)) (questions : List Question) (
   pub whole : count_of finals.look.batches ≡ count_of history
   pub count : length finals.readings.items ≡ readers
   pub each : All (HasSeen history questions) finals.readings.items
-
--- a writer of this map's empty history, that has room for so many entries
-pub record IsEmptyWriter (origin : Book) (entries : ℕ) (writer : Written) : Type 0 where
-  pub own : writer.origin ≡ origin
-  pub empty : writer.history ≡ []
-  pub none_staged : writer.batch ≡ []
-  pub fits : entries ≤ writer.capacity
 
 -- no update is a sweep, where senders send them
 abbrev pub AreForSource : Source → List Update → Type 0

@@ -8,7 +8,7 @@ ghost use Rattle.map_replay.specs.ReaderStates.{AreFinal, HasAsked};
 use crate::reader_states::{FinalReadings, FinishedReader};
 use crate::reading::Reading;
 use batches::look_until;
-use published::{Look, MapName, Note, PlainDoor, Reader, Writer};
+use published::{Look, MapName, Note, Reader, Writer};
 use std::sync::Wait;
 
 /// Lets each reader look once more, and keeps the look of the first one, who stands last.
@@ -58,10 +58,9 @@ fn last_look<R: Wait>(rt: &R, mut reader: Reader, note: Note) -> Look
     ensures length { count_of result.batches ≡ count_of note.batches }
 {
     let length = note.length();
-    let mut door = PlainDoor::new();
     reader.learn(note);
     for _turn in rt.forever() {
-        let look = look_until(rt, reader, &mut door);
+        let look = look_until(rt, reader);
         if look.seen() == length {
             return look;
         }

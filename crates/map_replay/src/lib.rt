@@ -14,7 +14,6 @@
 //! Main clauses: `each` and `whole` of [`replay`]. The words of the clauses are in `specs/`.
 #![tactic(auto)]
 
-mod context;
 mod intake;
 mod last_looks;
 mod preparing;

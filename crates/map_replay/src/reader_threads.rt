@@ -6,7 +6,6 @@ ghost use Rattle.map_replay.specs.Watching.{WasAsked};
 ghost use Rattle.map_replay.specs.ReaderStates.{ArePrepared, ArePublished, CanPublish};
 ghost use Rattle.map_replay.specs.ReaderStates.{HasAsked, HasRoom, IsReplayed, IsStartedOn};
 
-use crate::context::Context;
 use crate::last_looks::take_last_looks;
 use crate::question::{Asked, Question};
 use crate::reader_states::{
@@ -15,10 +14,10 @@ use crate::reader_states::{
 use crate::reading::Sighting;
 use crate::sender_threads::publish_arrivals;
 use crate::workload::{Arrivals, Assignment, ReplayResult, Source, Workload};
-use batches::{Batching, learn_newest, look_until, publish_all};
+use batches::{Context, learn_newest, look_until, publish_all};
 use budget::NoMemory;
 use edge::{Gate, Place};
-use published::{MapName, PlainDoor, Slot, Writer};
+use published::{MapName, Slot, Writer};
 use std::sync::Wait;
 use std::sync::atomic::AtomicU32;
 use std::thread;
@@ -98,33 +97,23 @@ fn publish<'s, E, M: MapName + Send + Sync + 's, R: Threads + Wait + Sync + 's, 
     ensures published { IfOk result (λ arrivals. ArePublished workload.entry
         arrivals.numbers.items arrivals.updates.items writer.new.history) }
 {
-    let Context {
-        rt,
-        alloc,
-        slots,
-        gate,
-    } = *context;
     let Workload {
         updates,
         source,
         plan,
         ..
     } = workload;
-    let batching = Batching {
-        size: plan.batch,
-        workers: plan.workers,
-    };
     match source {
         Source::InTurn => {
-            publish_all(rt, alloc, writer, updates, batching, slots, gate)?;
+            publish_all(context, writer, updates, plan)?;
             Ok(Arrivals {
-                numbers: Vec::new(alloc),
-                updates: Vec::new(alloc),
+                numbers: Vec::new(context.alloc),
+                updates: Vec::new(context.alloc),
             })
         }
         Source::Assigned(dealing) => {
             let assignment = Assignment { updates, dealing };
-            publish_arrivals(scope, context, writer, assignment, batching, refused)
+            publish_arrivals(scope, context, writer, assignment, plan, refused)
         }
     }
 }
@@ -191,7 +180,6 @@ fn ask_all<M: MapName + Send + Sync, R: Wait + Sync, G: Gate>(
         mut sightings,
         of,
     } = waiting;
-    let mut door = PlainDoor::new();
     for turn in 0..questions.len() {
         gate.at(Place::Look {
             reader: number,
@@ -199,7 +187,7 @@ fn ask_all<M: MapName + Send + Sync, R: Wait + Sync, G: Gate>(
         });
         learn_newest(rt, &mut reader, slot);
         let known = reader.seen();
-        let look = look_until(rt, reader, &mut door);
+        let look = look_until(rt, reader);
         let sighting = Sighting {
             known,
             length: look.seen(),

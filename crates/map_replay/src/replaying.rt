@@ -5,14 +5,13 @@ ghost use Rattle.map_replay.specs.Readings.{AreCut, IsWholeMixedReading, IsWhole
 ghost use Rattle.map_replay.specs.Mixes.{IsMix};
 ghost use Rattle.map_replay.specs.ReaderStates.{AreForSource, CanPublish, IsOutcome, IsReplayed};
 
-use crate::context::Context;
 use crate::preparing::prepare;
 use crate::question::{Answer, Asked, Question};
 use crate::reader_states::FinalReadings;
 use crate::reader_threads::read_beside;
 use crate::reading::Reading;
 use crate::workload::{Arrivals, Assignment, ReplayResult, Source, Workload};
-use batches::slots_for;
+use batches::{Context, slots_for};
 use budget::NoMemory;
 use edge::Gate;
 use log_levels::Update;

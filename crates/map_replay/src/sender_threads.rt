@@ -2,20 +2,20 @@
 ghost use Rattle.std.specs.Prelude.{◌≡◌, ◌≤◌, ◌<◌, ◌-◌, [], ℕ, length};
 ghost use Rattle.std.specs.Prelude.{IfOk, OnOk, vec_len, vec_capacity};
 ghost use Rattle.map_replay.specs.Mixes.{IsMix};
-ghost use Rattle.map_replay.specs.ReaderStates.{IsEmptyWriter};
+ghost use Rattle.published.specs.Writers.{IsEmptyWriter};
 ghost use Rattle.map_replay.specs.SenderStates.{AreDone, AreStarted, IsDone, IsIntake};
 ghost use Rattle.map_replay.specs.SenderStates.{IsOnItsWay, IsStarted, Keeps};
 ghost use Rattle.map_replay.specs.Readings.{AreCut};
 ghost use Rattle.senders.specs.Senders.{AreFresh, Origin};
 
-use crate::context::Context;
 use crate::intake::{Intake, take_batch};
 use crate::sender_states::{SenderProgress, SenderPromise, StartedSender};
 use crate::sending::send_all;
 use crate::workload::{Arrivals, Assignment, Dealing};
-use batches::{Batching, publish_batch};
+use batches::{Context, publish_batch};
 use budget::NoMemory;
 use edge::Gate;
+use options::Plan;
 use published::{MapName, Writer};
 use senders::{Sender, start_senders};
 use std::snapshot::Snapshot;
@@ -44,7 +44,7 @@ pub fn publish_arrivals<
     context: &Context<'s, M, R, G>,
     writer: &mut Writer,
     assignment: Assignment<'s>,
-    batching: Batching,
+    plan: Plan,
     refused: &'s AtomicU32,
 ) -> Result<Arrivals, NoMemory>
     requires ready { IsEmptyWriter M.origin (length assignment.updates.now) writer.old }
@@ -52,7 +52,7 @@ pub fn publish_arrivals<
     ensures mixed { IfOk result (λ arrivals. IsMix assignment.entry.dealing.senders
         assignment.entry.updates.now arrivals.numbers.items arrivals.updates.items) }
     ensures published { IfOk result (λ arrivals.
-        AreCut batching.size arrivals.updates.items writer.new.history) }
+        AreCut plan.batch arrivals.updates.items writer.new.history) }
 {
     let (alloc, total) = (context.alloc, assignment.updates.len());
     let Dealing {
@@ -69,14 +69,7 @@ pub fn publish_arrivals<
     let mut done = Vec::with_capacity(alloc, senders.len())?;
     let mut intake = Intake { inbox, arrivals };
     start_sender_threads(scope, context, senders, assignment, refused, &mut started);
-    let published = publish_arriving(
-        context,
-        writer,
-        &mut intake,
-        &mut started,
-        assignment,
-        batching,
-    );
+    let published = publish_arriving(context, writer, &mut intake, &mut started, assignment, plan);
     join_senders(context, started, assignment, &mut done);
     let arrivals = close_inbox(context.rt, intake, done, assignment);
     published?;
@@ -168,7 +161,7 @@ fn publish_arriving<M: MapName + Send + Sync, R: Threads + Wait + Sync, G: Gate>
     intake: &mut Intake,
     started: &mut Vec<StartedSender<'_>>,
     assignment: Assignment<'_>,
-    batching: Batching,
+    plan: Plan,
 ) -> Result<(), NoMemory>
     requires ready { IsEmptyWriter M.origin (length assignment.updates.now) writer.old }
     requires none { intake.old.inbox.taken ≡ [] }
@@ -180,32 +173,19 @@ fn publish_arriving<M: MapName + Send + Sync, R: Threads + Wait + Sync, G: Gate>
     ensures started { AreStarted intake.old.inbox.origin assignment.entry started.new.items }
     ensures count { vec_len started.new ≡ vec_len started.old }
     ensures published { OnOk result
-        (AreCut batching.size intake.new.arrivals.updates.items writer.new.history) }
+        (AreCut plan.batch intake.new.arrivals.updates.items writer.new.history) }
     ensures all { length intake.new.arrivals.updates.items ≡ length assignment.entry.updates.now }
 {
-    let Context {
-        rt,
-        alloc,
-        slots,
-        gate,
-    } = *context;
+    let (rt, gate, size) = (context.rt, context.gate, plan.batch as usize);
     let mut published = Ok(());
     let mut number = 0;
     while intake.arrivals.updates.len() < assignment.updates.len() {
         let from = intake.arrivals.updates.len();
-        take_batch(
-            rt,
-            intake,
-            started,
-            assignment,
-            batching.size as usize,
-            gate,
-        );
+        take_batch(rt, intake, started, assignment, size, gate);
         if published.is_ok() {
             number += 1;
             let batch = &intake.arrivals.updates[from..];
-            let workers = batching.workers;
-            published = publish_batch(rt, alloc, writer, batch, number, workers, slots, gate);
+            published = publish_batch(context, writer, batch, number, plan.workers);
         }
     }
     published

@@ -1,6 +1,7 @@
 -- A history: the batches of updates that were published, in order.
 use Rattle.logbook.specs.Pages.{Book}
-use Rattle.std.specs.Prelude.{ℕ, ◌<◌, if◌then◌else◌, nat_lt, List, [], ◌∷◌, ◌++◌, length}
+use Rattle.std.specs.Prelude.{◌≡◌, ℕ, ◌<◌, if◌then◌else◌, nat_lt, List, [], ◌∷◌, ◌++◌, length, Result, IfOk, IfErr}
+use mathlib.Core.List.{IsPrefix}
 use Rattle.log_levels.specs.declared.update.Update.{Update}
 
 -- a prefix of a history: of which one, and its batches
@@ -30,3 +31,9 @@ longer_of first second = if nat_lt (count_of first) (count_of second) then secon
 abbrev pub published : List (List Update) → List Update → List (List Update)
 published history [] = history
 published history (update ∷ updates) = history ++ (update ∷ updates) ∷ []
+
+-- a look of a reader: what is shown begins with what the reader saw, of the same history; or the reader comes back as it was
+pub record IsLookOf (reader : Front) (result : Result Front Front) : Type 0 where
+  pub shown : IfOk result (λ look. IsPrefix reader.batches look.batches)
+  pub own : IfOk result (λ look. look.origin ≡ reader.origin)
+  pub back : IfErr result (λ back. back ≡ reader)

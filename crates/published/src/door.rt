@@ -1,9 +1,8 @@
 // Doors, through which readers look.
 ghost use Rattle.std.specs.Prelude.{◌≡◌, ◌+◌, ◌≤◌, ℕ, min, true, Contains, Result};
-ghost use Rattle.std.specs.Prelude.{IfOk, IfErr, OnOk, OnErr};
-ghost use mathlib.Core.List.{IsPrefix};
+ghost use Rattle.std.specs.Prelude.{OnOk, OnErr};
 ghost use Rattle.edge.specs.Risen.{HasRisen};
-ghost use Rattle.published.specs.Histories.{Front};
+ghost use Rattle.published.specs.Histories.{Front, IsLookOf};
 
 use crate::reader::{Look, Reader};
 
@@ -27,9 +26,7 @@ pub trait Door {
     ///
     /// The reader, only where the count rose in this call, or stands at its last value.
     fn enter(&mut self, inner: Inner) -> Result<Inside, Inner>
-        ensures shown { IfOk result (λ inside. IsPrefix inner.batches inside.batches) }
-        ensures own { IfOk result (λ inside. inside.origin ≡ inner.origin) }
-        ensures back { IfErr result (λ back. back ≡ inner) }
+        ensures look { IsLookOf inner result }
         ensures call { enters self.old result self.new }
         ensures never_falls { refused self.old ≤ refused self.new }
         ensures passed { OnOk result (refused self.new ≡ refused self.old) }
@@ -60,7 +57,7 @@ impl Door for PlainDoor {
     ghost enters = { λ _ _ _. ⊤ };
 
     fn enter(&mut self, inner: Inner) -> Result<Inside, Inner> {
-        match inner.enter() {
+        match inner.look() {
             Ok(inside) => Ok(inside),
             Err(inner) => {
                 self.refusals = self.refusals.saturating_add(1);

@@ -1,12 +1,12 @@
 // Readers, looks and notes. None of their calls waits or takes memory.
-ghost use Rattle.std.specs.Prelude.{◌≡◌, ◌++◌, Some, IfOk, IfErr, OnOk, OnErr};
+ghost use Rattle.std.specs.Prelude.{◌≡◌, ◌++◌, Some, OnOk, OnErr};
 ghost use Rattle.std.specs.Prelude.{length, take, drop, min};
 ghost use mathlib.Core.List.{IsPrefix};
 ghost use Rattle.edge.specs.Risen.{HasRisen};
 ghost use Rattle.log_levels.specs.Maps.{map_after, value_at, next_from, count_between};
 ghost use Rattle.log_levels.specs.Maps.{previous_to, pairs_between};
 ghost use Rattle.left_right.specs.Sides.{view};
-ghost use Rattle.published.specs.Histories.{Front, updates_of, count_of, longer_of};
+ghost use Rattle.published.specs.Histories.{Front, IsLookOf, updates_of, count_of, longer_of};
 
 use crate::copies::{OnlyGrows, Place, Sees};
 use crate::door::Door;
@@ -20,7 +20,7 @@ use std::marker::Model;
 pub struct Reader {
     place: Place,
     known: Prefix,
-    // Whether that was learned, and is longer than what was seen.
+    /// Whether that was learned, and is longer than what was seen.
     learned: bool,
 }
 
@@ -121,31 +121,18 @@ impl Reader {
         self.known.len()
     }
 
-    /// Looks at the map through a door.
+    /// Looks at the map.
     ///
     /// The look shows a prefix of the history that ends a batch and begins with all that this
-    /// reader saw and learned. It stays the same until the reader leaves.
+    /// reader saw and learned. It stays the same until the reader leaves. What the reader saw is
+    /// shown by the rule of the copies. What it learned is compared, since a note is no part of
+    /// them.
     ///
     /// # Errors
     ///
-    /// The reader as it was, only where the door's count of refusals rose in this call.
-    pub fn look<D: Door>(self, door: &mut D) -> Result<Look, Reader>
-        ensures shown { IfOk result (λ look. IsPrefix self.batches look.batches) }
-        ensures own { IfOk result (λ look. look.origin ≡ self.origin) }
-        ensures back { IfErr result (λ back. back ≡ self) }
-        ensures call { D.enters door.old result door.new }
-        ensures passed { OnOk result (D.refused door.new ≡ D.refused door.old) }
-        ensures refused { OnErr result (HasRisen (D.refused door.old) (D.refused door.new)) }
-    {
-        door.enter(self)
-    }
-
-    /// Enters. What is shown begins with all that this reader saw, by the rule of the copies. What
-    /// it learned is compared, since a note is no part of them.
-    pub(crate) fn enter(self) -> Result<Look, Reader>
-        ensures shown { IfOk result (λ look. IsPrefix self.batches look.batches) }
-        ensures own { IfOk result (λ look. look.origin ≡ self.origin) }
-        ensures back { IfErr result (λ back. back ≡ self) }
+    /// The reader as it was, where nobody is let in, as once the writer is closed.
+    pub fn look(self) -> Result<Look, Reader>
+        ensures { IsLookOf self result }
     {
         let Reader {
             place,
@@ -171,6 +158,22 @@ impl Reader {
                 learned,
             }),
         }
+    }
+
+    /// Looks at the map through a door.
+    ///
+    /// The look is as that of [`Reader::look`].
+    ///
+    /// # Errors
+    ///
+    /// The reader as it was, only where the door's count of refusals rose in this call.
+    pub fn look_through<D: Door>(self, door: &mut D) -> Result<Look, Reader>
+        ensures look { IsLookOf self result }
+        ensures call { D.enters door.old result door.new }
+        ensures passed { OnOk result (D.refused door.new ≡ D.refused door.old) }
+        ensures refused { OnErr result (HasRisen (D.refused door.old) (D.refused door.new)) }
+    {
+        door.enter(self)
     }
 }
 

@@ -7,7 +7,7 @@ ghost use Rattle.std.specs.Prelude.{IfOk, OnOk, OnErr, Err, vec_len, vec_capacit
 ghost use Rattle.std.specs.Bool.{OnTrue};
 ghost use Rattle.left_right.specs.Sides.{view};
 ghost use Rattle.published.specs.Histories.{Front, count_of, published};
-ghost use Rattle.published.specs.Writers.{Refuses};
+ghost use Rattle.published.specs.Writers.{IsSameMap, Refuses};
 
 use crate::copies::{Copies, give_up, show, told_place, with_room};
 use crate::history::{Head, Prefix, open};
@@ -16,6 +16,7 @@ use crate::version::Version;
 use budget::NoMemory;
 use edge::Gate;
 use log_levels::{LogMap, MapFault, Update};
+use options::Workers;
 use std::alloc::Global;
 use std::marker::Model;
 use std::mem::replace;
@@ -26,12 +27,12 @@ use std::thread::Threads;
 ///
 /// It can't be dropped: end it by [`Writer::close`].
 pub struct Writer {
-    // Out of its place only while a version is being shown.
+    /// Out of its place only while a version is being shown.
     copies: Option<Copies>,
     head: Head,
     front: Prefix,
     batch: Vec<Update>,
-    // The map after what is published and the batch.
+    /// The map after what is published and the batch.
     map: Arc<LogMap>,
 }
 
@@ -130,10 +131,10 @@ fn make_readers<R: Wait>(
 impl Writer {
     /// Adds updates to the batch in hand, all or none.
     ///
-    /// The next version of the map is made aside, by `workers` workers, 1 to 64: they merge long
-    /// lists of entries, and build the index of each new level in pieces, passing the gate at
-    /// `PieceBegun` before each piece and at `PieceDone` after it. Readers go on meanwhile, and see
-    /// nothing of it. The call returns only if the gate does.
+    /// The next version of the map is made aside, by workers: they merge long lists of entries, and
+    /// build the index of each new level in pieces, passing the gate at `PieceBegun` before each
+    /// piece and at `PieceDone` after it. Readers go on meanwhile, and see nothing of it. The call
+    /// returns only if the gate does.
     ///
     /// # Errors
     ///
@@ -147,16 +148,13 @@ impl Writer {
         rt: &R,
         alloc: Global,
         updates: &[Update],
-        workers: u32,
+        workers: Workers,
         gate: &G,
     ) -> Result<(), MapFault>
-        requires staffed { 1 ≤ workers }
-        requires few_workers { workers ≤ 64 }
         ensures staged { OnOk result (self.new.batch ≡ self.old.batch ++ updates.now) }
         ensures history { self.new.history ≡ self.old.history }
         ensures unchanged { OnErr result (self.new ≡ self.old) }
-        ensures own { self.new.origin ≡ self.old.origin }
-        ensures capacity { self.new.capacity ≡ self.old.capacity }
+        ensures same_map { IsSameMap self.old self.new }
         ensures refused { Refuses self.old updates.now result }
     {
         let next = self.map.applied(rt, alloc, updates, workers, gate)?;
@@ -189,8 +187,7 @@ impl Writer {
         ensures length { IfOk result (λ length. length ≡ count_of self.new.history) }
         ensures emptied { OnOk result (self.new.batch ≡ []) }
         ensures unchanged { OnErr result (self.new ≡ self.old) }
-        ensures own { self.new.origin ≡ self.old.origin }
-        ensures capacity { self.new.capacity ≡ self.old.capacity }
+        ensures same_map { IsSameMap self.old self.new }
     {
         if self.batch.is_empty() {
             return Ok(self.front.len());

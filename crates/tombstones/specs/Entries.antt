@@ -1,7 +1,7 @@
 -- Entry lists, and what a merge of two is, by the entry at each key.
 -- Sources: Bentley and Saxe, 1980 (lists of doubling size, merged); O'Neil, Cheng, Gawlick and O'Neil, 1996 (an entry
 -- that marks a deleted key, here a tombstone, stays until no older list is left below).
-use Rattle.std.specs.Prelude.{ℕ, ◌<◌, ◌==◌, Bool, if◌then◌else◌, List, Option, Some, None, is_some, find}
+use Rattle.std.specs.Prelude.{◌≡◌, ℕ, ◌<◌, ◌==◌, Bool, if◌then◌else◌, List, Option, Some, None, is_some, find}
 use Rattle.std.specs.List.{AllPairs}
 use Rattle.std.specs.Option.{option_or}
 use Rattle.tombstones.specs.declared.entry.Entry.{Entry}
@@ -26,3 +26,8 @@ with_value (Some entry) = if is_some entry.value then Some entry else None
 -- what a merge keeps of a key's winner: all, but in the deepest level no tombstone
 abbrev pub kept : Bool → Option Entry → Option Entry
 kept deepest winner = if deepest then with_value winner else winner
+
+-- the merge of two lists: at each key, also one that is in neither, it has what it keeps of the winner
+pub record IsMerge (newer older : List Entry) (deepest : Bool) (merged : List Entry) : Type 0 where
+  pub ascending : IsAscending merged
+  pub winners : (key : ℕ) → entry_at merged key ≡ kept deepest (winner_at newer older key)

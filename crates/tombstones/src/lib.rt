@@ -14,15 +14,15 @@
 //!
 //! [`merge_in_pieces`] gives the same list by several workers.
 //!
-//! Main clauses: `ascending` and `winners` of [`merge`] and of [`merge_in_pieces`]. The words of
-//! the clauses are in `specs/Entries.antt`.
+//! Main clause: that of [`merge`] and of [`merge_in_pieces`], `IsMerge`. The words of the clauses are
+//! in `specs/Entries.antt`.
 #![tactic(auto)]
 
 ghost use Rattle.std.specs.Prelude.{◌≡◌, ℕ, ◌+◌, ◌<◌, ◌≤◌, ◌++◌};
 ghost use Rattle.std.specs.Prelude.{◌∷◌, ◌↔◌, []};
 ghost use Rattle.std.specs.Prelude.{Some, IfOk, IsTrue, MatchOption};
 ghost use Rattle.std.specs.Prelude.{length, take, drop, All, vec_len, vec_capacity};
-ghost use Rattle.tombstones.specs.Entries.{IsAscending, entry_at, winner_at, kept};
+ghost use Rattle.tombstones.specs.Entries.{IsAscending, IsMerge, kept};
 
 mod entry;
 mod pieces;
@@ -72,11 +72,7 @@ pub fn merge(
 ) -> Result<Vec<Entry>, NoMemory>
     requires newer_ascending { IsAscending newer.now }
     requires older_ascending { IsAscending older.now }
-    ensures ascending { IfOk result (λ merged. IsAscending merged.items) }
-
-    // At every key, so what stands in neither list is not in the result.
-    ensures winners { IfOk result (λ merged. (key : ℕ) →
-        entry_at merged.items key ≡ kept deepest (winner_at newer.now older.now key)) }
+    ensures { IfOk result (λ merged. IsMerge newer.now older.now deepest merged.items) }
 {
     let room = Vec::with_capacity(alloc, newer.len() + older.len())?;
     Ok(merged_in(room, newer, older, deepest))
@@ -91,9 +87,7 @@ fn merged_in(room: Vec<Entry>, newer: &[Entry], older: &[Entry], deepest: bool) 
     requires older_ascending { IsAscending older.now }
     requires empty { room.items ≡ [] }
     requires room { length newer.now + length older.now ≤ vec_capacity room }
-    ensures ascending { IsAscending result.items }
-    ensures winners { (key : ℕ) →
-        entry_at result.items key ≡ kept deepest (winner_at newer.now older.now key) }
+    ensures { IsMerge newer.now older.now deepest result.items }
 {
     let mut merged = room;
     let mut remaining = Remaining { newer, older };

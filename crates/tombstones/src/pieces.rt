@@ -1,11 +1,12 @@
 // A merge by threads: both lists are cut at the same keys, and the parts are merged side by side.
 ghost use Rattle.std.specs.Prelude.{◌≡◌, ℕ, ◌<◌, ◌≤◌, length, max, IfOk};
-ghost use Rattle.tombstones.specs.Entries.{IsAscending, entry_at, winner_at, kept};
+ghost use Rattle.tombstones.specs.Entries.{IsAscending, IsMerge, entry_at};
 ghost use Rattle.tombstones.specs.Parts.{IsBetween, IsCutAt, IsMergedPart, edge_of, longer_of};
 ghost use Rattle.tombstones.specs.Parts.{merged_at};
 
 use crate::{Entry, merge, place_of};
 use budget::NoMemory;
+use options::Workers;
 use std::alloc::Global;
 use std::thread;
 use std::thread::Threads;
@@ -17,11 +18,11 @@ const SHORTEST: usize = 4096;
 /// Merges two lists of entries as [`merge`] does, by several workers: the same list for every
 /// number of workers.
 ///
-/// Both lists are cut before the same keys, those at even places of the longer one. Each of the
-/// `workers`, 1 to 64, merges a part of both into a list of its own, and these are put one behind
-/// the other. Worker threads are joined before the call returns; where one can't be started the
-/// caller does its work. No more of them are started than there are parts of 4,096 entries of the
-/// longer list, and none for one part.
+/// Both lists are cut before the same keys, those at even places of the longer one. Each worker
+/// merges a part of both into a list of its own, and these are put one behind the other. Worker
+/// threads are joined before the call returns; where one can't be started the caller does its work.
+/// No more of them are started than there are parts of 4,096 entries of the longer list, and none
+/// for one part.
 ///
 /// Room is taken for as many entries as both lists have, and as much again for the workers' lists,
 /// until the call returns: with two parts or more each entry is copied twice.
@@ -35,18 +36,14 @@ pub fn merge_in_pieces<R: Threads + Sync>(
     newer: &[Entry],
     older: &[Entry],
     deepest: bool,
-    workers: u32,
+    workers: Workers,
 ) -> Result<Vec<Entry>, NoMemory>
     requires newer_ascending { IsAscending newer.now }
     requires older_ascending { IsAscending older.now }
-    requires staffed { 1 ≤ workers }
-    requires few_workers { workers ≤ 64 }
-    ensures ascending { IfOk result (λ merged. IsAscending merged.items) }
-    ensures winners { IfOk result (λ merged. (key : ℕ) →
-        entry_at merged.items key ≡ kept deepest (winner_at newer.now older.now key)) }
+    ensures { IfOk result (λ merged. IsMerge newer.now older.now deepest merged.items) }
 {
     let longest = newer.len().max(older.len());
-    let parts = (workers as usize).min(longest / SHORTEST);
+    let parts = (workers.count as usize).min(longest / SHORTEST);
     merge_parts(rt, alloc, newer, older, deepest, parts)
 }
 
@@ -61,9 +58,7 @@ fn merge_parts<R: Threads + Sync>(
 ) -> Result<Vec<Entry>, NoMemory>
     requires newer_ascending { IsAscending newer.now }
     requires older_ascending { IsAscending older.now }
-    ensures ascending { IfOk result (λ merged. IsAscending merged.items) }
-    ensures winners { IfOk result (λ merged. (key : ℕ) →
-        entry_at merged.items key ≡ kept deepest (winner_at newer.now older.now key)) }
+    ensures { IfOk result (λ merged. IsMerge newer.now older.now deepest merged.items) }
 {
     let parts = most.min(newer.len().max(older.len()));
     if parts < 2 {

@@ -52,7 +52,7 @@ impl Remaining<'_> {
         ensures shorter { length self.new.newer.now + length self.new.older.now <
             length self.old.newer.now + length self.old.older.now }
     {
-        // The lists move by the answers: of branches on them half were foretold wrongly. The second
+        // The lists move by the answers: of branches on them half were mispredicted. The second
         // compares in the order of the first, since of the other order the compiler makes branches.
         let (new, old) = (&self.newer[0], &self.older[0]);
         let takes_new = new_key <= old_key;

@@ -19,5 +19,5 @@ close_inbox-arrivals-requires-clause-done g c =
 
 pub returns-clause-published : goal.returns-clause-published
 returns-clause-published g c =
-    subst (λ (mixed : List Update). AreCut c.args.batching.size mixed c.publish_arriving-published.new.writer.history) (sym c.close_inbox-arrivals.ensures.same)
+    subst (λ (mixed : List Update). AreCut c.args.plan.batch mixed c.publish_arriving-published.new.writer.history) (sym c.close_inbox-arrivals.ensures.same)
     c.in_ok-published.ensures.published

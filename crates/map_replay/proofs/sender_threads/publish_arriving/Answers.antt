@@ -43,7 +43,7 @@ publish_batch-published-requires-clause-fits g c κs within =
     let all = whole (updates_of c.loop-rt.writer.history) c.loop-rt.intake.arrivals.updates.items after items from same.whole c.deref.ensures.value begins in
     let plain = plain_entries after c.take_batch.ensures.intake.plain in
     let few : length after ≤ length c.args.assignment.updates.now = omega (arith, c.take_batch.ensures.intake.within, ap (λ (l : List Update). length l) c.take_batch.ensures.intake.updates ∙ length-map c.take_batch.new.intake.inbox.taken (λ item. item.1)) in
-    omega (arith, ap (λ (l : List Update). length (entries_of l)) all, plain, few, c.requires.ready.fits, inv.capacity)
+    omega (arith, ap (λ (l : List Update). length (entries_of l)) all, plain, few, c.requires.ready.fits, inv.same_map.capacity)
 
 pub loop-rt-preserved-then-is_ok : goal.loop-rt-preserved-then-is_ok
 loop-rt-preserved-then-is_ok g c =
@@ -58,11 +58,13 @@ loop-rt-preserved-then-is_ok g c =
     let same = where_ok c.loop-rt.published (sym c.is_ok.ensures.value ∙ c.if-is_ok.true) inv.published in
     let all = whole (updates_of history) c.loop-rt.intake.arrivals.updates.items after items from same.whole c.deref.ensures.value begins in
     let made = c.publish_batch-published.ensures in
-    let few : length batch ≤ c.args.batching.size =
+    let few : length batch ≤ c.args.plan.batch =
     omega (arith, length-take (length items - from) (drop from items), length-drop from items, ap (λ (l : List Update). length l) c.deref.ensures.value, c.take_batch.ensures.took.few, from_is) in
     record {
-      own = made.own ∙ inv.own;
-      capacity = made.capacity ∙ inv.capacity;
+      same_map = record {
+        origin = made.same_map.origin ∙ inv.same_map.origin;
+        capacity = made.same_map.capacity ∙ inv.same_map.capacity;
+      };
       origin = c.take_batch.ensures.took.own ∙ inv.origin;
       intake = c.take_batch.ensures.intake;
       started = subst (λ (o : Origin). AreStarted o c.args.assignment c.take_batch.new.started.items) inv.origin c.take_batch.ensures.started;
@@ -70,8 +72,8 @@ loop-rt-preserved-then-is_ok g c =
       number = omega (arith, inv.number, c.take_batch.ensures.took.more);
       staged = made.none_staged;
       published = on_ok_weaker c.publish_batch-published.result
-          (λ is. subst (AreCut c.args.batching.size after) (sym is) (record {
+          (λ is. subst (AreCut c.args.plan.batch after) (sym is) (record {
             whole = updates_of-snoc history batch ∙ all;
-            few = All-push (λ (batch : List Update). length batch ≤ c.args.batching.size) history batch same.few few;
+            few = All-push (λ (batch : List Update). length batch ≤ c.args.plan.batch) history batch same.few few;
           })) made.published;
     }

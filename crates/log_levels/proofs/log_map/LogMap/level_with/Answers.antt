@@ -11,7 +11,7 @@ returns-in-Greater g c =
     let above : c.args.top < c.args.i = above-greater c.args.i c.args.top c.in-Greater.ensures in
     IfOk-weaker c.shared_level.result _ _ (λ level is entries cut.
     subst (IsLevelFor (entries ++ c.args.new.now) ((c.args.self.now.accepted + length c.args.new.now) / 64) c.args.i) (sym is)
-    (shared-of c.args.self.now c.args.new.now c.args.top c.requires.change entries cut c.args.i above c.requires.occupied)) c.shared_level.ensures
+    (shared-of c.args.self.now c.args.new.now c.args.top c.requires.growth.change entries cut c.args.i above c.requires.occupied)) c.shared_level.ensures
 
 pub returns-in_ok-merged_level-in-Equal : goal.returns-in_ok-merged_level-in-Equal
 returns-in_ok-merged_level-in-Equal g c = λ entries cut.

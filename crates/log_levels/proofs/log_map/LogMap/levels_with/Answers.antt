@@ -8,12 +8,12 @@ use Rattle.log_levels.proofs.log_map.LogMap.levels_with.Goals as goal
 pub loop-i-preserved : goal.loop-i-preserved
 loop-i-preserved g c = record {
   count = omega (arith, c.push.new.self.ok.0, c.loop-i.levels.ok.0, c.in_ok-push.ensures.len, c.loop-i.invariant.count);
-  levels = λ entries i cut below.
+  levels = λ i below entries cut.
       let blocks = (c.args.self.now.accepted + length c.args.new.now) / 64 in
       elim (cases_lt i c.loop-i.i) [
         | inl earlier ↦ subst (IsLevelFor (entries ++ c.args.new.now) blocks i)
             (sym (levels_of-before c.loop-i.levels.items c.push.new.self.items c.in_ok-level_with.field-0 i c.in_ok-push.ensures.items (omega (arith, c.loop-i.invariant.count))))
-            (c.loop-i.invariant.levels entries i cut earlier)
+            (c.loop-i.invariant.levels i earlier entries cut)
         | inr later ↦
             let same : c.loop-i.i ≡ i = omega arith in
             subst (IsLevelFor (entries ++ c.args.new.now) blocks i)
@@ -23,6 +23,6 @@ loop-i-preserved g c = record {
 }
 
 pub returns-clause-levels : goal.returns-clause-levels
-returns-clause-levels g c = λ entries i cut inside.
-    c.loop-i.invariant.levels entries i cut
+returns-clause-levels g c = λ i inside.
+    c.loop-i.invariant.levels i
     (omega (arith, ap (λ (held : Held). length held.levels) c.self.view_is, length-levels_of c.self.inside.stored.items, c.self.inside.stored.ok.0, c.len-count.ensures, c.loop-i.auto.i-end))

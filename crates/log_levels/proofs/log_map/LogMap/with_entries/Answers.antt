@@ -23,7 +23,7 @@ is_cut g c entries cut =
     let buffer = added ∙ ap (λ (list : List Entry). list ++ take (length c.args.new.now - start) (drop start c.args.new.now)) none
     ∙ take_rest c.args.new.now start ∙ ap (λ k. drop (c.blocks_with-blocks.result * 64 - k) c.args.new.now) accepted in
     grown c.args.self.now (map g c) entries c.args.new.now c.blocks_with-blocks.result cut c.requires.flush (omega (arith, c.requires.room, capacity.1)) c.blocks_with-blocks.ensures.blocks
-    (omega (arith, accepted)) buffer (length-levels_of c.in_ok-stored.stored.items ∙ c.in_ok-stored.ensures.count) (λ i inside. c.in_ok-stored.ensures.levels entries i cut inside)
+    (omega (arith, accepted)) buffer (length-levels_of c.in_ok-stored.stored.items ∙ c.in_ok-stored.ensures.count) (λ i inside. c.in_ok-stored.ensures.levels i inside entries cut)
 
 pub invariant_of-result : goal.invariant_of-result
 unfolding map

@@ -1,9 +1,10 @@
-// What writer, readers and senders of one map share.
+// What goes with a writer's calls.
 
 use published::{MapName, Slot};
 use std::alloc::Global;
 
-/// The runtime, the memory, the gate, and a slot for each reader's newest note.
+/// What a writer's calls work with: the runtime, the memory, the gate, and a slot for each reader's
+/// newest note.
 #[derive(Drop)]
 pub struct Context<'a, M: MapName, R, G> {
     pub rt: &'a R,
