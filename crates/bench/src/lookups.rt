@@ -3,10 +3,10 @@ ghost use Rattle.std.specs.Prelude.{◌≤◌};
 
 use crate::shared::{ROUNDS, error_bound, keys_of, least_of, nanos_each, number, questions_of};
 use anyhow::{Result, bail, ensure};
-use bucketed::{Buckets, MAX_BITS};
+use bucketed::Buckets;
 use exact_cross::MAX_EPSILON;
 use levels::{Index, Keys};
-use options::{Bounds, EPS_REC};
+use options::{Bounds, EPS_REC, MAX_BITS};
 use std::alloc::{AllocError, Global};
 use std::rt::{Clock, Files};
 use std::time::{Duration, Instant};

@@ -5,11 +5,9 @@ ghost use Rattle.bucketed.specs.Tables.{entry_at};
 use crate::table::table_of;
 use budget::NoMemory;
 use levels::Index;
+use options::MAX_BITS;
 use std::alloc::Global;
 use std::marker::Model;
-
-/// The most bits of a bucket.
-pub const MAX_BITS: u32 = 20;
 
 /// An index with a table of the runs of level 0, by the top bits of their first x. Seen as a record
 /// of the index and of how many bits these are.

@@ -15,4 +15,4 @@ mod lookup;
 mod positions;
 mod table;
 
-pub use buckets::{Buckets, MAX_BITS};
+pub use buckets::Buckets;

@@ -4,9 +4,7 @@ ghost use Rattle.std.specs.Prelude.{length, map, vec_len, vec_capacity};
 ghost use Rattle.window_search.specs.Searches.{lb};
 
 use crate::Buckets;
-
-/// How many searches are interleaved. Their reads of memory don't wait for one another.
-const LANES: usize = 16;
+use key_search::LANES;
 
 impl<'a> Buckets<'a> {
     /// The position of each question in the file, in order, behind what the list has: how many keys

@@ -2,9 +2,9 @@
 ghost use Rattle.std.specs.Prelude.{◌≤◌, IfOk};
 ghost use Rattle.bucketed.specs.Tables.{IsTable};
 
-use crate::MAX_BITS;
 use budget::NoMemory;
 use levels::Index;
+use options::MAX_BITS;
 use radix_table::fill_to;
 use std::alloc::Global;
 

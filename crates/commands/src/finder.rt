@@ -9,7 +9,8 @@ ghost use Rattle.commands.specs.Finders.{keys_of, FindsBy};
 use crate::task::SortedKeys;
 use bucketed::Buckets;
 use budget::NoMemory;
-use levels::{Index, positions_among, positions_grouped};
+use key_search::{positions_among, positions_grouped};
+use levels::Index;
 use std::alloc::Global;
 
 /// So many questions are grouped by where they fall among the sorted keys: fewer gain little by it.

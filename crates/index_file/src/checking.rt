@@ -14,6 +14,7 @@ use crate::{CheckFault, Saved, SavedCut, SavedRun};
 use budget::NoMemory;
 use cut_witness::{holds, is_flat, is_steep};
 use exact_cross::{MAX_EPSILON, PointList, Side, Witness};
+use key_points::places_of;
 use std::alloc::Global;
 
 /// Whether a saved index is the one index of these points for its own error bounds.
@@ -42,10 +43,7 @@ pub fn check(alloc: Global, points: PointList<'_>, saved: &Saved) -> Result<(), 
         MatchResult result (λ _. ⊥)
         (λ fault. (fault ≡ CheckFault.NoMemory) ⊎ (fault ≡ CheckFault.Wrong level)) }
 {
-    match check_all(alloc, points, saved) {
-        Ok(()) => Ok(()),
-        Err(fault) => Err(fault),
-    }
+    check_all(alloc, points, saved)
 }
 
 /// Whether a saved index is the one index, or why it isn't known to be.
@@ -106,7 +104,7 @@ fn is_level_above(alloc: Global, xs: &[u64], eps: u32, runs: &[SavedRun]) -> Res
     ensures exact { IfOk result (λ right. IsTrue right ↔ IsSavedSegmentation
         (points_of xs.now (places (length xs.now))) eps runs.now) }
 {
-    let places = places_of(alloc, xs)?;
+    let places = places_of(alloc, xs.len() as u32)?;
     Ok(is_level(PointList::new(xs, places.as_slice()), eps, runs))
 }
 
@@ -182,18 +180,6 @@ fn start_xs_of(alloc: Global, xs: &[u64], runs: &[SavedRun]) -> Result<Vec<u64>,
     let mut list = Vec::with_capacity(alloc, runs.len())?;
     for run in runs {
         list.push(xs[run.start as usize])?;
-    }
-    Ok(list)
-}
-
-/// The places 0, 1, .. of a list.
-fn places_of(alloc: Global, xs: &[u64]) -> Result<Vec<u32>, NoMemory>
-    requires { length xs.now < 2 ^ 32 }
-    ensures { IfOk result (λ list. list.items ≡ places (length xs.now)) }
-{
-    let mut list = Vec::with_capacity(alloc, xs.len())?;
-    for place in 0..xs.len() as u32 {
-        list.push(place)?;
     }
     Ok(list)
 }

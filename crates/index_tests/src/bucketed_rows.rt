@@ -4,9 +4,10 @@ ghost use Rattle.std.specs.Prelude.{length, vec_len, IsTrue};
 ghost use Rattle.std.specs.List.Sorted.{IsNonDecreasing};
 
 use crate::common::{expect_none, expect_of, index_of};
-use bucketed::{Buckets, MAX_BITS};
+use bucketed::Buckets;
 use budget::NoMemory;
 use levels::Index;
+use options::MAX_BITS;
 use std::alloc::Global;
 use std::process::Abort;
 

@@ -1,21 +1,27 @@
 //! Indexes worked out by hand: how many runs each level has, and positions of questions.
-ghost use Rattle.std.specs.Prelude.{◌≡◌, ◌+◌, ◌<◌, ◌≤◌};
+ghost use Rattle.std.specs.Prelude.{◌≡◌, ◌+◌, ◌*◌, ◌<◌, ◌≤◌};
 ghost use Rattle.std.specs.Prelude.{◌^◌, length, vec_len, IfOk};
+ghost use Rattle.budget.specs.Ledgers.{IsNewLedger};
 ghost use Rattle.key_points.specs.KeyPoints.{xs_of};
-ghost use Rattle.piece_join.specs.Cuttings.{AreCuts};
+ghost use Rattle.levels.specs.Indexes.{places_below};
+ghost use Rattle.piece_join.specs.Cuttings.{AreFewCuts};
 
 use crate::common::{
     expect_answers, expect_none, expect_of, index_of, keys_of, points_of, workers_of,
 };
-use crate::piece_join_rows::has_starts;
-use budget::NoMemory;
+use crate::piece_join_rows::{are_cuts, has_starts};
+use budget::{NoMemory, Steps};
 use cut_witness::slack;
 use edge::OpenGate;
-use levels::{Index, Keys, LevelWindow, is_sorted, positions_among, positions_grouped};
+use exact_cross::MAX_EPSILON;
+use key_search::{positions_among, positions_grouped};
+use levels::{Index, Keys, LevelWindow, is_sorted};
 use options::{Bounds, Pieces};
 use piece_join::even_cuts;
 use std::alloc::Global;
+use std::marker::Brand;
 use std::process::Abort;
+use std::sync::ledger::{Blank, Ledger};
 use std::thread::Threads;
 
 /// Keys, the error bound of level 0, how many runs each level has, and positions of questions.
@@ -149,13 +155,49 @@ fn compared<R: Abort + AllocGlobal>(rt: &R, row: &IndexRow) -> Result<Compared, 
     compared_with(rt.alloc(), &index, row)
 }
 
-/// Builds the index of a row's keys, and compares its runs by level and the positions.
-fn expect_index<R: Abort + AllocGlobal>(rt: &R, row: &IndexRow) -> Result<(), NoMemory> {
-    let keys = row.0;
-    let (same_runs, misplaced, placed) = compared(rt, row)?;
+/// The index of keys, in at most 12 counted steps for each place of the lists of its levels.
+fn counted<L: Ledger>(
+    alloc: Global,
+    keys: Keys,
+    bounds: Bounds,
+    steps: &mut Steps<L>,
+) -> Result<Index, NoMemory>
+    requires none { steps.old ≡ 0 }
+    ensures few { IfOk result (λ index.
+        steps.new ≤ 12 * places_below keys index.levels (length index.levels)) }
+{
+    Index::build_here(alloc, keys, bounds, steps)
+}
+
+/// What is compared of the index of a row's keys whose build counts its steps.
+fn compared_counted<R: Abort + AllocGlobal, L: Ledger>(
+    rt: &R,
+    row: &IndexRow,
+    blank: Blank,
+) -> Result<Compared, NoMemory>
+    requires { IsNewLedger blank L.name L.parts }
+{
+    let (keys, eps, _, _) = *row;
+    assert!(rt; eps <= MAX_EPSILON);
+    let mut steps = Steps::<L>::new(blank);
+    let keys = keys_of(rt, keys)?;
+    let index = counted(rt.alloc(), keys, Bounds { eps, eps_rec: 0 }, &mut steps)?;
+    compared_with(rt.alloc(), &index, row)
+}
+
+/// Fails with the keys of a row whose index isn't as wanted: its runs by level and the positions.
+fn expect_compared<R: Abort>(rt: &R, keys: &[u64], compared: Compared) {
+    let (same_runs, misplaced, placed) = compared;
     expect_of(rt, "runs", keys, same_runs);
     expect_none(rt, "position", keys, misplaced);
     expect_of(rt, "positions together", keys, placed);
+}
+
+/// Compares the index of a row's keys, and the one whose build counts its steps.
+fn expect_index<R: Abort + AllocGlobal>(rt: &R, row: &IndexRow) -> Result<(), NoMemory> {
+    expect_compared(rt, row.0, compared(rt, row)?);
+    let counted = compared_counted::<R, Brand>(rt, row, Blank::new(1))?;
+    expect_compared(rt, row.0, counted);
     Ok(())
 }
 
@@ -176,7 +218,7 @@ fn built_in_pieces<R: Threads + Abort + AllocGlobal + Sync>(
 ) -> Result<Index, NoMemory> {
     let workers = workers_of(rt, workers);
     let keys = keys_of(rt, keys)?;
-    assert!(rt; 0 < cut && cut < keys.point_count());
+    assert!(rt; are_cuts(keys.point_count() as usize, &[cut]));
     Index::build(rt, rt.alloc(), keys, EXACT, &[cut], workers, &OpenGate)
 }
 
@@ -288,8 +330,7 @@ static RELAXED_ROWS: [RelaxedRow; 6] = [
 
 /// Even cuts of the points of keys.
 fn cuts_of<R: Abort + AllocGlobal>(rt: &R, keys: &Keys, pieces: u32) -> Result<Vec<u32>, NoMemory>
-    ensures cuts { IfOk result (λ cuts. AreCuts (length (xs_of keys.now)) cuts.items) }
-    ensures few { IfOk result (λ cuts. vec_len cuts < 64) }
+    ensures { IfOk result (λ cuts. AreFewCuts (length (xs_of keys.now)) cuts.items) }
 {
     assert!(rt; 1 <= pieces && pieces <= 64);
     even_cuts(rt.alloc(), keys.point_count(), Pieces { count: pieces })

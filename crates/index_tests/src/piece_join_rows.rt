@@ -3,7 +3,7 @@
 ghost use Rattle.std.specs.Prelude.{◌≤◌, IsTrue, IfOk, length};
 ghost use Rattle.exact_cross.specs.PointLists.{points_in};
 ghost use Rattle.exact_cross.specs.Segmentation.{IsSegmentation};
-ghost use Rattle.piece_join.specs.Cuttings.{AreCuts};
+ghost use Rattle.piece_join.specs.Cuttings.{AreFewCuts};
 
 use crate::common::{Points, are_same, expect, points_of, workers_of};
 use budget::NoMemory;
@@ -23,10 +23,13 @@ const SQUARES: [u64; 6] = [0, 1, 4, 9, 16, 25];
 
 const PLACES: [u32; 6] = [0, 1, 2, 3, 4, 5];
 
-/// Whether these are cuts of `m` points.
-fn are_cuts(m: usize, cuts: &[u32]) -> bool
-    ensures { IsTrue result → AreCuts m cuts.now }
+/// Whether these are cuts of `m` points, fewer than 100.
+pub fn are_cuts(m: usize, cuts: &[u32]) -> bool
+    ensures { IsTrue result → AreFewCuts m cuts.now }
 {
+    if cuts.len() >= 100 {
+        return false;
+    }
     let mut last = 0;
     for cut in cuts {
         if *cut <= last || *cut as usize >= m {
@@ -67,7 +70,7 @@ fn compared<R: Threads + Abort + AllocGlobal + Sync, G: Gate>(
     starts: &[u32],
 ) -> Result<(bool, bool), NoMemory> {
     let points = points_of(rt, points);
-    assert!(rt; are_cuts(points.xs.len(), cuts) && cuts.len() < 100);
+    assert!(rt; are_cuts(points.xs.len(), cuts));
     let workers = workers_of(rt, workers);
     let segments = segment_in_pieces(rt, rt.alloc(), points, 0, cuts, workers, gate)?;
     let same = are_whole(rt.alloc(), points, &segments)?;
@@ -388,7 +391,7 @@ fn compared_side_by_side<R: Threads + Abort + AllocGlobal + Sync>(
     workers: u32,
 ) -> Result<(bool, Option<u32>), NoMemory> {
     let points = points_of(rt, (row.xs, row.ys));
-    assert!(rt; are_cuts(points.xs.len(), row.cuts) && row.cuts.len() < 100);
+    assert!(rt; are_cuts(points.xs.len(), row.cuts));
     let workers = workers_of(rt, workers);
     let segments = relaxed(rt, rt.alloc(), points, 0, row.cuts, workers, &OpenGate)?;
     Ok((

@@ -1,8 +1,10 @@
 -- What one key more adds to the number of distinct keys, and to the heights of keys that stand once.
 use Rattle.std.proofs.Common.{◌≡◌, ◌≢◌, ℕ, ◌+◌, ◌-◌, ◌<◌, ◌≤◌, min, List, [], ◌∷◌, ◌++◌, length, take, slice_index, refl, sym, ap, ◌∙◌, subst, arith, length-append, zero, suc, inl, inr}
-use Rattle.std.proofs.lemmas.List.{take_more, take_all, get_or_append_left}
+use Rattle.std.proofs.lemmas.List.{take_more, take_all, get_or_append_left, ext_get_or}
 use Rattle.std.proofs.Math.Seq.{get_or-append_seam}
 use Rattle.std.specs.List.Sorted.{IsNonDecreasing, IsStrictlyIncreasing}
+use Rattle.exact_cross.specs.Points.{places}
+use Rattle.exact_cross.proofs.CallerLemmas.{length-places, slice_index-places}
 use Rattle.window_search.specs.Searches.{lb}
 use Rattle.window_search.proofs.CallerLemmas.{IsLowerBound-lb}
 use Rattle.key_points.specs.KeyPoints.{distinct_of, first_of, xs_of, ys_of}
@@ -145,20 +147,12 @@ next-group keys at end start group inside = record {
   ];
 }
 
-module _ (keys : List ℕ) (order : IsNonDecreasing keys) (alone : distinct_of keys ≡ keys) where
-  points : xs_of keys ≡ keys
-  points = xs_of-alone keys order alone
-
-  heights-length : length (ys_of keys) ≡ length keys
-  heights-length = ys-length keys ∙ ap length points
-
-  -- the height of a key that stands once is its place
-  pub heights-more : (place : ℕ) → place < length keys → take (place + 1) (ys_of keys) ≡ take place (ys_of keys) ++ place ∷ []
-  heights-more place inside =
-      let rises = subst (λ (xs : List ℕ). IsStrictlyIncreasing xs) alone (IsStrictlyIncreasing-distinct_of keys order) in
-      let is : slice_index (ys_of keys) place ≡ place =
-      ys-at keys place (omega (arith, ap length points, inside)) ∙ ap (λ (xs : List ℕ). lb keys (slice_index xs place)) points ∙ lb-rising keys rises place inside in
-      take_more (ys_of keys) place 0 (omega (arith, heights-length, inside)) ∙ ap (λ (k : ℕ). take place (ys_of keys) ++ k ∷ []) is
-
-  pub heights-all : (place : ℕ) → length keys ≤ place → take place (ys_of keys) ≡ ys_of keys
-  heights-all place past = take_all place (ys_of keys) (omega (arith, heights-length, past))
+-- the heights of keys that don't repeat are their places
+pub ys_of-alone : (keys : List ℕ) → IsNonDecreasing keys → distinct_of keys ≡ keys → ys_of keys ≡ places (length keys)
+ys_of-alone keys order alone =
+    let rises = subst (λ (xs : List ℕ). IsStrictlyIncreasing xs) alone (IsStrictlyIncreasing-distinct_of keys order) in
+    let points = xs_of-alone keys order alone in
+    let count : length (ys_of keys) ≡ length keys = ys-length keys ∙ ap length points in
+    ext_get_or 0 (ys_of keys) (places (length keys)) (count ∙ sym (length-places (length keys))) (λ j inside.
+    ys-at keys j (omega (arith, ap length points, count, inside)) ∙ ap (λ (xs : List ℕ). lb keys (slice_index xs j)) points ∙ lb-rising keys rises j (omega (arith, count, inside))
+    ∙ sym (slice_index-places (length keys) j (omega (arith, count, inside))))

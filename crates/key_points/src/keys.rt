@@ -100,7 +100,7 @@ impl Keys {
         Ok(Keys::of(keys))
     }
 
-    /// The keys of the file, in order: a slice of them all.
+    /// The keys of the file, in order.
     pub fn as_slice(&self) -> &[u64]
         ensures keys { result.now ≡ self.now }
         ensures never_falls { IsNonDecreasing result.now }

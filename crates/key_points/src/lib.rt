@@ -14,9 +14,11 @@ mod fault;
 mod keys;
 mod order;
 mod parts;
+mod placed;
 mod points;
 
 pub use fault::KeysFault;
 pub use keys::Keys;
 pub use order::{is_sorted, judge};
+pub use placed::places_of;
 pub use points::KeyPoints;

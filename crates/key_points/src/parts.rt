@@ -80,7 +80,7 @@ pub fn start_of_group(file: &[u64], j: u32) -> u32
     at as u32
 }
 
-// Where the equal keys that begin at this place end.
+/// Where the equal keys that begin at this place end.
 fn end_of(file: &[u64], at: usize) -> usize
     requires never_falls { IsNonDecreasing file.now }
     requires inside { at < length file.now }
@@ -94,7 +94,7 @@ fn end_of(file: &[u64], at: usize) -> usize
     end
 }
 
-// Whether the equal keys of these places have a closing point.
+/// Whether the equal keys of these places have a closing point.
 fn is_closed_group(file: &[u64], at: usize, end: usize) -> bool
     requires never_falls { IsNonDecreasing file.now }
     requires start { IsGroupStart file.now at }
@@ -109,7 +109,7 @@ fn is_closed_group(file: &[u64], at: usize, end: usize) -> bool
     end == file.len() || file[end] > file[at] + 1
 }
 
-// Adds the equal keys of these places, for which there is room.
+/// Adds the equal keys of these places, for which there is room.
 fn add_group(parts: &mut Parts, file: &[u64], at: usize, end: usize)
     requires never_falls { IsNonDecreasing file.now }
     requires few { length file.now < 2 ^ 32 }

@@ -3,8 +3,9 @@ ghost use Rattle.std.specs.Prelude.{◌≡◌, ◌<◌, ◌^◌, length, IfOk};
 ghost use Rattle.std.specs.List.Sorted.{IsNonDecreasing, IsStrictlyIncreasing};
 ghost use Rattle.key_points.specs.KeyPoints.{distinct_of, xs_of, ys_of};
 
-use crate::alone::{count_distinct, places_of};
+use crate::alone::count_distinct;
 use crate::parts::{Parts, parts_of};
+use crate::placed::places_of;
 use budget::NoMemory;
 use exact_cross::PointList;
 use std::alloc::Global;
@@ -53,7 +54,7 @@ impl<'a> KeyPoints<'a> {
         KeyPoints::counted(alloc, keys, count_distinct(keys))
     }
 
-    /// The same, where it is known how many keys are distinct.
+    /// The points of keys of which it is known how many are distinct.
     pub(crate) fn counted(
         alloc: Global,
         keys: &'a [u64],
@@ -65,7 +66,7 @@ impl<'a> KeyPoints<'a> {
         ensures { IfOk result (λ points. points ≡ keys.now) }
     {
         if count == keys.len() {
-            let ys = places_of(alloc, keys)?;
+            let ys = places_of(alloc, keys.len() as u32)?;
             return Ok(KeyPoints { keys, xs: None, ys });
         }
         let Parts { xs, ys } = parts_of(alloc, keys, count)?;

@@ -8,4 +8,3 @@ pub use Rattle.levels.proofs.IndexExists.{IsIndex-some}
 pub use Rattle.levels.proofs.HeightLemmas.{long_level, levels_low, levels_low_over_runs}
 pub use Rattle.levels.proofs.RunsApart.{HasRun-each, HasRun-within, HasRun-unique}
 pub use Rattle.levels.proofs.RunLemmas.{first_x-order}
-pub use Rattle.levels.proofs.LaneLemmas.{split_more, split_left}

@@ -10,7 +10,6 @@ pub mod WindowsExist
 pub mod ModelLemmas
 pub mod ModelRuns
 pub mod ModelLookup
-pub mod LaneLemmas
 pub mod HeightLemmas
 pub mod IndexLemmas
 pub mod IndexExists

@@ -1,5 +1,5 @@
 -- The runs of level 0, and the first x of each.
-use Rattle.std.proofs.Common.{◌≡◌, ℕ, ◌+◌, ◌-◌, ◌<◌, ◌≤◌, List, [], ◌∷◌, length, slice_index, sym, inl, inr, arith}
+use Rattle.std.proofs.Common.{◌≡◌, ℕ, ◌+◌, ◌-◌, ◌<◌, ◌≤◌, List, [], ◌∷◌, length, slice_index, sym, subst, inl, inr, arith}
 use Rattle.std.specs.Prelude.{max, min}
 use Rattle.std.proofs.lemmas.Bool.{cases_lt}
 use Rattle.std.specs.List.Sorted.{IsNonDecreasing, IsStrictlyIncreasing}
@@ -9,6 +9,8 @@ use Rattle.levels.specs.Indexes.{xs_at, IsLaidIndex}
 use Rattle.window_search.specs.Searches.{lb, IsPredecessor}
 use Rattle.window_search.proofs.CallerLemmas.{lb-is}
 use Rattle.radix_table.specs.Tables.{IsBetween}
+use Rattle.key_search.specs.Interleaved.{AreAmong}
+use Rattle.levels.specs.Interleaved.{AreRuns}
 use Rattle.levels.proofs.LevelLemmas.{xs_at-length, some_at}
 use Rattle.levels.proofs.LookupLemmas.{no_segment, ascends, first_at, IsNonDecreasing-from_rising}
 
@@ -69,3 +71,15 @@ pub raised_run : (xs : List ℕ) (q asked low high count place : ℕ) → IsStri
 raised_run xs q asked low high count place rises between is some wide found =
     let order = IsNonDecreasing-from_rising xs rises in
     grind (arith, rises 0, order 1 place 0, between.before 0, found.last (place + 1), between.before (place + 1), between.from place)
+
+-- the predecessors that are the only place left
+pub AreRuns-from : (list qs bases : List ℕ) → AreAmong list qs bases 1 → ((k : ℕ) → k < 16 → (place : ℕ) × IsPredecessor list (slice_index qs k) place) → AreRuns list qs bases
+AreRuns-from list qs bases among there = record { lanes = among.lanes; each = each }
+  where
+    each : (k : ℕ) → k < 16 → IsPredecessor list (slice_index qs k) (slice_index bases k)
+    each k inside =
+        let found = there k inside in
+        let place : ℕ = found.0 in
+        let held = (among.each k inside).found place found.1 in
+        let same : place ≡ slice_index bases k = omega (arith, held.0, held.1) in
+        subst (IsPredecessor list (slice_index qs k)) same found.1

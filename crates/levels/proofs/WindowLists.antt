@@ -12,35 +12,33 @@ use Rattle.exact_cross.specs.Segments.{IsSteepSegment}
 use Rattle.exact_cross.proofs.CallerLemmas.{line_of_pair-positive}
 use Rattle.window_search.proofs.CallerLemmas.{IsPredecessor-unique, IsWindow-unique}
 use Rattle.exact_cross.specs.IndexLevels.{level_at, eps_at}
-use Rattle.levels.specs.Indexes.{IsLaidIndex, xs_at, ys_at, points_at}
+use Rattle.levels.specs.Indexes.{PgmIndex, IsLaidIndex, xs_at, ys_at, points_at}
 use Rattle.levels.proofs.RunsApart.{HasRun-each, HasRun-within, HasRun-unique}
 use Rattle.levels.proofs.LookupLemmas.{ascends}
 use Rattle.levels.specs.declared.windows.LevelWindow.{LevelWindow}
-use Rattle.levels.specs.Lookups.{extent_at, IsWindowAt, AreWindows, HoldsAnswers, IsNarrow, HasWindowsTo}
+use Rattle.levels.specs.Lookups.{extent_at, IsWindowAt, AreWindows, HoldsNarrowly, HasWindowsTo}
 
 -- the window of a level
 abbrev pub window_of : ℕ → ℕ → ℕ → LevelWindow
 window_of level low high = record { level = level; low = low; high = high }
 
-module _ (keys : List ℕ) (eps eps_rec : ℕ) (levels : List (List Segment)) (q : ℕ) where
+module _ (index : PgmIndex) (q : ℕ) where
   -- no level yet
-  pub HasWindowsTo-none : (n : ℕ) (windows : List LevelWindow) → n ≡ length levels → length windows ≡ 0 → HasWindowsTo keys eps eps_rec levels q n windows
+  pub HasWindowsTo-none : (n : ℕ) (windows : List LevelWindow) → n ≡ length index.levels → length windows ≡ 0 → HasWindowsTo index q n windows
   HasWindowsTo-none n windows all empty = record {
     count = omega arith;
     order = λ k d inside. absurd (omega arith);
     each = λ k d inside. absurd (omega arith);
     holds = λ k d inside. absurd (omega arith);
-    narrow = λ k d inside. absurd (omega arith);
   }
 
-  pub HasWindowsTo-more : (n low high : ℕ) (windows : List LevelWindow) → HasWindowsTo keys eps eps_rec levels q (n + 1) windows → IsWindowAt keys eps eps_rec levels n q low high →
-      HoldsAnswers keys levels n q low high → IsNarrow eps eps_rec n low high → HasWindowsTo keys eps eps_rec levels q n (windows ++ window_of n low high ∷ [])
-  HasWindowsTo-more n low high windows above exact holds narrow = record {
+  pub HasWindowsTo-more : (n low high : ℕ) (windows : List LevelWindow) → HasWindowsTo index q (n + 1) windows → IsWindowAt index.keys index.eps index.eps_rec index.levels n q low high →
+      HoldsNarrowly index q (window_of n low high) → HasWindowsTo index q n (windows ++ window_of n low high ∷ [])
+  HasWindowsTo-more n low high windows above exact holds = record {
     count = omega (arith, count, above.count);
     order = order;
-    each = All-push (λ (window : LevelWindow). IsWindowAt keys eps eps_rec levels window.level q window.low window.high) windows (window_of n low high) above.each exact;
-    holds = All-push (λ (window : LevelWindow). HoldsAnswers keys levels window.level q window.low window.high) windows (window_of n low high) above.holds holds;
-    narrow = All-push (λ (window : LevelWindow). IsNarrow eps eps_rec window.level window.low window.high) windows (window_of n low high) above.narrow narrow;
+    each = All-push (λ (window : LevelWindow). IsWindowAt index.keys index.eps index.eps_rec index.levels window.level q window.low window.high) windows (window_of n low high) above.each exact;
+    holds = All-push (HoldsNarrowly index q) windows (window_of n low high) above.holds holds;
   }
     where
       more : List LevelWindow
@@ -49,7 +47,7 @@ module _ (keys : List ℕ) (eps eps_rec : ℕ) (levels : List (List Segment)) (q
       count : length (windows ++ window_of n low high ∷ []) ≡ length windows + 1
       count = length-append windows (window_of n low high ∷ [])
 
-      order : (k : ℕ) (d : LevelWindow) → k < length (windows ++ window_of n low high ∷ []) → (slice_index_or (windows ++ window_of n low high ∷ []) k d).level + (k + 1) ≡ length levels
+      order : (k : ℕ) (d : LevelWindow) → k < length (windows ++ window_of n low high ∷ []) → (slice_index_or (windows ++ window_of n low high ∷ []) k d).level + (k + 1) ≡ length index.levels
       order k d inside = elim (cases_lt k (length windows)) [
         | inl before ↦ ap (λ (window : LevelWindow). window.level + (k + 1)) (get_or_append_left windows (window_of n low high ∷ []) d k before) ∙ above.order k d before
         | inr from ↦

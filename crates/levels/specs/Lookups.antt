@@ -8,7 +8,7 @@ use Rattle.exact_cross.specs.Segments.{starts_of}
 use Rattle.window_search.specs.Searches.{lb, IsPredecessor}
 use Rattle.window_search.specs.Windows.{IsWindow}
 use Rattle.exact_cross.specs.IndexLevels.{level_at, eps_at}
-use Rattle.levels.specs.Indexes.{xs_at, ys_at}
+use Rattle.levels.specs.Indexes.{PgmIndex, xs_at, ys_at}
 
 -- the list of segments has this one, and its run goes up to e: to the next segment's start, the last one's to the end of all
 pub record HasRun (segments : List Segment) (to : ℕ) (segment : Segment) (e : ℕ) : Type 0 where
@@ -53,10 +53,14 @@ pub record HoldsAnswers (keys : List ℕ) (levels : List (List Segment)) (i q lo
 abbrev pub IsNarrow : ℕ → ℕ → ℕ → ℕ → ℕ → Type 0
 IsNarrow eps eps_rec i low high = high + 1 ≤ low + (2 * eps_at eps eps_rec i + 3)
 
+-- the window holds what is looked for at its level, in at most 2ε + 3 places
+pub record HoldsNarrowly (index : PgmIndex) (q : ℕ) (window : LevelWindow) : Type 0 where
+  pub holds : HoldsAnswers index.keys index.levels window.level q window.low window.high
+  pub narrow : IsNarrow index.eps index.eps_rec window.level window.low window.high
+
 -- the windows of q from the last level down to level n, with what they hold
-pub record HasWindowsTo (keys : List ℕ) (eps eps_rec : ℕ) (levels : List (List Segment)) (q n : ℕ) (windows : List LevelWindow) : Type 0 where
-  pub count : length windows + n ≡ length levels
-  pub order : (k : ℕ) (d : LevelWindow) → k < length windows → (slice_index_or windows k d).level + (k + 1) ≡ length levels
-  pub each : All (λ window. IsWindowAt keys eps eps_rec levels window.level q window.low window.high) windows
-  pub holds : All (λ window. HoldsAnswers keys levels window.level q window.low window.high) windows
-  pub narrow : All (λ window. IsNarrow eps eps_rec window.level window.low window.high) windows
+pub record HasWindowsTo (index : PgmIndex) (q n : ℕ) (windows : List LevelWindow) : Type 0 where
+  pub count : length windows + n ≡ length index.levels
+  pub order : (k : ℕ) (d : LevelWindow) → k < length windows → (slice_index_or windows k d).level + (k + 1) ≡ length index.levels
+  pub each : All (λ window. IsWindowAt index.keys index.eps index.eps_rec index.levels window.level q window.low window.high) windows
+  pub holds : All (HoldsNarrowly index q) windows

@@ -3,14 +3,14 @@ ghost use Rattle.std.specs.Prelude.{◌≡◌, ℕ, ◌+◌, ◌*◌, ◌<◌};
 ghost use Rattle.std.specs.Prelude.{◌≤◌, ◌^◌, length, vec_len};
 ghost use Rattle.std.specs.Prelude.{◌-◌, slice_index, slice_index_or, IfOk};
 ghost use Rattle.budget.specs.Ledgers.{IsNewLedger};
-ghost use Rattle.exact_cross.specs.Points.{points_of, places};
+ghost use Rattle.exact_cross.specs.Points.{points_of};
 ghost use Rattle.exact_cross.specs.PointLists.{points_in};
 ghost use Rattle.key_points.specs.KeyPoints.{xs_of, ys_of};
 ghost use Rattle.exact_cross.specs.declared.segment.Segment.{Segment};
 ghost use Rattle.exact_cross.specs.Segmentation.{IsSegmentation};
 ghost use Rattle.exact_cross.specs.Checked.{IsCoverWithin, uncut};
 ghost use Rattle.exact_cross.specs.Segments.{starts_of};
-ghost use Rattle.piece_join.specs.Cuttings.{AreCuts};
+ghost use Rattle.piece_join.specs.Cuttings.{AreFewCuts};
 ghost use Rattle.piece_join.specs.Laid.{IsLaid};
 ghost use Rattle.exact_cross.specs.IndexLevels.{first_xs, level_at};
 ghost use Rattle.levels.specs.Indexes.{IsIndexOf, IsRelaxedIndexOf, xs_at, places_below};
@@ -24,7 +24,7 @@ use crate::model::RunModel;
 use budget::{NoMemory, Steps};
 use edge::Gate;
 use exact_cross::{MAX_EPSILON, PointList, Segment};
-use key_points::{KeyPoints, Keys};
+use key_points::{KeyPoints, Keys, places_of};
 use options::{Bounds, Workers};
 use piece_join::{relaxed, segment_in_pieces, uneven_cuts};
 use segmenter::segment_counted;
@@ -36,9 +36,9 @@ use std::thread::Threads;
 impl Index {
     /// The index of keys, built on the calling thread.
     ///
-    /// The bound ε of level 0 is in positions of the file, and that of the levels above in places of
-    /// their lists; 64 and 4 serve most keys. A caller that hasn't shown that its keys never fall
-    /// makes them by [`Keys::tested`].
+    /// The bound ε of level 0 is in positions of the file, and that of the levels above in places
+    /// of their lists; 64 and 4 serve most keys. A caller that hasn't shown that its keys never
+    /// fall makes them by [`Keys::tested`].
     ///
     /// # Errors
     ///
@@ -53,9 +53,9 @@ impl Index {
 
     /// The index of keys that [`Index::of`] gives, its level 0 built by several workers.
     ///
-    /// The points of the keys are cut into 8 uneven pieces a worker, and each of the `workers` draws
-    /// pieces until there are none left. Where a thread can't be started the caller does its work.
-    /// The gate is passed as by [`Index::build`]; `&OpenGate` holds nobody.
+    /// The points of the keys are cut into 8 uneven pieces a worker, and each of the `workers`
+    /// draws pieces until there are none left. Where a thread can't be started the caller does its
+    /// work. The gate is passed as by [`Index::build`]; `&OpenGate` holds nobody.
     ///
     /// # Errors
     ///
@@ -128,8 +128,7 @@ impl Index {
         workers: Workers,
         gate: &G,
     ) -> Result<Index, NoMemory>
-        requires cuts { AreCuts (length (xs_of keys)) cuts.now }
-        requires few_cuts { length cuts.now ≤ 65535 }
+        requires cuts { AreFewCuts (length (xs_of keys)) cuts.now }
         ensures index { IfOk result (IsIndexOf keys bounds.eps bounds.eps_rec) }
     {
         let points = keys.points(alloc)?;
@@ -162,8 +161,7 @@ impl Index {
         workers: Workers,
         gate: &G,
     ) -> Result<Index, NoMemory>
-        requires cuts { AreCuts (length (xs_of keys)) cuts.now }
-        requires few_cuts { length cuts.now ≤ 65535 }
+        requires cuts { AreFewCuts (length (xs_of keys)) cuts.now }
         ensures relaxed { IfOk result
             (IsRelaxedIndexOf keys bounds.eps bounds.eps_rec cuts.now) }
         ensures slack { IfOk result (λ index. 0 < length keys →
@@ -289,7 +287,7 @@ fn level_above<L: Ledger>(
     let below = levels.len() - 1;
     let level = &levels[below];
     let xs = first_xs_of(alloc, list_at(points, levels, below), &level.segments)?;
-    let ys = places_of(alloc, xs.as_slice())?;
+    let ys = places_of(alloc, xs.len() as u32)?;
     let list = PointList::new(xs.as_slice(), ys.as_slice());
     let runs = runs_over(alloc, list, bounds.eps_rec, steps)?;
     let Runs { segments, models } = runs;
@@ -376,18 +374,6 @@ fn first_xs_of(alloc: Global, xs: &[u64], segments: &[Segment]) -> Result<Vec<u6
     let mut list = Vec::with_capacity(alloc, segments.len())?;
     for segment in segments {
         list.push(xs[segment.start as usize])?;
-    }
-    Ok(list)
-}
-
-/// The places 0, 1, .. of a list.
-pub fn places_of(alloc: Global, xs: &[u64]) -> Result<Vec<u32>, NoMemory>
-    requires { length xs.now < 2 ^ 32 }
-    ensures { IfOk result (λ list. list.items ≡ places (length xs.now)) }
-{
-    let mut list = Vec::with_capacity(alloc, xs.len())?;
-    for place in 0..xs.len() as u32 {
-        list.push(place)?;
     }
     Ok(list)
 }

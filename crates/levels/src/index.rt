@@ -18,13 +18,12 @@ ghost use Rattle.levels.specs.Stored.{AreLevels, AreStored, index_of, segments_o
 ghost use Rattle.levels.specs.Entries.{share_of};
 ghost use Rattle.radix_table.specs.Tables.{IsBetween, IsLedTo, IsTableOf};
 
-use crate::build::places_of;
 use crate::entry::{entry_of, share};
 use crate::level::Level;
 use crate::model::RunModel;
 use budget::NoMemory;
 use exact_cross::{MAX_EPSILON, Segment};
-use key_points::Keys;
+use key_points::{Keys, places_of};
 use options::Bounds;
 use radix_table::RadixTable;
 use std::alloc::Global;
@@ -227,7 +226,7 @@ impl Index {
             let list = points.points();
             return Ok(Vec::from_slice(alloc, list.ys)?);
         }
-        places_of(alloc, self.firsts(i))
+        places_of(alloc, self.firsts(i).len() as u32)
     }
 
     /// The x of level `i`, above level 0: the first x of the runs below. They rise.

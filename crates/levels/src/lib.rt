@@ -10,12 +10,9 @@
 //! [`some_index`]. The words of the clauses are in `specs/`.
 #![tactic(auto)]
 
-mod among;
 mod build;
 mod entry;
-mod grouped;
 mod index;
-mod interleaved;
 mod level;
 mod lookup;
 mod model;
@@ -25,9 +22,7 @@ mod positions;
 mod runs;
 mod windows;
 
-pub use among::positions_among;
 pub use edge::OpenGate;
-pub use grouped::positions_grouped;
 pub use index::{Index, each_index_is_laid, one_index, one_relaxed_index, some_index};
 pub use key_points::{Keys, KeysFault, is_sorted};
 pub use options::{Bounds, Workers};

@@ -1,23 +1,17 @@
 // Where a question's position is, for callers that interleave searches of several files.
-ghost use Rattle.std.specs.Prelude.{◌≡◌, ◌+◌, ◌*◌, ◌<◌, ◌≤◌, min, length, IsTrue};
-ghost use Rattle.std.specs.List.Sorted.{IsNonDecreasing};
+ghost use Rattle.std.specs.Prelude.{◌≡◌, ◌+◌, ◌*◌, ◌<◌, ◌≤◌, min, length};
 ghost use Rattle.budget.specs.Ledgers.{IsNewLedger};
-ghost use Rattle.levels.specs.Interleaved.{HasBound};
+ghost use Rattle.key_search.specs.Interleaved.{HasBound};
 ghost use Rattle.window_search.specs.Searches.{lb};
 
 use crate::index::Index;
 use budget::Steps;
+use key_search::position_near;
 use std::marker::Brand;
 use std::sync::ledger::{Blank, Ledger};
 
-/// How many keys are a group.
-const GROUP: usize = 8;
-
-/// How many groups have the `2ε + 3` places of a window.
+/// How many groups of eight keys have the `2ε + 3` places of a window.
 const GROUPS: usize = 17;
-
-/// How many keys those groups have.
-const NEAR: usize = GROUP * GROUPS;
 
 impl Index {
     /// Where the places of the file begin among which the position of `q` is: how many of its keys
@@ -42,67 +36,20 @@ impl Index {
     /// The position of `q` in the file, by where its places are said to begin. It is the position
     /// whatever is said.
     ///
-    /// Seventeen groups of eight keys are looked at from there on, in which are the places of
-    /// [`Index::start_near`] where the error bound is at most 64 ([`options::EPS`]): the last key of each group
-    /// but one, and then all of one group, with no branch on an answer. So reads wait for main
-    /// memory twice, where those of halving do at each of some seven steps. Where the position
-    /// isn't there it is searched as by [`Index::position`]. Cannot fail and takes no memory.
+    /// Seventeen groups of eight keys are looked at from there on
+    /// ([`key_search::position_near`]), in which are the places of [`Index::start_near`] where the
+    /// error bound is at most [`options::EPS`]. Where the position isn't there it is searched as by
+    /// [`Index::position`]. Cannot fail and takes no memory.
     #[inline]
     pub fn position_near(&self, start: usize, q: u64) -> u32
         ensures { result ≡ lb self.now.keys q }
     {
         let keys = self.keys().as_slice();
-        let place = place_near(keys, start, q);
-        if is_bound(keys, place, q) {
-            return place as u32;
+        match position_near(keys, start, GROUPS, q) {
+            Some(place) => place as u32,
+            None => self.position(q),
         }
-        self.position(q)
     }
-}
-
-/// How many keys are below a question, if its place is near a start or at their end. No clause says
-/// that it is.
-#[inline(always)]
-fn place_near(keys: &[u64], start: usize, q: u64) -> usize {
-    if keys.len() < NEAR {
-        return count_below(keys, q);
-    }
-    let first = start.min(keys.len() - NEAR);
-    let mut at = first;
-    for i in 1..GROUPS {
-        let is_below = keys[first + (GROUP * i - 1)] < q;
-        at = at.wrapping_add(GROUP * usize::from(is_below));
-    }
-    let at = at.min(keys.len() - GROUP);
-    at.wrapping_add(count_below(&keys[at..at + GROUP], q))
-}
-
-/// How many keys are below a question.
-///
-/// Those that aren't are taken off: of a sum of the others the compiler makes more.
-#[inline(always)]
-fn count_below(keys: &[u64], q: u64) -> usize {
-    let mut count = keys.len();
-    for key in keys {
-        count = count.wrapping_sub(usize::from(*key >= q));
-    }
-    count
-}
-
-/// Whether as many keys are below a question: the one before the place is, and the one there isn't.
-#[inline(always)]
-fn is_bound(keys: &[u64], place: usize, q: u64) -> bool
-    requires never_falls { IsNonDecreasing keys.now }
-    ensures within { IsTrue result → place ≤ length keys.now }
-    ensures bound { IsTrue result → place ≡ lb keys.now q }
-{
-    if place > keys.len() {
-        return false;
-    }
-    if place > 0 && keys[place - 1] >= q {
-        return false;
-    }
-    place == keys.len() || keys[place] >= q
 }
 
 /// Where the places of `q` begin, as [`Index::start_near`] says, the steps counted in a new ledger.

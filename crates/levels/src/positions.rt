@@ -4,10 +4,11 @@ ghost use Rattle.std.specs.Prelude.{map, min, slice_index, vec_len, vec_capacity
 ghost use Rattle.window_search.specs.Searches.{lb, IsPredecessor};
 ghost use Rattle.exact_cross.specs.IndexLevels.{eps_at};
 ghost use Rattle.levels.specs.Indexes.{IsLaidFile, xs_at};
-ghost use Rattle.levels.specs.Interleaved.{IsAmong, HasBound, AreFromFirst, AreNear, AreRuns};
+ghost use Rattle.key_search.specs.Interleaved.{IsAmong, HasBound};
+ghost use Rattle.levels.specs.Interleaved.{AreFromFirst, AreNear, AreRuns};
 
 use crate::index::Index;
-use crate::interleaved::{LANES, bounds_interleaved, predecessors_interleaved};
+use key_search::{LANES, bounds_interleaved, predecessors_interleaved};
 
 impl Index {
     /// The position of each question in the file, in order, behind what the list has: how many keys

@@ -7,8 +7,8 @@ ghost use Rattle.levels.specs.Costs.{TakesAtMost};
 ghost use Rattle.levels.specs.Indexes.{IsLaidIndex, xs_at};
 
 use crate::index::Index;
-use crate::interleaved::LANES;
 use budget::Steps;
+use key_search::LANES;
 use std::sync::ledger::Ledger;
 use window_search::lower_in;
 

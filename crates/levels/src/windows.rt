@@ -8,7 +8,7 @@ ghost use Rattle.exact_cross.specs.declared.segment.Segment.{Segment};
 ghost use Rattle.window_search.specs.Searches.{IsPredecessor};
 ghost use Rattle.levels.specs.Indexes.{IsIndex, IsLaidFile, IsLaidIndex, xs_at};
 ghost use Rattle.levels.specs.declared.windows.LevelWindow.{LevelWindow};
-ghost use Rattle.levels.specs.Lookups.{AreWindows, HoldsAnswers, HasWindowsTo, IsNarrow};
+ghost use Rattle.levels.specs.Lookups.{AreWindows, HoldsAnswers, HoldsNarrowly, HasWindowsTo};
 
 use crate::index::Index;
 use budget::{NoMemory, Steps};
@@ -46,10 +46,7 @@ impl Index {
     pub fn windows(&self, alloc: Global, q: u64) -> Result<Vec<LevelWindow>, NoMemory>
         ensures windows { IfOk result (λ windows. AreWindows self.now.keys self.now.eps
             self.now.eps_rec self.now.levels q windows.items) }
-        ensures holds { IfOk result (λ windows. All (λ window. HoldsAnswers self.now.keys
-            self.now.levels window.level q window.low window.high) windows.items) }
-        ensures narrow { IfOk result (λ windows. All (λ window. IsNarrow self.now.eps
-            self.now.eps_rec window.level window.low window.high) windows.items) }
+        ensures holds { IfOk result (λ windows. All (HoldsNarrowly self.now q) windows.items) }
     {
         let mut windows = Vec::with_capacity(alloc, self.level_count() as usize)?;
         self.windows_into(q, &mut windows);
@@ -65,10 +62,7 @@ impl Index {
         requires room { length self.now.levels ≤ vec_capacity into.old }
         ensures windows { AreWindows self.now.keys self.now.eps self.now.eps_rec self.now.levels q
             into.new.items }
-        ensures holds { All (λ window. HoldsAnswers self.now.keys self.now.levels window.level q
-            window.low window.high) into.new.items }
-        ensures narrow { All (λ window. IsNarrow self.now.eps self.now.eps_rec window.level window.low
-            window.high) into.new.items }
+        ensures holds { All (HoldsNarrowly self.now q) into.new.items }
         ensures capacity { vec_capacity into.old ≤ vec_capacity into.new }
     {
         windows_from::<Brand>(self, q, into, Blank::new(1));
@@ -81,8 +75,7 @@ impl Index {
         requires from_first { slice_index self.now.keys 0 ≤ q }
         requires empty { vec_len into.old ≡ 0 }
         requires room { length self.now.levels ≤ vec_capacity into.old }
-        ensures windows { HasWindowsTo self.now.keys self.now.eps self.now.eps_rec self.now.levels q
-            0 into.new.items }
+        ensures windows { HasWindowsTo self.now q 0 into.new.items }
         ensures capacity { vec_capacity into.old ≤ vec_capacity into.new }
     {
         let mut level = self.level_count() - 1;
@@ -101,10 +94,8 @@ impl Index {
         requires inside { level < length self.now.levels }
         requires run { IsPredecessor (xs_at self.now.keys self.now.levels (level + 1)) q run }
         requires room { length self.now.levels ≤ vec_capacity into.old }
-        requires above { HasWindowsTo self.now.keys self.now.eps self.now.eps_rec self.now.levels q
-            (level + 1) into.old.items }
-        ensures windows { HasWindowsTo self.now.keys self.now.eps self.now.eps_rec self.now.levels q
-            level into.new.items }
+        requires above { HasWindowsTo self.now q (level + 1) into.old.items }
+        ensures windows { HasWindowsTo self.now q level into.new.items }
         ensures capacity { vec_capacity into.old ≤ vec_capacity into.new }
         ensures order { result.0 ≤ result.1 }
         ensures within_list { 0 < level → result.1 ≤ length (xs_at self.now.keys self.now.levels
@@ -124,10 +115,7 @@ fn windows_from<L: Ledger>(index: &Index, q: u64, into: &mut Vec<LevelWindow>, b
     requires room { length index.now.levels ≤ vec_capacity into.old }
     ensures windows { AreWindows index.now.keys index.now.eps index.now.eps_rec index.now.levels q
         into.new.items }
-    ensures holds { All (λ window. HoldsAnswers index.now.keys index.now.levels window.level q window.low
-        window.high) into.new.items }
-    ensures narrow { All (λ window. IsNarrow index.now.eps index.now.eps_rec window.level window.low
-        window.high) into.new.items }
+    ensures holds { All (HoldsNarrowly index.now q) into.new.items }
     ensures capacity { vec_capacity into.old ≤ vec_capacity into.new }
 {
     let keys = index.keys().as_slice();

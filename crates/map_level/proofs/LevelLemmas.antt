@@ -58,27 +58,6 @@ missing-at entries key ascending apart = go (entry_at entries key) refl
 pub missing-past : (entries : List Entry) (key : ℕ) → IsAscending entries → length entries ≤ lb (level_keys entries) key → entry_at entries key ≡ None
 missing-past entries key ascending end = missing-at entries key ascending (λ inside is. absurd (omega arith))
 
--- a key below at the place before: the place is at most the lower bound
-pub past-below : (entries : List Entry) (key place : ℕ) → IsAscending entries → 0 < place → place ≤ length entries → (slice_index_or entries (place - 1) no_entry).key < key → place ≤ lb (level_keys entries) key
-past-below entries key place ascending some within below = elim (cases_lt (lb (level_keys entries) key) place) [
-  | inr at_least ↦ at_least
-  | inl less ↦ absurd (omega (
-    arith,
-    some,
-    below,
-    length-level_keys entries,
-    key-at entries (place - 1) 0 no_entry (omega (arith, some, within)),
-    (IsLowerBound-lb (level_keys entries) key (keys-never_fall entries ascending)).from (place - 1) (omega (arith, less, some)) (omega (arith, within, some, length-level_keys entries)),
-  ))
-]
-
--- a key at or above at a place: the lower bound is at most the place
-pub not-past : (entries : List Entry) (key place : ℕ) → IsAscending entries → place < length entries → key ≤ (slice_index_or entries place no_entry).key → lb (level_keys entries) key ≤ place
-not-past entries key place ascending inside above = elim (cases_lt place (lb (level_keys entries) key)) [
-  | inr at_least ↦ at_least
-  | inl less ↦ absurd (omega (arith, above, key-at entries place 0 no_entry inside, (IsLowerBound-lb (level_keys entries) key (keys-never_fall entries ascending)).before place less))
-]
-
 -- what is read at the lower bound of a key: the entry with the key, or another
 pub entry-found : (list entries : List Entry) (key place : ℕ) → list ≡ entries → IsAscending entries → place < length list → (slice_index_or list place no_entry).key ≡ key
     → Some (slice_index_or list place no_entry) ≡ entry_at entries key

@@ -10,17 +10,19 @@ ghost use Rattle.map_level.specs.Levels.{IsAbove, IsBelow, level_keys};
 ghost use Rattle.window_search.specs.Searches.{lb};
 
 use crate::builder::Builder;
+use crate::entry_keys::EntryKeys;
 use crate::filter::{Filter, HashedKey, keys_with_filter};
 use crate::grid::Grid;
 use budget::NoMemory;
+use key_search::position_near;
 use levels::Index;
 use options::{EPS, EPS_REC};
 use std::alloc::Global;
 use std::marker::Model;
 use tombstones::Entry;
 
-/// So many entries are looked at where a grid leads.
-const NEAR: usize = 8;
+/// How many groups of eight entries are looked at where a grid leads.
+pub(crate) const GROUPS: usize = 1;
 
 /// The entries of a level, by rising key, with the index of their keys, a filter of them, and a
 /// grid where they are even. Seen as the entries. It is never changed.
@@ -113,11 +115,10 @@ impl Level {
         if self.grid.is_none() {
             return self.index.position_near(start, key) as usize;
         }
-        let place = place_near(entries, start, key);
-        if is_place(entries, place, key) {
-            return place;
+        match position_near(EntryKeys { entries }, start, GROUPS, key) {
+            Some(place) => place,
+            None => self.index.position(key) as usize,
         }
-        self.index.position(key) as usize
     }
 
     /// Whether the level may have an entry with a key.
@@ -201,43 +202,4 @@ impl Level {
     {
         &self.index
     }
-}
-
-/// How many keys are below a key, if its place is among eight from a place on or at their end. No
-/// clause says that it is. No branch depends on an answer.
-#[inline(always)]
-pub(crate) fn place_near(entries: &[Entry], start: usize, key: u64) -> usize {
-    if entries.len() < NEAR {
-        return below(entries, key);
-    }
-    let first = start.min(entries.len() - NEAR);
-    first.wrapping_add(below(&entries[first..first + NEAR], key))
-}
-
-/// How many of some entries' keys are below a key.
-///
-/// Those that aren't are taken off: of a sum of the others the compiler makes more.
-#[inline(always)]
-fn below(entries: &[Entry], key: u64) -> usize {
-    let mut count = entries.len();
-    for entry in entries {
-        count = count.wrapping_sub(usize::from(entry.key >= key));
-    }
-    count
-}
-
-/// Whether as many keys are below a key: that of the entry before the place is, and the one there
-/// isn't.
-#[inline(always)]
-fn is_place(entries: &[Entry], place: usize, key: u64) -> bool
-    requires ascending { IsAscending entries.now }
-    ensures { IsTrue result → place ≡ lb (level_keys entries.now) key }
-{
-    if place > entries.len() {
-        return false;
-    }
-    if place > 0 && entries[place - 1].key >= key {
-        return false;
-    }
-    place == entries.len() || entries[place].key >= key
 }

@@ -10,6 +10,7 @@
 #![tactic(auto)]
 
 mod builder;
+mod entry_keys;
 mod filter;
 mod grid;
 mod latest;

@@ -1,7 +1,9 @@
+use super::entry_keys::EntryKeys;
 use super::filter::keys_with_filter;
-use super::level::place_near;
+use super::level::GROUPS;
 use super::*;
 use budget::NoMemory;
+use key_search::position_near;
 use std::process::Abort;
 use std::test::Fail;
 use tombstones::{Entry, is_ascending};
@@ -55,8 +57,11 @@ fn lead_to_each<R: Abort + AllocGlobal>(rt: &R, count: u64) -> Result<(), NoMemo
     let level = Level::of(&here, rt.alloc(), entries)?;
     for i in 0..count {
         let key = key_of(i);
-        let place = place_near(level.entries(), level.start(key), key);
-        assert_eq!(rt; place as u64, i, "{key} of {count}");
+        let keys = EntryKeys {
+            entries: level.entries(),
+        };
+        let place = position_near(keys, level.start(key), GROUPS, key);
+        assert_eq!(rt; place, Some(i as usize), "{key} of {count}");
     }
     Ok(())
 }

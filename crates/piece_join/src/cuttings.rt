@@ -1,6 +1,6 @@
 // Where points are cut into pieces.
 ghost use Rattle.std.specs.Prelude.{◌≡◌, ℕ, ◌+◌, ◌*◌, ◌^◌, ◌<◌, ◌≤◌, vec_len, IfOk};
-ghost use Rattle.piece_join.specs.Cuttings.{AreCuts, AreCutsAt, even_place, uneven_place};
+ghost use Rattle.piece_join.specs.Cuttings.{AreCutsAt, AreFewCuts, even_place, uneven_place};
 ghost use Rattle.piece_join.specs.Cuttings.{with_cut};
 
 use budget::NoMemory;
@@ -16,7 +16,7 @@ use std::alloc::Global;
 ///
 /// `NoMemory` alone.
 pub fn even_cuts(alloc: Global, m: u32, pieces: Pieces) -> Result<Vec<u32>, NoMemory>
-    ensures cuts { IfOk result (λ cuts. AreCuts m cuts.items) }
+    ensures cuts { IfOk result (λ cuts. AreFewCuts m cuts.items) }
     ensures places { IfOk result
         (λ cuts. AreCutsAt m pieces.count (even_place m pieces.count) cuts.items) }
     ensures count { IfOk result (λ cuts. vec_len cuts < pieces.count) }
@@ -39,7 +39,7 @@ pub fn even_cuts(alloc: Global, m: u32, pieces: Pieces) -> Result<Vec<u32>, NoMe
 ///
 /// `NoMemory` alone.
 pub fn uneven_cuts(alloc: Global, m: u32, workers: Workers) -> Result<Vec<u32>, NoMemory>
-    ensures cuts { IfOk result (λ cuts. AreCuts m cuts.items) }
+    ensures cuts { IfOk result (λ cuts. AreFewCuts m cuts.items) }
     ensures places { IfOk result
         (λ cuts. AreCutsAt m (8 * workers.count) (uneven_place m (8 * workers.count)) cuts.items) }
     ensures count { IfOk result (λ cuts. vec_len cuts < 8 * workers.count) }

@@ -6,7 +6,7 @@ ghost use Rattle.exact_cross.specs.declared.segment.Segment.{Segment};
 ghost use Rattle.exact_cross.specs.PointLists.{points_in};
 ghost use Rattle.exact_cross.specs.Segmentation.{IsSegmentation};
 ghost use Rattle.claims.specs.Claims.{IsFresh, times};
-ghost use Rattle.piece_join.specs.Cuttings.{AreCuts};
+ghost use Rattle.piece_join.specs.Cuttings.{AreFewCuts};
 ghost use Rattle.piece_join.specs.declared.work.Work.{Work};
 ghost use Rattle.piece_join.specs.Worked.{IsWorked, IsPlaced, ArePlaced, numbers_of};
 
@@ -59,8 +59,7 @@ pub fn segment_in_pieces<R: Threads + Sync, G: Gate>(
     gate: &G,
 ) -> Result<Vec<Segment>, NoMemory>
     requires bounded { eps ≤ MAX_EPSILON }
-    requires cuts { AreCuts (length points.xs.now) cuts.now }
-    requires few_cuts { length cuts.now ≤ 65535 }
+    requires cuts { AreFewCuts (length points.xs.now) cuts.now }
     ensures segmentation { IfOk result (λ segments.
         IsSegmentation (points_in points.entry) eps 0 (length points.entry.xs.now) segments.items) }
     // It is the list that one thread makes of all points.

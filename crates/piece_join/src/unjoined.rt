@@ -3,7 +3,7 @@ ghost use Rattle.std.specs.Prelude.{◌≡◌, ◌+◌, ◌<◌, ◌≤◌, ◌^
 ghost use Rattle.exact_cross.specs.declared.segment.Segment.{Segment};
 ghost use Rattle.exact_cross.specs.PointLists.{points_in};
 ghost use Rattle.exact_cross.specs.Checked.{AreShown, uncut};
-ghost use Rattle.piece_join.specs.Cuttings.{AreCuts};
+ghost use Rattle.piece_join.specs.Cuttings.{AreFewCuts};
 ghost use Rattle.piece_join.specs.Relaxed.{IsRelaxed};
 ghost use Rattle.piece_join.specs.Worked.{ArePlaced};
 
@@ -36,8 +36,7 @@ pub fn relaxed<R: Threads + Sync, G: Gate>(
     gate: &G,
 ) -> Result<Vec<Segment>, NoMemory>
     requires bounded { eps ≤ MAX_EPSILON }
-    requires cuts { AreCuts (length points.xs.now) cuts.now }
-    requires few_cuts { length cuts.now ≤ 65535 }
+    requires cuts { AreFewCuts (length points.xs.now) cuts.now }
     ensures relaxed { IfOk result (λ segments. IsRelaxed
         (points_in points.entry) eps 0 (length points.entry.xs.now) cuts.now segments.items) }
     // It is the list that one thread makes of the pieces.

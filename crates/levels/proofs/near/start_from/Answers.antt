@@ -2,8 +2,8 @@
 use Rattle.std.proofs.Common.{◌≡◌, ◌+◌, ◌*◌, ℕ, List, length, slice_index, ap, subst, ◌∙◌, arith}
 use Rattle.std.specs.Prelude.{min, max}
 use Rattle.std.specs.List.Sorted.{IsNonDecreasing}
-use Rattle.levels.specs.Interleaved.{HasBound}
-use Rattle.levels.proofs.LaneLemmas.{HasBound-raised}
+use Rattle.key_search.specs.Interleaved.{HasBound}
+use Rattle.key_search.proofs.CallerLemmas.{HasBound-raised}
 use Rattle.levels.proofs.near.start_from.Goals as goal
 
 pub returns : goal.returns

@@ -17,9 +17,9 @@ returns-clause-shown g c =
     let points = c.args.points in
     IfOk-weaker c.side_by_side.result _ _
     (λ segments own. AreShown-from_relaxed (points_in points) c.args.eps c.args.cuts.now segments.items (IsAscending-points_in points) (λ j inside. points.low j)
-    c.requires.bounded c.requires.cuts own) c.side_by_side.ensures
+    c.requires.bounded c.requires.cuts.are own) c.side_by_side.ensures
 
 pub returns-clause-slack : goal.returns-clause-slack
 returns-clause-slack g c =
-    IfOk-weaker c.side_by_side.result _ _ (λ segments own some. uncut-from_relaxed (points_in c.args.points) c.args.eps c.args.cuts.now segments.items some c.requires.cuts own)
+    IfOk-weaker c.side_by_side.result _ _ (λ segments own some. uncut-from_relaxed (points_in c.args.points) c.args.eps c.args.cuts.now segments.items some c.requires.cuts.are own)
     c.side_by_side.ensures

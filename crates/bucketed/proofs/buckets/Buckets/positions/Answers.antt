@@ -1,7 +1,7 @@
 -- A block more.
 use Rattle.std.proofs.Common.{arith}
 use Rattle.window_search.specs.Searches.{lb}
-use Rattle.levels.proofs.CallerLemmas.{split_more, split_left}
+use Rattle.key_search.proofs.CallerLemmas.{split_more, split_left}
 use Rattle.bucketed.proofs.buckets.Buckets.positions.Goals as goal
 
 pub loop-rest-preserved : goal.loop-rest-preserved

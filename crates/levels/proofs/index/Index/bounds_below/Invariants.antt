@@ -2,7 +2,7 @@
 use Rattle.std.proofs.Common.{◌≡◌, ◌<◌, ◌≤◌, ℕ, length, slice_index}
 use Rattle.window_search.specs.Searches.{IsPredecessor}
 use Rattle.levels.specs.Indexes.{xs_at}
-use Rattle.levels.specs.Interleaved.{HasBound}
+use Rattle.key_search.specs.Interleaved.{HasBound}
 use Rattle.levels.proofs.index.Index.bounds_below.Given as goal
 
 abbrev pub invariant-loop-lane : goal.invariant-loop-lane

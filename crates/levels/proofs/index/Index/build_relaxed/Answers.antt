@@ -18,7 +18,7 @@ use Rattle.levels.proofs.index.Index.build_relaxed.Goals as goal
 pub levels_from-requires-clause-segments : goal.levels_from-requires-clause-segments
 levels_from-requires-clause-segments g c =
     let keys = c.in_ok-points.points in
-    IsLaid-from_cuts (points_of (xs_of keys) (ys_of keys)) c.args.bounds.eps c.args.cuts.now c.in_ok-segments.segments.items (rw c.in_ok-points.ensures c.requires.cuts)
+    IsLaid-from_cuts (points_of (xs_of keys) (ys_of keys)) c.args.bounds.eps c.args.cuts.now c.in_ok-segments.segments.items (rw c.in_ok-points.ensures c.requires.cuts.are)
     (rw (c.points-list.ensures.xs, c.points-list.ensures.ys) at c.in_ok-segments.ensures.relaxed)
 
 pub from_levels-requires : goal.from_levels-requires
@@ -54,5 +54,5 @@ returns-clause-within g c =
     let whole = subst (λ (i : PgmIndex). IsRelaxedIndex keys c.args.bounds.eps c.args.bounds.eps_rec c.args.cuts.now i.levels) (sym is)
     (subst (λ (k : List ℕ). IsRelaxedIndex k c.args.bounds.eps c.args.bounds.eps_rec c.args.cuts.now (segments_of stored.items)) c.in_ok-points.ensures index) in
     let first = rw c.in_ok-points.ensures at own.stored.first in
-    relaxed-within keys c.args.bounds.eps c.args.bounds.eps_rec c.args.cuts.now built.levels first.never_falls first.few c.args.bounds.bounded c.args.bounds.bounded_above c.requires.cuts whole some)
+    relaxed-within keys c.args.bounds.eps c.args.bounds.eps_rec c.args.cuts.now built.levels first.never_falls first.few c.args.bounds.bounded c.args.bounds.bounded_above c.requires.cuts.are whole some)
     c.from_levels.ensures

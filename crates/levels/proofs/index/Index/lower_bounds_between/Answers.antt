@@ -6,7 +6,7 @@ use Rattle.window_search.specs.Searches.{lb, IsPredecessor}
 use Rattle.levels.specs.Indexes.{xs_at}
 use Rattle.levels.proofs.LookupLemmas.{ascends}
 use Rattle.levels.proofs.RunLemmas.{first_run, raised_run}
-use Rattle.levels.proofs.LaneLemmas.{lane_done, lb-raised}
+use Rattle.key_search.proofs.CallerLemmas.{lane_done, lb-raised}
 use Rattle.levels.proofs.index.Index.lower_bounds_between.Goals as goal
 
 pub loop-lane-2-init : goal.loop-lane-2-init

@@ -2,7 +2,7 @@
 use Rattle.std.proofs.Common.{◌≡◌, ◌++◌, ◌∙◌, List, ℕ, slice_index, subst, ap, arith}
 use Rattle.std.specs.List.Sorted.{IsNonDecreasing}
 use Rattle.std.proofs.lemmas.List.{take_all}
-use Rattle.levels.proofs.LaneLemmas.{block_positions}
+use Rattle.key_search.proofs.CallerLemmas.{block_positions}
 use Rattle.levels.proofs.index.Index.push_block.Goals as goal
 
 pub returns-clause-positions : goal.returns-clause-positions

@@ -2,11 +2,11 @@
 use Rattle.std.proofs.Common.{ℕ, List, length, slice_index, sym, ap, subst, arith}
 use Rattle.std.specs.List.Sorted.{IsNonDecreasing}
 use Rattle.levels.specs.Indexes.{xs_at}
-use Rattle.levels.specs.Interleaved.{AreAmong}
+use Rattle.key_search.specs.Interleaved.{AreAmong}
 use Rattle.levels.proofs.LookupLemmas.{ascends}
 use Rattle.levels.proofs.RunLemmas.{first_x-order}
 use Rattle.levels.proofs.EntryLemmas.{predecessor_at}
-use Rattle.levels.proofs.LaneLemmas.{AreRuns-from}
+use Rattle.levels.proofs.RunLemmas.{AreRuns-from}
 use Rattle.levels.proofs.index.Index.runs_among.Goals as goal
 
 pub overflow_cast-last : goal.overflow_cast-last

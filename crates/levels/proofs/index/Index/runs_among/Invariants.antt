@@ -1,7 +1,7 @@
 -- The lanes so far have places inside the list.
 use Rattle.std.proofs.Common.{◌≡◌, ◌<◌, ℕ, length, slice_index}
 use Rattle.levels.specs.Indexes.{xs_at}
-use Rattle.levels.specs.Interleaved.{IsAmong}
+use Rattle.key_search.specs.Interleaved.{IsAmong}
 use Rattle.levels.proofs.index.Index.runs_among.Given as goal
 
 abbrev pub invariant-loop-lane : goal.invariant-loop-lane

@@ -2,9 +2,9 @@
 use Rattle.std.proofs.Common.{ℕ, List, length, slice_index, sym, ap, subst, arith}
 use Rattle.std.specs.List.Sorted.{IsNonDecreasing}
 use Rattle.levels.specs.Indexes.{xs_at}
-use Rattle.levels.specs.Interleaved.{AreAmong}
+use Rattle.key_search.specs.Interleaved.{AreAmong}
 use Rattle.levels.proofs.LookupLemmas.{no_segment, ascends, has_predecessor, IsNonDecreasing-from_rising}
-use Rattle.levels.proofs.LaneLemmas.{AreRuns-from}
+use Rattle.levels.proofs.RunLemmas.{AreRuns-from}
 use Rattle.levels.proofs.index.Index.runs_below.Goals as goal
 
 pub overflow_cast-list : goal.overflow_cast-list

@@ -2,7 +2,7 @@
 use Rattle.std.proofs.Common.{◌≡◌, ◌+◌, ◌<◌, ◌≤◌, ℕ, length, slice_index}
 use Rattle.window_search.specs.Searches.{IsPredecessor}
 use Rattle.levels.specs.Indexes.{xs_at}
-use Rattle.levels.specs.Interleaved.{IsAmong}
+use Rattle.key_search.specs.Interleaved.{IsAmong}
 use Rattle.levels.proofs.index.Index.runs_below.Given as goal
 
 abbrev pub invariant-loop-lane : goal.invariant-loop-lane

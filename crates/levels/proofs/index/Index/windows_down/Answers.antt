@@ -16,7 +16,7 @@ loop-level-init g c =
     record {
       inside = omega (arith, last);
       run = top_run value.keys value.eps value.eps_rec value.levels c.requires.laid.never_falls index no_segment (c.level_count-level.result - 1) c.args.q last c.requires.some c.requires.from_first;
-      windows = HasWindowsTo-none value.keys value.eps value.eps_rec value.levels c.args.q (c.level_count-level.result - 1 + 1) c.args.into.now.items last (omega (arith, c.requires.empty, c.args.into.now.ok.0));
+      windows = HasWindowsTo-none value c.args.q (c.level_count-level.result - 1 + 1) c.args.into.now.items last (omega (arith, c.requires.empty, c.args.into.now.ok.0));
       room = c.requires.room;
       capacity = omega arith;
     }

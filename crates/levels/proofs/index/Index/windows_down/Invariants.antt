@@ -10,7 +10,7 @@ abbrev pub invariant-loop-level : goal.invariant-loop-level
 invariant-loop-level g l = record {
   inside : l.level < length l.self.levels;
   run : IsPredecessor (xs_at l.self.keys l.self.levels (l.level + 1)) l.q l.run;
-  windows : HasWindowsTo l.self.keys l.self.eps l.self.eps_rec l.self.levels l.q (l.level + 1) l.into.items;
+  windows : HasWindowsTo l.self l.q (l.level + 1) l.into.items;
   room : length l.self.levels ≤ vec_capacity l.into;
   capacity : vec_capacity l.fn.into ≤ vec_capacity l.into;
 }

@@ -13,8 +13,8 @@ pub returns-then-i-eq0 : goal.returns-then-i-eq0
 returns-then-i-eq0 c =
     rw (c.if-i-eq0.true, ys_at-base, ← c.self.view_is) (c.in_ok-from_slice.ensures.items ∙ c.points-list.ensures.ys ∙ ap ys_of c.in_ok-points.ensures)
 
-pub places_of-requires : goal.places_of-requires
-places_of-requires c =
+pub overflow_cast-firsts : goal.overflow_cast-firsts
+overflow_cast-firsts c =
     let own = c.self.inside in
     let levels = segments_of own.stored.items in
     let first = c.self.invariant.stored.first in

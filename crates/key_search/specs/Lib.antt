@@ -1,0 +1,2 @@
+pub mod Interleaved
+pub use Rattle.window_search.specs.Searches
