@@ -1,5 +1,5 @@
 // Points, by their sorted codes and an index over them.
-ghost use Rattle.std.specs.Prelude.{◌≡◌, ◌+◌, ◌*◌, ◌<◌, ◌≤◌, ◌^◌, length, All, IfOk};
+ghost use Rattle.std.specs.Prelude.{◌≡◌, ◌+◌, ◌<◌, ◌^◌, length, All, IfOk};
 ghost use Rattle.std.specs.List.Sorted.{IsNonDecreasing};
 ghost use Rattle.zorder.specs.Codes.{IsCode, IsDimension};
 ghost use Rattle.zorder.specs.Points.{ArePoints};

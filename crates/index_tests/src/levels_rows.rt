@@ -1,6 +1,6 @@
 //! Indexes worked out by hand: how many runs each level has, and positions of questions.
 ghost use Rattle.std.specs.Prelude.{◌≡◌, ◌+◌, ◌*◌, ◌<◌, ◌≤◌};
-ghost use Rattle.std.specs.Prelude.{◌^◌, length, vec_len, IfOk};
+ghost use Rattle.std.specs.Prelude.{length, IfOk};
 ghost use Rattle.budget.specs.Ledgers.{IsNewLedger};
 ghost use Rattle.key_points.specs.KeyPoints.{xs_of};
 ghost use Rattle.levels.specs.Indexes.{places_below};

@@ -1,5 +1,5 @@
 // Worked lists: their runs, pairs, lines and cuts were found by hand from the definitions.
-ghost use Rattle.std.specs.Prelude.{◌≡◌, ◌≤◌, IsTrue, length};
+ghost use Rattle.std.specs.Prelude.{◌≤◌, length};
 ghost use Rattle.budget.specs.Ledgers.{IsNewLedger};
 
 use crate::common::{Points, expect_of, points_of};

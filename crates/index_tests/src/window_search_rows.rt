@@ -1,6 +1,6 @@
 //! Windows worked out by hand, and searches in them.
 
-ghost use Rattle.std.specs.Prelude.{◌≡◌, ◌<◌, length};
+ghost use Rattle.std.specs.Prelude.{◌<◌, length};
 ghost use Rattle.std.specs.List.Sorted.{IsNonDecreasing};
 ghost use Rattle.budget.specs.Ledgers.{IsNewLedger};
 

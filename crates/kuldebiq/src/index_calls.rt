@@ -1,6 +1,6 @@
 // The calls over an index.
 ghost use Rattle.std.specs.Prelude.{◌≡◌, ◌≢◌, ◌⊎◌, ◌<◌, ◌≤◌, ◌++◌};
-ghost use Rattle.std.specs.Prelude.{ℕ, ⊤, length, map, drop, slice_index, slice_index_or};
+ghost use Rattle.std.specs.Prelude.{⊤, length, map, drop, slice_index, slice_index_or};
 ghost use Rattle.std.specs.Option.{MatchOption};
 ghost use Rattle.std.specs.declared.option.Option.TheVariants.{None, Some};
 ghost use Rattle.exact_cross.specs.declared.segment.Segment.{Segment};

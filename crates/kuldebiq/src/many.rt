@@ -1,5 +1,5 @@
 // The position behind a key, and the positions of many questions, at the place of each.
-ghost use Rattle.std.specs.Prelude.{◌≡◌, ◌⊎◌, ◌+◌, ◌^◌, ◌<◌, ◌≤◌, ◌++◌};
+ghost use Rattle.std.specs.Prelude.{◌≡◌, ◌⊎◌, ◌+◌, ◌^◌, ◌<◌, ◌≤◌};
 ghost use Rattle.std.specs.Prelude.{ℕ, length, map, slice_index, vec_capacity};
 ghost use Rattle.window_search.specs.Searches.{lb};
 ghost use Rattle.kuldebiq.specs.Positions.{at_most};

@@ -1,7 +1,7 @@
 // Many updates at once.
-ghost use Rattle.std.specs.Prelude.{◌≡◌, ◌+◌, ◌<◌, ◌≤◌, ◌++◌, ◌∷◌, ℕ, List};
-ghost use Rattle.std.specs.Prelude.{length, map, take, drop, slice_index_or};
-ghost use Rattle.std.specs.Prelude.{All, IfOk, OnOk, OnErr, Err, IsTrue};
+ghost use Rattle.std.specs.Prelude.{◌≡◌, ◌+◌, ◌<◌, ◌≤◌, ◌++◌, ℕ, List};
+ghost use Rattle.std.specs.Prelude.{length, map, take, slice_index_or};
+ghost use Rattle.std.specs.Prelude.{All, IfOk, OnOk, Err, IsTrue};
 ghost use Rattle.log_levels.specs.declared.update.Update.{Update};
 ghost use Rattle.log_levels.specs.declared.fault.MapFault.TheVariants.{Full};
 ghost use Rattle.tombstones.specs.Entries.{IsAscending};

@@ -1,11 +1,10 @@
 // What a map becomes when entries are added: made aside, by a builder.
-ghost use Rattle.std.specs.Prelude.{◌≡◌, ◌≢◌, ◌+◌, ◌-◌, ◌*◌, ◌/◌};
+ghost use Rattle.std.specs.Prelude.{◌≡◌, ◌+◌, ◌-◌, ◌*◌, ◌/◌};
 ghost use Rattle.std.specs.Prelude.{◌^◌};
 ghost use Rattle.std.specs.Prelude.{◌<◌, ◌≤◌, ◌==◌, ◌++◌, ℕ, List};
 ghost use Rattle.std.specs.Prelude.{false, length, take, drop, vec_capacity, vec_len};
 ghost use Rattle.std.specs.Prelude.{slice_index_or};
 ghost use Rattle.std.specs.Prelude.{None, Some, IfOk, OnOk, OnErr, IsTrue, IsSome, All};
-ghost use Rattle.std.specs.Option.{option_map};
 ghost use Rattle.std.specs.Int.{bit_at};
 ghost use Rattle.std.specs.Arc.{arc_value};
 ghost use Rattle.tombstones.specs.declared.entry.Entry.{Entry};

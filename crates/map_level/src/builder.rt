@@ -1,5 +1,5 @@
 // How levels are made: on the calling thread, or by workers.
-ghost use Rattle.std.specs.Prelude.{◌≡◌, ℕ, ◌≤◌, IfOk};
+ghost use Rattle.std.specs.Prelude.{IfOk};
 ghost use Rattle.tombstones.specs.Entries.{IsAscending, IsMerge};
 ghost use Rattle.levels.specs.Indexes.{IsIndexOf};
 ghost use Rattle.map_level.specs.Builders.{Merges, Builds};

@@ -1,5 +1,4 @@
 // The keys of entries, as a search reads them.
-ghost use Rattle.std.specs.Prelude.{◌≡◌, length, slice_index};
 ghost use Rattle.map_level.specs.Levels.{level_keys};
 
 use tombstones::Entry;

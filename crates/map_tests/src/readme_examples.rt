@@ -1,5 +1,4 @@
 //! The examples that the READMEs of the crates quote, word for word.
-ghost use Rattle.std.specs.Prelude.{◌≡◌};
 
 use crate::tombstones_rows::{del, put};
 use boxes::Boxes;

@@ -1,12 +1,10 @@
 // The writer.
-ghost use Rattle.std.specs.Prelude.{◌≡◌, ◌⊎◌, ◌+◌, ◌-◌, ◌*◌, ◌^◌};
-ghost use Rattle.std.specs.Prelude.{◌<◌, ◌≤◌, ◌↔◌};
-ghost use Rattle.std.specs.Prelude.{◌++◌, ◌∷◌, [], ℕ, List, length, All, Some, true};
-ghost use Rattle.std.specs.Prelude.{IsTrue};
+ghost use Rattle.std.specs.Prelude.{◌≡◌, ◌+◌, ◌-◌, ◌*◌, ◌^◌};
+ghost use Rattle.std.specs.Prelude.{◌<◌, ◌≤◌};
+ghost use Rattle.std.specs.Prelude.{◌++◌, [], length, All, Some};
 ghost use Rattle.std.specs.Prelude.{IfOk, OnOk, OnErr, Err, vec_len, vec_capacity};
-ghost use Rattle.std.specs.Bool.{OnTrue};
 ghost use Rattle.left_right.specs.Sides.{view};
-ghost use Rattle.published.specs.Histories.{Front, count_of, published};
+ghost use Rattle.published.specs.Histories.{count_of, published};
 ghost use Rattle.published.specs.Writers.{IsSameMap, Refuses};
 
 use crate::copies::{Copies, give_up, show, told_place, with_room};
