@@ -4,6 +4,7 @@ use anyhow::{Result, bail, ensure};
 use budget::NoMemory;
 use edge::OpenGate;
 use log_levels::{LoadFault, LogMap, MapFault, Update};
+use options::Workers;
 use std::alloc::{AllocError, Global};
 use std::rt::Clock;
 use std::thread::Threads;
@@ -360,7 +361,7 @@ fn apply_all<R: Threads + Sync>(
     updates: &[Update],
 ) -> Result<Done, MapFault> {
     for batch in updates.chunks(BATCH) {
-        map.apply(rt, alloc, batch, 1, &OpenGate)?;
+        map.apply(rt, alloc, batch, Workers { count: 1 }, &OpenGate)?;
     }
     Ok(Done {
         things: updates.len() as u64,

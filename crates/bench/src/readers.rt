@@ -5,7 +5,8 @@ use crate::shared::number;
 use anyhow::{Result, bail, ensure};
 use edge::OpenGate;
 use log_levels::Update;
-use published::{PlainDoor, Reader, Writer, start_map};
+use options::Workers;
+use published::{Reader, Writer, start_map};
 use std::alloc::{AllocError, Global};
 use std::rt::Clock;
 use std::sync::Wait;
@@ -157,7 +158,9 @@ fn fill_part<R: Threads + Wait + Sync>(
     to: u64,
 ) -> Result<()> {
     let updates = puts(alloc, from, to)?;
-    let staged = writer.stage(rt, alloc, &updates, 4, &OpenGate).is_ok();
+    let staged = writer
+        .stage(rt, alloc, &updates, Workers { count: 4 }, &OpenGate)
+        .is_ok();
     ensure!(staged, "the keys don't fit");
     writer.publish(rt)?;
     Ok(())
@@ -228,7 +231,8 @@ fn publish_batch<R: Threads + Wait + Sync>(
     key: u64,
 ) -> bool {
     let batch = [Update::Put(key, key); BATCH];
-    writer.stage(rt, alloc, &batch, 1, &OpenGate).is_ok() && writer.publish(rt).is_ok()
+    let workers = Workers { count: 1 };
+    writer.stage(rt, alloc, &batch, workers, &OpenGate).is_ok() && writer.publish(rt).is_ok()
 }
 
 /// One of the keys, by the number of a turn.
@@ -239,12 +243,11 @@ fn scattered(turn: u64, keys: u64) -> u64 {
 
 /// Looks so often, each time at one key.
 fn look_all<R: Clock>(rt: &R, reader: Reader, work: Work, timed: bool) -> Looked {
-    let mut door = PlainDoor::new();
     let mut reader = reader;
     let (mut sum, mut refused, mut longest) = (0u64, 0u64, Duration::ZERO);
     for turn in 0..work.looks {
         let start = if timed { Instant::now(rt).ok() } else { None };
-        let (back, value) = look_at(reader, &mut door, scattered(u64::from(turn), work.keys));
+        let (back, value) = look_at(reader, scattered(u64::from(turn), work.keys));
         reader = back;
         sum = sum.wrapping_add(value.unwrap_or(0));
         refused = refused.saturating_add(u64::from(value.is_none()));
@@ -260,8 +263,8 @@ fn look_all<R: Clock>(rt: &R, reader: Reader, work: Work, timed: bool) -> Looked
 
 /// Looks at a key, and gives its value, or nothing where the look was refused.
 #[inline(always)]
-fn look_at(reader: Reader, door: &mut PlainDoor, key: u64) -> (Reader, Option<u64>) {
-    match reader.look(door) {
+fn look_at(reader: Reader, key: u64) -> (Reader, Option<u64>) {
+    match reader.look() {
         Ok(look) => {
             let value = look.get(key).unwrap_or(0);
             (look.leave(), Some(value))

@@ -168,7 +168,7 @@ fn live_after<R: Threads + Sync, G: Gate>(
         (λ live. live ≡ count_between (map_after updates.now) 0 18446744073709551615) }
 {
     let mut map = LogMap::new(alloc, MAP_LEVELS)?;
-    match map.apply(rt, alloc, updates, workers.count, gate) {
+    match map.apply(rt, alloc, updates, workers, gate) {
         Ok(()) => Ok(map.count(0, u64::MAX)),
         Err(MapFault::NoMemory) => Err(NoMemory),
         Err(MapFault::Full { .. }) => unreachable!(),

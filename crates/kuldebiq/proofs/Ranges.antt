@@ -152,9 +152,6 @@ filled-more pairs left later now after old count n before few is next =
       left_is = sym (drop-drop n count pairs) ∙ ap (drop n) before.left_is ∙ next;
     }
 
-pub filled-none : (pairs : List (ℕ × ℕ)) (old : List Pair) → IsFilled pairs pairs old old 0
-filled-none pairs old = record { counted = omega arith; written = refl; left_is = refl }
-
 -- the key of the last pair that is written
 pub last-key : (pairs left : List (ℕ × ℕ)) (now old : List Pair) (count : ℕ) (d : Pair) → IsFilled pairs left now old count → 0 < count
     → (slice_index_or now (count - 1) d).key ≡ key_at pairs (count - 1)

@@ -108,8 +108,7 @@ fn loaded(alloc: Global, levels: u32, pairs: &[Pair]) -> Result<Box<LogMap>, Ans
 
 /// Why a map with so many levels doesn't take pairs, if it doesn't.
 fn refused_pairs(levels: u32, pairs: &[Pair]) -> Option<Answer>
-    requires some { 1 ≤ levels }
-    requires few { levels ≤ 26 }
+    requires { IsLevelCount levels }
     ensures some { IfSome result (RefusesPairs levels (tuples_of pairs.now)) }
     ensures rising { IsNone result → AreRising (tuples_of pairs.now) }
     ensures fit { IsNone result → length pairs.now ≤ capacity_with levels }
@@ -122,8 +121,7 @@ fn refused_pairs(levels: u32, pairs: &[Pair]) -> Option<Answer>
 
 /// That so many pairs don't fit, if they don't.
 fn too_many(levels: u32, count: u64) -> Option<Answer>
-    requires some { 1 ≤ levels }
-    requires few { levels ≤ 26 }
+    requires { IsLevelCount levels }
     ensures some { IfSome result (λ answer. (answer ≡ refuses FULL (capacity_with levels)) ×
         (capacity_with levels < count)) }
     ensures none { IsNone result → count ≤ capacity_with levels }
@@ -150,8 +148,7 @@ fn first_stall(pairs: &[Pair]) -> Option<usize>
 
 /// The map of pairs that can be loaded, in a box, where memory is found.
 fn boxed_load(alloc: Global, levels: u32, pairs: &[Pair]) -> Option<Box<LogMap>>
-    requires some { 1 ≤ levels }
-    requires few { levels ≤ 26 }
+    requires { IsLevelCount levels }
     ensures { IfSome result (λ map. IsMapOf levels (tuples_of pairs.now) map.value) }
 {
     match map_of(alloc, levels, pairs) {
@@ -169,8 +166,7 @@ fn boxed_load(alloc: Global, levels: u32, pairs: &[Pair]) -> Option<Box<LogMap>>
 ///
 /// `NoMemory` alone, of pairs that can be loaded.
 fn map_of(alloc: Global, levels: u32, pairs: &[Pair]) -> Result<LogMap, NoMemory>
-    requires some { 1 ≤ levels }
-    requires few { levels ≤ 26 }
+    requires { IsLevelCount levels }
     ensures { IfOk result (IsMapOf levels (tuples_of pairs.now)) }
 {
     let pairs = tuples_of(alloc, pairs)?;

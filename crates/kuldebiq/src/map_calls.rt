@@ -10,6 +10,8 @@ ghost use Rattle.log_levels.specs.Maps.{map_after, value_at, next_from, count_be
 ghost use Rattle.log_levels.specs.Shapes.{Held, StandsFor, capacity_of};
 ghost use Rattle.kuldebiq.specs.Answers.{gives, refuses, found, IsDone};
 ghost use Rattle.kuldebiq.specs.Changes.{HoldsEmpty, HasAdded, one_if_some};
+ghost use Rattle.kuldebiq.specs.Loading.{IsLevelCount};
+ghost use Rattle.kuldebiq.specs.Pairs.{IsFound};
 ghost use Rattle.kuldebiq.specs.Updates.{IsUpdate, update_of, RefusesUpdates};
 
 use crate::answer::{
@@ -61,8 +63,7 @@ pub extern "C" fn kuldebiq_map_new(alloc: Global, handle: &mut MapHandle, levels
 
 /// An empty map in a box, where memory is found.
 fn boxed_map(alloc: Global, levels: u32) -> Option<Box<LogMap>>
-    requires some { 1 ≤ levels }
-    requires few { levels ≤ 26 }
+    requires { IsLevelCount levels }
     ensures { MatchOption result ⊤
         (λ map. StandsFor map.value [] × (length map.value.levels ≡ levels)) }
 {
@@ -255,8 +256,7 @@ pub extern "C" fn kuldebiq_map_next(
 ) -> Answer
     ensures answer { MatchOption handle.old.map (result ≡ refuses NOTHING_HELD 0)
         (λ map. (updates : List Update) → StandsFor map updates →
-        MatchOption (next_from (map_after updates) from) (result ≡ refuses ABSENT 0)
-        (λ next. (result ≡ gives 0) × (pair.new.key ≡ next.0) × (pair.new.value ≡ next.1))) }
+        IsFound (next_from (map_after updates) from) pair.new result) }
     ensures refused { result.status ≢ 0 → pair.new ≡ pair.old }
     ensures unchanged { handle.new.map ≡ handle.old.map }
 {
@@ -264,15 +264,23 @@ pub extern "C" fn kuldebiq_map_next(
         Some(map) => {
             let next = map.next(from);
             handle.put(map);
-            match next {
-                Some((key, value)) => {
-                    *pair = Pair { key, value };
-                    given(0)
-                }
-                None => refused(ABSENT, 0),
-            }
+            write_found(next, pair)
         }
         None => refused(NOTHING_HELD, 0),
+    }
+}
+
+/// Writes the pair that was found, if there is one.
+pub(crate) fn write_found(found: Option<(u64, u64)>, pair: &mut Pair) -> Answer
+    ensures found { IsFound found pair.new result }
+    ensures refused { result.status ≢ 0 → pair.new ≡ pair.old }
+{
+    match found {
+        Some((key, value)) => {
+            *pair = Pair { key, value };
+            given(0)
+        }
+        None => refused(ABSENT, 0),
     }
 }
 

@@ -5,10 +5,10 @@ ghost use Rattle.log_levels.specs.declared.update.Update.{Update};
 ghost use Rattle.log_levels.specs.Maps.{map_after, count_between, pairs_between, previous_to};
 ghost use Rattle.log_levels.specs.Shapes.{StandsFor};
 ghost use Rattle.kuldebiq.specs.Answers.{gives, refuses};
-ghost use Rattle.kuldebiq.specs.Pairs.{pair_of};
+ghost use Rattle.kuldebiq.specs.Pairs.{IsFound, pair_of};
 
-use crate::answer::{ABSENT, Answer, NOTHING_HELD, given, refused};
-use crate::map_calls::Pair;
+use crate::answer::{Answer, NOTHING_HELD, given, refused};
+use crate::map_calls::{Pair, write_found};
 use crate::map_handle::MapHandle;
 use log_levels::LogMap;
 use std::alloc::Global;
@@ -60,8 +60,7 @@ pub extern "C" fn kuldebiq_map_previous(
 ) -> Answer
     ensures answer { MatchOption handle.old.map (result ≡ refuses NOTHING_HELD 0)
         (λ map. (updates : List Update) → StandsFor map updates →
-        MatchOption (previous_to (map_after updates) to) (result ≡ refuses ABSENT 0)
-        (λ last. (result ≡ gives 0) × (pair.new.key ≡ last.0) × (pair.new.value ≡ last.1))) }
+        IsFound (previous_to (map_after updates) to) pair.new result) }
     ensures refused { result.status ≢ 0 → pair.new ≡ pair.old }
     ensures unchanged { handle.new.map ≡ handle.old.map }
 {
@@ -69,13 +68,7 @@ pub extern "C" fn kuldebiq_map_previous(
         Some(map) => {
             let previous = map.previous(to);
             handle.put(map);
-            match previous {
-                Some((key, value)) => {
-                    *pair = Pair { key, value };
-                    given(0)
-                }
-                None => refused(ABSENT, 0),
-            }
+            write_found(previous, pair)
         }
         None => refused(NOTHING_HELD, 0),
     }

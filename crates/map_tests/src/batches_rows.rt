@@ -1,12 +1,14 @@
 //! Notes of batches, which no clause follows through their slots.
 
-ghost use Rattle.std.specs.Prelude.{◌≡◌, ◌≤◌, [], All, length};
+ghost use Rattle.std.specs.Prelude.{◌≡◌, All, length};
 ghost use Rattle.log_levels.specs.Accepted.{entries_of};
+ghost use Rattle.published.specs.Writers.{IsEmptyWriter};
 
-use batches::{Batching, learn_newest, publish_all, slots_for};
+use batches::{Context, learn_newest, publish_all, slots_for};
 use budget::NoMemory;
 use edge::OpenGate;
 use log_levels::Update;
+use options::{Plan, Workers};
 use published::{MapName, Reader, Slot, Writer, start_map};
 use std::alloc::Global;
 use std::marker::Brand;
@@ -37,18 +39,23 @@ fn all_informed<M: MapName + Send + Sync, R: Threads + Wait + Sync>(
     readers: Vec<Reader>,
     updates: &[Update],
 ) -> Result<Vec<(u64, u64, bool)>, NoMemory>
-    requires own { writer.old.origin ≡ M.origin }
-    requires empty { writer.old.history ≡ [] }
-    requires none_staged { writer.old.batch ≡ [] }
-    requires fits { length (entries_of updates.now) ≤ writer.old.capacity }
+    requires ready { IsEmptyWriter M.origin (length (entries_of updates.now)) writer.old }
     requires readers { All (λ reader. reader.origin ≡ M.origin) readers.items }
 {
     let slots = slots_for::<M>(alloc, 2)?;
-    let batching = Batching {
-        size: 2,
-        workers: 1,
+    let context = Context {
+        rt,
+        alloc,
+        slots: &slots,
+        gate: &OpenGate,
     };
-    publish_all(rt, alloc, writer, updates, batching, &slots, &OpenGate)?;
+    let plan = Plan {
+        levels: 1,
+        batch: 2,
+        readers: 2,
+        workers: Workers { count: 1 },
+    };
+    publish_all(&context, writer, updates, plan)?;
     let mut knew = Vec::new(alloc);
     let mut readers = readers;
     while let Some(reader) = readers.pop() {
@@ -59,8 +66,8 @@ fn all_informed<M: MapName + Send + Sync, R: Threads + Wait + Sync>(
     Ok(knew)
 }
 
-// The writer leaves each reader a note of all that it published, the last in the place of the one
-// before, and a reader that takes it knows as much before it looks.
+/// The writer leaves each reader a note of all that it published, the last in the place of the one
+/// before, and a reader that takes it knows as much before it looks.
 #[test]
 fn each_reader_is_told(rt: HostRuntime) -> Result<(), Fail> {
     let updates = [Update::Put(1, 1), Update::Put(1, 2), Update::Put(1, 3)];

@@ -6,6 +6,7 @@ ghost use Rattle.std.specs.Prelude.{◌≡◌, ◌<◌, ◌≤◌, ◌^◌, leng
 use drill_inputs::Generator;
 use edge::{Gate, OpenGate, Place};
 use log_levels::{Entry, LogMap, Update};
+use options::Workers;
 use std::alloc::{AllocError, Global};
 use std::process::Abort;
 use std::sync::atomic::{AtomicU64, Ordering};
@@ -32,8 +33,8 @@ impl Gate for Counting {
     }
 }
 
-// 330 entries have five blocks: level 2 of 256 keys and level 0 of 64. Each is too short for more
-// than one piece.
+/// 330 entries have five blocks: level 2 of 256 keys and level 0 of 64. Each is too short for more
+/// than one piece.
 #[test]
 fn pieces_pass_the_gate(rt: HostRuntime) -> Result<(), Fail> {
     let gate = Counting {
@@ -45,7 +46,7 @@ fn pieces_pass_the_gate(rt: HostRuntime) -> Result<(), Fail> {
         updates.push(Update::Put(key, key))?;
     }
     let mut map = LogMap::new(rt.alloc(), 4)?;
-    let applied = map.apply(&rt, rt.alloc(), &updates, 2, &gate);
+    let applied = map.apply(&rt, rt.alloc(), &updates, Workers { count: 2 }, &gate);
     assert_eq!(rt; applied, Ok(()));
     assert_eq!(rt; gate.begun.load(Ordering::SeqCst), 2);
     assert_eq!(rt; gate.done.load(Ordering::SeqCst), 2);
@@ -56,7 +57,7 @@ fn pieces_pass_the_gate(rt: HostRuntime) -> Result<(), Fail> {
 fn level(map: &LogMap, i: u32) -> &[Entry]
     requires { i < length map.now.levels }
 {
-    match map.shape(i) {
+    match map.level_len(i) {
         Some(_) => map.entries(i),
         None => &[],
     }
@@ -102,21 +103,21 @@ fn check_three_blocks<R: Abort + AllocGlobal>(rt: &R, map: &LogMap) -> Result<()
     Ok(())
 }
 
-// The keys of level 1 lie on a line, so its index has one level of one run.
+/// The keys of level 1 lie on a line, so its index has one level of one run.
 #[test]
 fn three_blocks_by_workers(rt: HostRuntime) -> Result<(), Fail> {
     let updates = three_blocks(rt.alloc())?;
     let mut one = LogMap::new(rt.alloc(), 3)?;
     let mut two = LogMap::new(rt.alloc(), 3)?;
     let mut three = LogMap::new(rt.alloc(), 3)?;
-    let by_one = one.apply(&rt, rt.alloc(), &updates, 1, &OpenGate);
-    let by_two = two.apply(&rt, rt.alloc(), &updates, 2, &OpenGate);
-    let by_three = three.apply(&rt, rt.alloc(), &updates, 3, &OpenGate);
+    let by_one = one.apply(&rt, rt.alloc(), &updates, Workers { count: 1 }, &OpenGate);
+    let by_two = two.apply(&rt, rt.alloc(), &updates, Workers { count: 2 }, &OpenGate);
+    let by_three = three.apply(&rt, rt.alloc(), &updates, Workers { count: 3 }, &OpenGate);
     assert_eq!(rt; (by_one, by_two, by_three), (Ok(()), Ok(()), Ok(())));
     check_three_blocks(&rt, &one)?;
     check_three_blocks(&rt, &two)?;
     check_three_blocks(&rt, &three)?;
-    if three.shape(1).is_some() {
+    if three.level_len(1).is_some() {
         let index = three.index(1);
         assert_eq!(rt; index.keys().len(), 96);
         assert_eq!(rt; index.level_count(), 1);
@@ -167,19 +168,19 @@ fn have_same_levels(one: &LogMap, other: &LogMap) -> bool
     true
 }
 
-// Lists so long that they are merged in parts; the second updates find levels.
+/// Lists so long that they are merged in parts; the second updates find levels.
 #[test]
 fn many_updates_by_workers(rt: HostRuntime) -> Result<(), Fail> {
     let first = draw_updates(rt.alloc(), 50_000, 1)?;
     let second = draw_updates(rt.alloc(), 40_000, 2)?;
     let mut one = LogMap::new(rt.alloc(), 12)?;
     let mut three = LogMap::new(rt.alloc(), 12)?;
-    let by_one = one.apply(&rt, rt.alloc(), &first, 1, &OpenGate);
-    let by_three = three.apply(&rt, rt.alloc(), &first, 3, &OpenGate);
+    let by_one = one.apply(&rt, rt.alloc(), &first, Workers { count: 1 }, &OpenGate);
+    let by_three = three.apply(&rt, rt.alloc(), &first, Workers { count: 3 }, &OpenGate);
     assert_eq!(rt; (by_one, by_three), (Ok(()), Ok(())));
     assert!(rt; have_same_levels(&one, &three));
-    let by_one = one.apply(&rt, rt.alloc(), &second, 1, &OpenGate);
-    let by_three = three.apply(&rt, rt.alloc(), &second, 3, &OpenGate);
+    let by_one = one.apply(&rt, rt.alloc(), &second, Workers { count: 1 }, &OpenGate);
+    let by_three = three.apply(&rt, rt.alloc(), &second, Workers { count: 3 }, &OpenGate);
     assert_eq!(rt; (by_one, by_three), (Ok(()), Ok(())));
     assert!(rt; have_same_levels(&one, &three));
     assert_eq!(rt; three.accepted(), 90_000);
@@ -239,7 +240,7 @@ fn walk<R: Abort + AllocGlobal>(
     Ok((sum, map.accepted(), map.count(0, u64::MAX)))
 }
 
-// The expected numbers are those of a program in another language, over its own map.
+/// The expected numbers are those of a program in another language, over its own map.
 #[test]
 fn random_updates(rt: HostRuntime) -> Result<(), Fail> {
     assert_eq!(rt; walk(&rt, 10, 7, 4000)?, (1906539009, 4309, 104));

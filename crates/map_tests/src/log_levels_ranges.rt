@@ -155,7 +155,7 @@ fn check_anew<R: Abort + AllocGlobal>(
     Ok(())
 }
 
-// The keys 0 to 306, in a map whose levels hold many deletions.
+/// The keys 0 to 306, in a map whose levels hold many deletions.
 #[test]
 fn random_ranges(rt: HostRuntime) -> Result<(), Fail> {
     let mut draws = Generator::new(3);
@@ -171,7 +171,7 @@ fn random_ranges(rt: HostRuntime) -> Result<(), Fail> {
     Ok(())
 }
 
-// Nothing, and the least and the greatest key.
+/// Nothing, and the least and the greatest key.
 #[test]
 fn ranges_at_the_borders(rt: HostRuntime) -> Result<(), Fail> {
     let mut map = LogMap::new(rt.alloc(), 2)?;
@@ -194,7 +194,7 @@ fn ranges_at_the_borders(rt: HostRuntime) -> Result<(), Fail> {
     Ok(())
 }
 
-// The keys 0 to 199, of which those from 100 on are deleted, by two flushes and by the buffer.
+/// The keys 0 to 199, of which those from 100 on are deleted, by two flushes and by the buffer.
 #[test]
 fn a_range_that_ends_in_deletions(rt: HostRuntime) -> Result<(), Fail> {
     let mut map = LogMap::new(rt.alloc(), 4)?;

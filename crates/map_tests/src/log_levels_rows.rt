@@ -4,6 +4,7 @@ ghost use Rattle.std.specs.Prelude.{◌≡◌, length};
 
 use edge::OpenGate;
 use log_levels::{LogMap, MapFault, Update};
+use options::Workers;
 use std::process::Abort;
 use std::test::Fail;
 
@@ -30,7 +31,7 @@ fn full_at_the_capacity(rt: HostRuntime) -> Result<(), Fail> {
     let del = map.del(rt.alloc(), 1);
     assert_eq!(rt; del, Err(MapFault::Full { accepted: 127 }));
     let updates = [Update::Put(2, 2)];
-    let applied = map.apply(&rt, rt.alloc(), &updates, 2, &OpenGate);
+    let applied = map.apply(&rt, rt.alloc(), &updates, Workers { count: 2 }, &OpenGate);
     assert_eq!(rt; applied, Err(MapFault::Full { accepted: 127 }));
     assert_eq!(rt; map.accepted(), 127);
     assert_eq!(rt; map.buffered(), 63);
@@ -39,8 +40,8 @@ fn full_at_the_capacity(rt: HostRuntime) -> Result<(), Fail> {
     Ok(())
 }
 
-// The even numbers stand in one level, where 23 odd ones pass its filter, and deletions of every
-// 64th of them in another above.
+/// The even numbers stand in one level, where 23 odd ones pass its filter, and deletions of every
+/// 64th of them in another above.
 #[test]
 fn keys_that_are_denied_or_deleted(rt: HostRuntime) -> Result<(), Fail> {
     let mut map = LogMap::new(rt.alloc(), 10)?;
@@ -70,8 +71,8 @@ fn check_two_flushes<R: Abort>(rt: &R, map: &LogMap)
 {
     assert_eq!(rt; map.accepted(), 128);
     assert_eq!(rt; map.buffered(), 0);
-    assert_eq!(rt; map.shape(0), None);
-    assert_eq!(rt; map.shape(1), Some(126));
+    assert_eq!(rt; map.level_len(0), None);
+    assert_eq!(rt; map.level_len(1), Some(126));
     assert_eq!(rt; map.get(5), None);
     assert_eq!(rt; map.get(100), Some(100));
     assert_eq!(rt; map.next(5), Some((100, 100)));
@@ -87,7 +88,7 @@ fn two_flushes(rt: HostRuntime) -> Result<(), Fail> {
     assert_eq!(rt; put, Ok(()));
     put_all(&rt, &mut map, 100, 163);
     assert_eq!(rt; map.buffered(), 0);
-    assert_eq!(rt; map.shape(0), Some(64));
+    assert_eq!(rt; map.level_len(0), Some(64));
     let del = map.del(rt.alloc(), 5);
     assert_eq!(rt; del, Ok(()));
     assert_eq!(rt; map.get(5), None);
@@ -109,7 +110,7 @@ fn two_flushes_at_once(rt: HostRuntime) -> Result<(), Fail> {
         updates.push(Update::Put(key, key))?;
     }
     let mut map = LogMap::new(rt.alloc(), 2)?;
-    let applied = map.apply(&rt, rt.alloc(), &updates, 2, &OpenGate);
+    let applied = map.apply(&rt, rt.alloc(), &updates, Workers { count: 2 }, &OpenGate);
     assert_eq!(rt; applied, Ok(()));
     check_two_flushes(&rt, &map);
     let copy = map.copy(rt.alloc())?;
@@ -129,7 +130,7 @@ fn sweeps(rt: HostRuntime) -> Result<(), Fail> {
     assert_eq!(rt; swept, Ok(27));
     assert_eq!(rt; map.accepted(), 127);
     assert_eq!(rt; map.buffered(), 63);
-    assert_eq!(rt; map.shape(0), Some(64));
+    assert_eq!(rt; map.level_len(0), Some(64));
     assert_eq!(rt; map.count(0, 200), 73);
     assert_eq!(rt; map.next(0), Some((28, 28)));
     let more = map.sweep(rt.alloc(), 28, 28);
@@ -147,7 +148,7 @@ fn a_sweep_among_updates(rt: HostRuntime) -> Result<(), Fail> {
         Update::Sweep(2, 9),
         Update::Put(9, 9),
     ];
-    let applied = map.apply(&rt, rt.alloc(), &updates, 1, &OpenGate);
+    let applied = map.apply(&rt, rt.alloc(), &updates, Workers { count: 1 }, &OpenGate);
     assert_eq!(rt; applied, Ok(()));
     assert_eq!(rt; map.accepted(), 6);
     assert_eq!(rt; map.get(2), None);

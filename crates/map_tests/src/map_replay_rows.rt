@@ -3,7 +3,7 @@
 use edge::{Gate, Place};
 use log_levels::Update;
 use map_replay::{Question, Reading, replay};
-use options::Plan;
+use options::{Plan, Workers};
 use std::sync::atomic::{AtomicBool, Ordering};
 use std::test::Fail;
 use std::thread::yield_now;
@@ -57,8 +57,8 @@ fn known_by(readings: &[Reading], reader: usize) -> Option<u64> {
     Some(readings.get(reader)?.sightings.first()?.known)
 }
 
-// Each reader finds the note of the one batch in its own slot, and knows of it before it looks. The
-// first one has taken its note when the second one comes.
+/// Each reader finds the note of the one batch in its own slot, and knows of it before it looks. The
+/// first one has taken its note when the second one comes.
 #[test]
 fn each_reader_learns_its_own_note(rt: HostRuntime) -> Result<(), Fail> {
     let updates = [Update::Put(1, 10), Update::Put(2, 20)];
@@ -67,7 +67,7 @@ fn each_reader_learns_its_own_note(rt: HostRuntime) -> Result<(), Fail> {
         levels: 1,
         batch: 2,
         readers: 2,
-        workers: 1,
+        workers: Workers { count: 1 },
     };
     let gate = OneByOne::new();
     let left = replay(&rt, rt.alloc(), &updates, &questions, plan, &gate)?;

@@ -4,6 +4,7 @@ ghost use Rattle.std.specs.Prelude.{◌≡◌};
 
 use edge::OpenGate;
 use log_levels::{MapFault, Update};
+use options::Workers;
 use published::{Door, Look, PlainDoor, Reader, ShutDoor, Writer, start_map};
 use std::alloc::Global;
 use std::process::Abort;
@@ -27,17 +28,20 @@ fn push<R: Threads + Wait + Sync>(
 ) -> Option<u64>
     ensures own { writer.new.origin ≡ writer.old.origin }
 {
-    if writer.stage(rt, alloc, updates, 2, &OpenGate).is_err() {
+    if writer
+        .stage(rt, alloc, updates, Workers { count: 2 }, &OpenGate)
+        .is_err()
+    {
         return None;
     }
     writer.publish(rt).ok()
 }
 
-/// Looks until the door lets the reader in.
-fn look(reader: Reader, door: &mut PlainDoor) -> Option<Look> {
+/// Looks until the reader is let in.
+fn look(reader: Reader) -> Option<Look> {
     let mut reader = reader;
     for _turn in 0..TURNS {
-        match reader.look(door) {
+        match reader.look() {
             Ok(look) => return Some(look),
             Err(back) => reader = back,
         }
@@ -51,7 +55,7 @@ fn a_note_is_seen(rt: HostRuntime) -> Result<(), Fail> {
     let mut shut = ShutDoor::new(Vec::from_slice(rt.alloc(), &[1])?);
     let mut plain = PlainDoor::new();
     let (mut writer, mut readers) = start_map(&rt, rt.alloc(), 1, 1)?;
-    let full = writer.stage(&rt, rt.alloc(), &many, 1, &OpenGate);
+    let full = writer.stage(&rt, rt.alloc(), &many, Workers { count: 1 }, &OpenGate);
     let published = push(&rt, rt.alloc(), &mut writer, &[Update::Put(1, 10)]);
     let told = writer.tell();
     let length = told.length();
@@ -59,9 +63,9 @@ fn a_note_is_seen(rt: HostRuntime) -> Result<(), Fail> {
     let mut answers = None;
     if let Some(mut reader) = readers.pop() {
         reader.learn(told);
-        if let Err(reader) = reader.look(&mut shut) {
+        if let Err(reader) = reader.look_through(&mut shut) {
             let seen = reader.seen();
-            if let Ok(look) = reader.look(&mut plain) {
+            if let Ok(look) = reader.look_through(&mut plain) {
                 answers = Some((seen, look.seen(), look.get(1), look.leave().seen()));
             }
         }
@@ -75,23 +79,26 @@ fn a_note_is_seen(rt: HostRuntime) -> Result<(), Fail> {
     Ok(())
 }
 
-// Two stages appear at once, and a sweep is one update. What is only staged isn't seen.
+/// Two stages appear at once, and a sweep is one update. What is only staged isn't seen.
 #[test]
 fn stages_appear_at_once(rt: HostRuntime) -> Result<(), Fail> {
-    let mut door = PlainDoor::new();
     let (mut writer, mut readers) = start_map(&rt, rt.alloc(), 2, 1)?;
     let first = [Update::Put(1, 10), Update::Put(2, 20), Update::Put(3, 30)];
     let second = [Update::Sweep(2, 9), Update::Put(5, 50)];
-    let staged = writer.stage(&rt, rt.alloc(), &first, 1, &OpenGate).is_ok()
-        && writer.stage(&rt, rt.alloc(), &second, 1, &OpenGate).is_ok();
+    let staged = writer
+        .stage(&rt, rt.alloc(), &first, Workers { count: 1 }, &OpenGate)
+        .is_ok()
+        && writer
+            .stage(&rt, rt.alloc(), &second, Workers { count: 1 }, &OpenGate)
+            .is_ok();
     let mut before = None;
     let mut after = None;
     let mut published = None;
     if let Some(reader) = readers.pop() {
-        if let Some(first_look) = look(reader, &mut door) {
+        if let Some(first_look) = look(reader) {
             before = Some((first_look.seen(), first_look.get(1), first_look.next(0)));
             published = writer.publish(&rt).ok();
-            if let Some(look) = look(first_look.leave(), &mut door) {
+            if let Some(look) = look(first_look.leave()) {
                 after = Some((
                     (look.seen(), look.get(1), look.get(2)),
                     (
@@ -142,11 +149,10 @@ fn write_all<R: Threads + Wait + Sync>(
 /// Looks until all `most` updates are seen, or often enough. After so many updates the value is
 /// their number.
 fn read_all(reader: Reader, most: u64) -> Seen {
-    let mut door = PlainDoor::new();
     let mut reader = reader;
     let (mut looks, mut whole, mut last) = (0u64, true, 0);
     for _turn in 0..LOOKS {
-        let Some(look) = look(reader, &mut door) else {
+        let Some(look) = look(reader) else {
             return Seen {
                 reader: None,
                 looks,
@@ -169,7 +175,7 @@ fn read_all(reader: Reader, most: u64) -> Seen {
     }
 }
 
-// Sixteen readers beside the writer: each look is whole, and none shows less than the one before.
+/// Sixteen readers beside the writer: each look is whole, and none shows less than the one before.
 #[test]
 fn beside_the_writer(rt: HostRuntime) -> Result<(), Fail> {
     let (mut writer, readers) = start_map(&rt, rt.alloc(), 10, 16)?;

@@ -8,7 +8,8 @@ use levels::{Bounds, Index, Keys, OpenGate};
 use lines::{lines_of, position, upper_bound};
 use log_levels::{LogMap, Update};
 use map_level::{HashedKey, Here, Level, latest_of};
-use published::{PlainDoor, start_map};
+use options::Workers;
+use published::start_map;
 use segmenter::segment;
 use std::test::Fail;
 use zorder::Region;
@@ -81,12 +82,12 @@ fn log_levels_example(rt: HostRuntime) -> Result<(), Fail> {
 fn published_example(rt: HostRuntime) -> Result<(), Fail> {
     let (mut writer, mut readers) = start_map(&rt, rt.alloc(), 20, 1)?;
     let updates = [Update::Put(1, 10), Update::Put(2, 20)];
-    let staged = writer.stage(&rt, rt.alloc(), &updates, 1, &OpenGate);
+    let staged = writer.stage(&rt, rt.alloc(), &updates, Workers { count: 1 }, &OpenGate);
     let published = writer.publish(&rt);
     let mut value = None;
     if let Some(mut reader) = readers.pop() {
         reader.learn(writer.tell());
-        if let Ok(look) = reader.look(&mut PlainDoor::new()) {
+        if let Ok(look) = reader.look() {
             value = look.get(1);
             let _reader = look.leave();
         }

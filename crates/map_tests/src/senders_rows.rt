@@ -131,7 +131,7 @@ fn six_calls<R: Wait>(rt: &R, alloc: Global, number: u32, room: u32) -> Result<b
     pair.close(alloc)
 }
 
-// Every order of six sends and takes by two senders and the inbox.
+/// Every order of six sends and takes by two senders and the inbox.
 #[test]
 fn every_order_of_six_calls(rt: HostRuntime) -> Result<(), Fail> {
     for number in 0..729 {
@@ -307,7 +307,7 @@ fn beside_each_other<R: Threads + Wait + Sync>(
     Ok(in_order && inbox.close(senders) == 0)
 }
 
-// One, two and sixteen senders beside the inbox, with room for 1, 2, 16 and as many as can be.
+/// One, two and sixteen senders beside the inbox, with room for 1, 2, 16 and as many as can be.
 #[test]
 fn senders_beside_the_inbox(rt: HostRuntime) -> Result<(), Fail> {
     for count in [1, 2, 16] {

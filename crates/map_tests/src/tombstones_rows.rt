@@ -3,6 +3,7 @@ ghost use Rattle.std.specs.Prelude.{◌≤◌};
 ghost use Rattle.tombstones.specs.Entries.{IsAscending};
 
 use budget::NoMemory;
+use options::Workers;
 use std::process::Abort;
 use std::test::Fail;
 use std::thread::Threads;
@@ -52,20 +53,18 @@ fn check_pieces<R: Abort + AllocGlobal + Threads + Sync>(
     newer: &[Entry],
     older: &[Entry],
     deepest: bool,
-    workers: u32,
+    workers: Workers,
     expected: &[Entry],
 ) -> Result<(), NoMemory>
     requires newer_ascending { IsAscending newer.now }
     requires older_ascending { IsAscending older.now }
-    requires staffed { 1 ≤ workers }
-    requires few_workers { workers ≤ 64 }
 {
     let merged = merge_in_pieces(rt, rt.alloc(), newer, older, deepest, workers)?;
     assert_eq!(rt; merged.as_slice(), expected);
     Ok(())
 }
 
-/// The same with 1, 2, 3 and 64 workers.
+/// Compares a merge by 1, 2, 3 and 64 workers with the result.
 fn check_workers<R: Abort + AllocGlobal + Threads + Sync>(
     rt: &R,
     newer: &[Entry],
@@ -75,10 +74,10 @@ fn check_workers<R: Abort + AllocGlobal + Threads + Sync>(
 ) -> Result<(), NoMemory> {
     assert!(rt; is_ascending(newer));
     assert!(rt; is_ascending(older));
-    check_pieces(rt, newer, older, deepest, 1, expected)?;
-    check_pieces(rt, newer, older, deepest, 2, expected)?;
-    check_pieces(rt, newer, older, deepest, 3, expected)?;
-    check_pieces(rt, newer, older, deepest, 64, expected)
+    check_pieces(rt, newer, older, deepest, Workers { count: 1 }, expected)?;
+    check_pieces(rt, newer, older, deepest, Workers { count: 2 }, expected)?;
+    check_pieces(rt, newer, older, deepest, Workers { count: 3 }, expected)?;
+    check_pieces(rt, newer, older, deepest, Workers { count: 64 }, expected)
 }
 
 #[test]
@@ -139,8 +138,8 @@ fn merges(rt: HostRuntime) -> Result<(), Fail> {
     Ok(())
 }
 
-// The newer list has the even keys, each sixth one deleted, and the older one those that 3 divides:
-// of 12 keys 0, 2, 3, 4, 6, 8, 9 and 10, without 0 and 6 in the deepest list.
+/// The newer list has the even keys, each sixth one deleted, and the older one those that 3 divides:
+/// of 12 keys 0, 2, 3, 4, 6, 8, 9 and 10, without 0 and 6 in the deepest list.
 #[test]
 fn merges_long_lists(rt: HostRuntime) -> Result<(), Fail> {
     let mut newer = Vec::new(rt.alloc());

@@ -9,5 +9,10 @@ three_puts : length (entries_of (Put 1 1 ∷ Put 1 2 ∷ Put 1 3 ∷ [])) ≡ 3
 unfolding entries_from
 three_puts = refl
 
-pub all_informed-knew-requires-clause-fits : goal.all_informed-knew-requires-clause-fits
-all_informed-knew-requires-clause-fits g c κs = omega (arith, three_puts, c.in_ok-writer.ensures.capacity)
+pub all_informed-knew-requires-clause-ready : goal.all_informed-knew-requires-clause-ready
+all_informed-knew-requires-clause-ready g c κs = record {
+  own = refl;
+  empty = c.in_ok-writer.ensures.history;
+  none_staged = c.in_ok-writer.ensures.batch;
+  fits = omega (arith, three_puts, c.in_ok-writer.ensures.capacity);
+}
