@@ -1,6 +1,7 @@
 -- Pairs as C reads and writes them.
 use Rattle.std.specs.Prelude.{◌≡◌, ℕ, List, map, Option, Some, None}
 use Rattle.kuldebiq.specs.declared.answer.Answer.{Answer}
+use Rattle.kuldebiq.specs.declared.answer.TheConstants.{ABSENT}
 use Rattle.kuldebiq.specs.declared.map_calls.Pair.{Pair}
 use Rattle.kuldebiq.specs.Answers.{gives, refuses}
 
@@ -18,5 +19,5 @@ tuples_of pairs = map tuple_of pairs
 
 -- the pair that was found is written; where there is none the answer says so
 abbrev pub IsFound : Option (ℕ × ℕ) → Pair → Answer → Type 0
-IsFound None pair answer = answer ≡ refuses 3 0
+IsFound None pair answer = answer ≡ refuses ABSENT 0
 IsFound (Some found) pair answer = (answer ≡ gives 0) × (pair.key ≡ found.0) × (pair.value ≡ found.1)
