@@ -11,11 +11,11 @@ use Rattle.map_replay.specs.declared.reading.Sighting.{Sighting}
 use Rattle.map_replay.specs.declared.reading.Reading.{Reading}
 use Rattle.map_replay.specs.Questions.{answer_of}
 use Rattle.map_replay.specs.Readings.{AreAnswers, IsAmong, IsPublished, IsWholeMixedReading, IsWholeReading, IsWholeReadingOf}
-use Rattle.commands.specs.Texts.InTurn.{TellsEach}
+use Rattle.written.specs.InTurn.{TellsEach}
 use Rattle.map_replay.specs.Mixes.{IsMix}
-use Rattle.commands.specs.Texts.Mix.{IsMixedText, from_line}
-use Rattle.commands.specs.Texts.Replay.{IsReadOf, IsReplayed, closing_lines, last_line, reader_line, reader_lines, updates_line}
-use Rattle.commands.specs.ReplayLines.{IsTold, mixed_lines, read_lines, replayed_lines, told_lines}
+use Rattle.map_commands.specs.Mix.{IsMixedText, from_line}
+use Rattle.map_commands.specs.Replay.{IsReadOf, IsReplayed, closing_lines, last_line, reader_line, reader_lines, updates_line}
+use Rattle.map_commands.specs.MapLines.{IsTold, all_lines, read_lines, told_lines}
 
 -- as many answers as questions, and the answer at a place
 pub answers_count : (updates : List Update) (questions : List Question) (sightings : List Sighting) → AreAnswers updates questions sightings →
@@ -85,7 +85,7 @@ module _ (IsLength : ℕ → Type 0) (updates : List Update) (questions : List Q
       subst (λ (n : ℕ). TellsEach (IsReadOf IsLength updates questions) (range_with_len 0 n) (read_lines updates questions 0 readings)) count (all_read 0 readings each)
 
 pub is_replayed : (updates : List Update) (questions : List Question) (batch : ℕ) (readings : List Reading) (readers : ℕ) → length readings ≡ readers →
-    All (IsWholeReading updates batch questions) readings → IsReplayed updates questions batch readers (replayed_lines updates questions readings)
+    All (IsWholeReading updates batch questions) readings → IsReplayed updates questions batch readers (all_lines [] updates questions readings)
 is_replayed updates questions batch readings readers count each = record {
   read = read_lines updates questions 0 readings;
   each = of_readers (IsPublished batch (length updates)) updates questions readings readers count each;
@@ -95,7 +95,7 @@ is_replayed updates questions batch readings readers count each = record {
 -- and those of a mix
 pub is_mixed_text : (updates : List Update) (questions : List Question) (senders : ℕ) (numbers : List ℕ) (mixed : List Update) (readings : List Reading) (readers : ℕ) →
     IsMix senders updates numbers mixed → length readings ≡ readers → All (IsWholeMixedReading mixed questions) readings →
-    IsMixedText updates questions readers senders (mixed_lines numbers mixed questions readings)
+    IsMixedText updates questions readers senders (all_lines numbers mixed questions readings)
 is_mixed_text updates questions senders numbers mixed readings readers order count each = record {
   numbers = numbers;
   mixed = mixed;
@@ -108,9 +108,9 @@ is_mixed_text updates questions senders numbers mixed readings readers order cou
 
 -- the text of the same updates and questions
 pub same_lines : (readings : List Reading) {xs ys : List Update} {ps qs : List Question} → xs ≡ ys → ps ≡ qs →
-    replayed_lines xs ps readings ≡ replayed_lines ys qs readings
+    all_lines [] xs ps readings ≡ all_lines [] ys qs readings
 same_lines readings {xs} {ys} {ps} {qs} updates questions =
-    ap (λ (u : List Update). replayed_lines u ps readings) updates ∙ ap (λ (q : List Question). replayed_lines ys q readings) questions
+    ap (λ (u : List Update). all_lines [] u ps readings) updates ∙ ap (λ (q : List Question). all_lines [] ys q readings) questions
 
 -- a reader's text is of what it was answered and saw last
 pub whole_told : {IsLength : ℕ → Type 0} (updates : List Update) (questions : List Question) (reading : Reading) →

@@ -6,7 +6,7 @@ use Rattle.std.proofs.lemmas.List.Elements.{All-weaker}
 use Rattle.log_levels.specs.declared.update.Update.{Update}
 use Rattle.log_levels.specs.declared.update.Update.TheVariants.{Put, Del, Sweep}
 use Rattle.log_levels.specs.Accepted.{IsPlain}
-use Rattle.commands.specs.PlainUpdates.{is_plain}
+use Rattle.map_commands.specs.PlainUpdates.{is_plain}
 
 plain : (update : Update) → is_plain update ≡ true → IsPlain update
 plain (Put key value) is = tt

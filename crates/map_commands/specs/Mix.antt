@@ -6,8 +6,8 @@ use Rattle.map_replay.specs.declared.question.Question.{Question}
 use Rattle.map_replay.specs.Mixes.{IsMix}
 use Rattle.map_replay.specs.Readings.{IsAmong}
 use Rattle.written.specs.TextLines.{text_line}
-use Rattle.commands.specs.Texts.InTurn.{TellsEach}
-use Rattle.commands.specs.Texts.Replay.{IsReadOf, closing_lines, updates_line}
+use Rattle.written.specs.InTurn.{TellsEach}
+use Rattle.map_commands.specs.Replay.{IsReadOf, closing_lines, updates_line}
 
 -- `from S`
 abbrev pub from_line : ℕ → List ℕ

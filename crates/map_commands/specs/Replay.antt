@@ -8,7 +8,7 @@ use Rattle.map_replay.specs.declared.question.Question.TheVariants.{Get, Next, C
 use Rattle.map_replay.specs.declared.reading.Sighting.{Sighting}
 use Rattle.map_replay.specs.Readings.{IsPublished, IsReadingOf}
 use Rattle.written.specs.TextLines.{text_line}
-use Rattle.commands.specs.Texts.InTurn.{TellsEach}
+use Rattle.written.specs.InTurn.{TellsEach}
 
 -- `get K V`, or `get K none`
 abbrev pub get_words : ℕ → Option ℕ → List (List ℕ)

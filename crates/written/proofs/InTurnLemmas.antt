@@ -6,7 +6,7 @@ use Rattle.std.proofs.Common.{◌≡◌, ℕ, List, [], ◌∷◌, ◌++◌, ref
 use Rattle.std.specs.Prelude.{All}
 use Rattle.std.proofs.lemmas.List.{append-nil}
 use Rattle.std.proofs.lemmas.List.Elements.{All-head, All-tail}
-use Rattle.commands.specs.Texts.InTurn.{TellsEach}
+use Rattle.written.specs.InTurn.{TellsEach}
 
 module _ {A : Type 0} (Tells : A → List (List ℕ) → Type 0) where
   pub each_append : (questions later : List A) (pieces others : List (List ℕ)) → TellsEach Tells questions pieces → TellsEach Tells later others →

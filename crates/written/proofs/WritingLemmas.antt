@@ -1,8 +1,11 @@
 -- Texts that are written, piece after piece.
 use Rattle.std.proofs.Common.{◌≡◌, ℕ, List, [], ◌∷◌, ◌++◌, Result, Ok, Err, OnOk, OnErr, subst}
+use Rattle.std.specs.Prelude.{IsErrAnd, ⊤}
 use Rattle.edge.specs.declared.failed.Failed.{Failed}
 use Rattle.edge.specs.declared.sink.Sink.{Ghosts}
-use Rattle.written.specs.Writing.{Writes, BreaksOff}
+use Rattle.written.specs.Writing.{Writes, BreaksOff, WritesText}
+use Rattle.written.specs.declared.unfinished.Unfinished.{Unfinished}
+use Rattle.written.specs.declared.unfinished.Unfinished.TheVariants.{NoMemory, WriteFault}
 use Rattle.written.proofs.CallerLemmas.{Writes-append, BreaksOff-append, BreaksOff-more}
 
 -- a fact for each error holds where it holds
@@ -20,6 +23,13 @@ pub err_told : {A : Type 0} (r : Result A Failed) (T W : List (List ℕ) → Typ
     OnErr r ((p : List (List ℕ)) × T p × W p)
 err_told (Ok x) T W pieces told written = tt
 err_told (Err e) T W pieces told written = (pieces, told, written)
+
+-- a text that broke off, by what `?` makes of a failed call of the sink
+pub broken_text : {S : Type 0} (sink : Ghosts S) (old new : S) (r : Result ⊤ Unfinished) (IsText : List (List ℕ) → Type 0) (pieces : List (List ℕ)) →
+    IsErrAnd r (λ unfinished. unfinished ≡ WriteFault) → IsText pieces → BreaksOff sink old new pieces → WritesText sink old r new IsText
+broken_text sink old new (Ok x) IsText pieces is text broken = absurd is
+broken_text sink old new (Err WriteFault) IsText pieces is text broken = (pieces, text, broken)
+broken_text sink old new (Err NoMemory) IsText pieces is text broken = cc
 
 -- pieces behind others, as they ended
 module _ {S : Type 0} (sink : Ghosts S) where

@@ -1,4 +1,4 @@
-use Rattle.std.proofs.Common.{◌≡◌, ◌∙◌, ℕ, List, length, sym, ap, subst}
+use Rattle.std.proofs.Common.{[], ◌≡◌, ◌∙◌, ℕ, List, length, sym, ap, subst}
 use Rattle.std.specs.Prelude.{All}
 use Rattle.std.proofs.lemmas.List.Elements.{All-weaker}
 use Rattle.written.specs.Writing.{Writes, BreaksOff}
@@ -6,9 +6,10 @@ use Rattle.log_levels.specs.declared.update.Update.{Update}
 use Rattle.map_replay.specs.declared.question.Question.{Question}
 use Rattle.map_replay.specs.declared.reading.Reading.{Reading}
 use Rattle.map_replay.specs.Readings.{IsWholeReading}
-use Rattle.commands.specs.ReplayLines.{IsTold, replayed_lines}
-use Rattle.commands.proofs.ReplayLemmas.{is_replayed, same_lines, whole_told}
-use Rattle.commands.proofs.replay.write_beside.Goals as goal
+use Rattle.written.proofs.WritingLemmas.{broken_text}
+use Rattle.map_commands.specs.MapLines.{IsTold, all_lines}
+use Rattle.map_commands.proofs.MapLineLemmas.{is_replayed, same_lines, whole_told}
+use Rattle.map_commands.proofs.replay.write_beside.Goals as goal
 
 -- readings of the same updates and questions
 moved : (batch : ℕ) {rs ss : List Reading} {xs ys : List Update} {ps qs : List Question} → xs ≡ ys → ps ≡ qs → rs ≡ ss →
@@ -24,24 +25,23 @@ write_lines-done-requires-clause-each g c =
     All-weaker (IsWholeReading _ c.args.history.now.plan.batch _) (IsTold _ _) (λ reading whole. whole_told _ _ reading whole) c.readings.result.now
     (moved _ updates questions c.readings.ensures c.in_ok-left.ensures.each)
 
-pub returns-in-Ok : goal.returns-in-Ok
-returns-in-Ok g c =
+pub returns : goal.returns
+returns g c =
     let history = c.args.history.now in
     let readings = c.readings.result.now in
     let each = moved _ c.deref.ensures.value c.deref-2.ensures.value c.readings.ensures c.in_ok-left.ensures.each in
     let count = ap (λ (r : List Reading). length r) c.readings.ensures ∙ c.in_ok-left.ensures.count in (
-      replayed_lines history.updates.items history.questions.items readings,
+      all_lines [] history.updates.items history.questions.items readings,
       is_replayed history.updates.items history.questions.items history.plan.batch readings history.plan.readers count each,
-      subst (Writes g.S.Sink c.args.out.now c.write_lines-done.new.out) (same_lines readings c.deref-3.ensures.value c.deref-4.ensures.value) c.in-Ok.ensures.ok,
+      subst (Writes g.S.Sink c.args.out.now c.write_lines-done.new.out) (same_lines readings c.deref-3.ensures.value c.deref-4.ensures.value) c.in_ok-done.ensures.ok,
     )
 
-pub returns-in-Err : goal.returns-in-Err
-returns-in-Err g c =
+pub returns-in_err-done : goal.returns-in_err-done
+returns-in_err-done g c =
     let history = c.args.history.now in
     let readings = c.readings.result.now in
     let each = moved _ c.deref.ensures.value c.deref-2.ensures.value c.readings.ensures c.in_ok-left.ensures.each in
-    let count = ap (λ (r : List Reading). length r) c.readings.ensures ∙ c.in_ok-left.ensures.count in (
-      replayed_lines history.updates.items history.questions.items readings,
-      is_replayed history.updates.items history.questions.items history.plan.batch readings history.plan.readers count each,
-      subst (BreaksOff g.S.Sink c.args.out.now c.write_lines-done.new.out) (same_lines readings c.deref-3.ensures.value c.deref-4.ensures.value) c.in-Err.ensures.err,
-    )
+    let count = ap (λ (r : List Reading). length r) c.readings.ensures ∙ c.in_ok-left.ensures.count in
+    broken_text g.S.Sink c.args.out.now c.write_lines-done.new.out c.from_residual-in_err-done.result _ (all_lines [] history.updates.items history.questions.items readings) c.from_residual-in_err-done.ensures.1
+    (is_replayed history.updates.items history.questions.items history.plan.batch readings history.plan.readers count each)
+    (subst (BreaksOff g.S.Sink c.args.out.now c.write_lines-done.new.out) (same_lines readings c.deref-3.ensures.value c.deref-4.ensures.value) c.in_err-done.ensures.err)

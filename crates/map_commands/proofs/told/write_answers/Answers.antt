@@ -4,9 +4,9 @@ use Rattle.written.proofs.CallerLemmas.{written_none, written_more, written_all,
 use Rattle.log_levels.specs.Maps.{map_after}
 use Rattle.map_replay.specs.declared.question.Question.{Question}
 use Rattle.map_replay.specs.declared.question.Question.TheVariants.{Get}
-use Rattle.commands.specs.Texts.Replay.{end_line}
-use Rattle.commands.proofs.WritingLemmas.{on_err}
-use Rattle.commands.proofs.replay.write_answers.Goals as goal
+use Rattle.map_commands.specs.Replay.{end_line}
+use Rattle.written.proofs.WritingLemmas.{on_err}
+use Rattle.map_commands.proofs.told.write_answers.Goals as goal
 
 -- what is left begins with the piece of this question
 begins : (pairs : List (ℕ × ℕ)) (questions : List Question) (i : ℕ) (piece : List ℕ) → i < length questions →

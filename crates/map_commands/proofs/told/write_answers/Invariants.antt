@@ -1,8 +1,8 @@
 use Rattle.std.proofs.Common.{drop, map}
 use Rattle.log_levels.specs.Maps.{map_after}
 use Rattle.written.proofs.CallerLemmas.{HasWritten}
-use Rattle.commands.specs.Texts.Replay.{end_line}
-use Rattle.commands.proofs.replay.write_answers.Given as goal
+use Rattle.map_commands.specs.Replay.{end_line}
+use Rattle.map_commands.proofs.told.write_answers.Given as goal
 
 -- the answers to the questions before this place were written
 abbrev pub invariant-loop-i : goal.invariant-loop-i

@@ -2,9 +2,9 @@ use Rattle.std.proofs.Common.{length, map}
 use Rattle.std.specs.List.{range_with_len}
 use Rattle.log_levels.specs.Maps.{map_after}
 use Rattle.written.proofs.CallerLemmas.{BreaksOff-more}
-use Rattle.commands.specs.Texts.Replay.{end_lines, last_line}
-use Rattle.commands.proofs.WritingLemmas.{on_err, ok_behind, err_behind}
-use Rattle.commands.proofs.replay.write_closing.Goals as goal
+use Rattle.map_commands.specs.Replay.{end_lines, last_line}
+use Rattle.written.proofs.WritingLemmas.{on_err, ok_behind, err_behind}
+use Rattle.map_commands.proofs.told.write_closing.Goals as goal
 
 pub returns-in_err-write_lasts-clause-err : goal.returns-in_err-write_lasts-clause-err
 returns-in_err-write_lasts-clause-err g c =

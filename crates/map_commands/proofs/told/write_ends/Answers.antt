@@ -4,9 +4,9 @@ use Rattle.written.specs.TextLines.{text_line}
 use Rattle.written.specs.Writing.{Writes, BreaksOff}
 use Rattle.written.proofs.CallerLemmas.{BreaksOff-more}
 use Rattle.log_levels.specs.Maps.{map_after}
-use Rattle.commands.specs.Texts.Replay.{end_line, live_line}
-use Rattle.commands.proofs.WritingLemmas.{on_err, ok_behind, err_behind}
-use Rattle.commands.proofs.replay.write_ends.Goals as goal
+use Rattle.map_commands.specs.Replay.{end_line, live_line}
+use Rattle.written.proofs.WritingLemmas.{on_err, ok_behind, err_behind}
+use Rattle.map_commands.proofs.told.write_ends.Goals as goal
 
 pub returns-in_err-write_answers-clause-err : goal.returns-in_err-write_answers-clause-err
 returns-in_err-write_answers-clause-err g c =

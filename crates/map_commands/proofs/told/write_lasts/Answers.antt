@@ -5,10 +5,10 @@ use Rattle.std.proofs.lemmas.List.FromFn.{length-range_with_len}
 use Rattle.std.proofs.lemmas.List.Elements.{All-get_or}
 use Rattle.written.proofs.CallerLemmas.{written_none, written_more, written_all, breaks_off_there}
 use Rattle.map_replay.specs.declared.reading.Reading.{Reading}
-use Rattle.commands.specs.Texts.Replay.{last_line}
-use Rattle.commands.proofs.ReplayLemmas.{last_begins}
-use Rattle.commands.proofs.WritingLemmas.{on_err}
-use Rattle.commands.proofs.replay.write_lasts.Goals as goal
+use Rattle.map_commands.specs.Replay.{last_line}
+use Rattle.map_commands.proofs.MapLineLemmas.{last_begins}
+use Rattle.written.proofs.WritingLemmas.{on_err}
+use Rattle.map_commands.proofs.told.write_lasts.Goals as goal
 
 pub loop-i-init : goal.loop-i-init
 loop-i-init g c = written_none g.S.Sink c.args.out.now (map (last_line (length c.args.updates.now)) (range_with_len 0 (length c.args.readings.now)))

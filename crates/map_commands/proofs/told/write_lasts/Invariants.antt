@@ -1,8 +1,8 @@
 use Rattle.std.proofs.Common.{drop, length, map}
 use Rattle.std.specs.List.{range_with_len}
 use Rattle.written.proofs.CallerLemmas.{HasWritten}
-use Rattle.commands.specs.Texts.Replay.{last_line}
-use Rattle.commands.proofs.replay.write_lasts.Given as goal
+use Rattle.map_commands.specs.Replay.{last_line}
+use Rattle.map_commands.proofs.told.write_lasts.Given as goal
 
 -- the last lines of the readers before this one were written
 abbrev pub invariant-loop-i : goal.invariant-loop-i

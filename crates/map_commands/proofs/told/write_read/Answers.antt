@@ -5,11 +5,11 @@ use Rattle.log_levels.specs.declared.update.Update.{Update}
 use Rattle.map_replay.specs.declared.question.Question.{Question}
 use Rattle.map_replay.specs.declared.reading.Reading.{Reading}
 use Rattle.map_replay.specs.declared.reading.Sighting.{Sighting}
-use Rattle.commands.specs.Texts.Replay.{reader_lines}
-use Rattle.commands.specs.ReplayLines.{read_lines}
-use Rattle.commands.proofs.ReplayLemmas.{read_begins}
-use Rattle.commands.proofs.WritingLemmas.{on_err}
-use Rattle.commands.proofs.replay.write_read.Goals as goal
+use Rattle.map_commands.specs.Replay.{reader_lines}
+use Rattle.map_commands.specs.MapLines.{read_lines}
+use Rattle.map_commands.proofs.MapLineLemmas.{read_begins}
+use Rattle.written.proofs.WritingLemmas.{on_err}
+use Rattle.map_commands.proofs.told.write_read.Goals as goal
 
 pub loop-i-init : goal.loop-i-init
 loop-i-init g c = written_none g.S.Sink c.args.out.now (read_lines c.args.updates.now c.args.questions.now 0 c.args.readings.now)

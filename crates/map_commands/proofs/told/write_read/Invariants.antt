@@ -1,7 +1,7 @@
 use Rattle.std.proofs.Common.{drop}
 use Rattle.written.proofs.CallerLemmas.{HasWritten}
-use Rattle.commands.specs.ReplayLines.{read_lines}
-use Rattle.commands.proofs.replay.write_read.Given as goal
+use Rattle.map_commands.specs.MapLines.{read_lines}
+use Rattle.map_commands.proofs.told.write_read.Given as goal
 
 -- the lines of the readers before this one were written
 abbrev pub invariant-loop-i : goal.invariant-loop-i

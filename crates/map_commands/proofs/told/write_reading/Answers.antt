@@ -5,10 +5,10 @@ use Rattle.map_replay.specs.declared.question.Question.{Question}
 use Rattle.map_replay.specs.declared.question.Question.TheVariants.{Get}
 use Rattle.map_replay.specs.declared.question.Answer.TheVariants.{Value}
 use Rattle.map_replay.specs.declared.reading.Sighting.{Sighting}
-use Rattle.commands.specs.Texts.Replay.{reader_lines}
-use Rattle.commands.proofs.ReplayLemmas.{answer_at, answers_count, reading_begins}
-use Rattle.commands.proofs.WritingLemmas.{on_err}
-use Rattle.commands.proofs.replay.write_reading.Goals as goal
+use Rattle.map_commands.specs.Replay.{reader_lines}
+use Rattle.map_commands.proofs.MapLineLemmas.{answer_at, answers_count, reading_begins}
+use Rattle.written.proofs.WritingLemmas.{on_err}
+use Rattle.map_commands.proofs.told.write_reading.Goals as goal
 
 abbrev no_sighting : Sighting
 no_sighting = record { known = 0; length = 0; answer = Value None }

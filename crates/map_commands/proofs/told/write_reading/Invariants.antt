@@ -1,7 +1,7 @@
 use Rattle.std.proofs.Common.{drop}
 use Rattle.written.proofs.CallerLemmas.{HasWritten}
-use Rattle.commands.specs.Texts.Replay.{reader_lines}
-use Rattle.commands.proofs.replay.write_reading.Given as goal
+use Rattle.map_commands.specs.Replay.{reader_lines}
+use Rattle.map_commands.proofs.told.write_reading.Given as goal
 
 -- the lines of the questions before this place were written
 abbrev pub invariant-loop-i : goal.invariant-loop-i

@@ -1,9 +1,9 @@
 use Rattle.std.proofs.Common.{length}
 use Rattle.written.proofs.CallerLemmas.{BreaksOff-more}
-use Rattle.commands.specs.Texts.Replay.{closing_lines}
-use Rattle.commands.specs.ReplayLines.{read_lines}
-use Rattle.commands.proofs.WritingLemmas.{on_err, ok_behind, err_behind}
-use Rattle.commands.proofs.replay.write_rest.Goals as goal
+use Rattle.map_commands.specs.Replay.{closing_lines}
+use Rattle.map_commands.specs.MapLines.{read_lines}
+use Rattle.written.proofs.WritingLemmas.{on_err, ok_behind, err_behind}
+use Rattle.map_commands.proofs.told.write_rest.Goals as goal
 
 pub returns-in_err-write_read-clause-err : goal.returns-in_err-write_read-clause-err
 returns-in_err-write_read-clause-err g c =

@@ -1,9 +1,9 @@
 use Rattle.std.proofs.Common.{◌≡◌, ◌+◌, ◌<◌, [], ◌∷◌, ◌++◌, ◌∙◌, ap, sym, drop, drop-cons, add-one, get_or, length, map, arith, ℕ, List}
 use Rattle.std.proofs.lemmas.List.{drop_all}
 use Rattle.written.proofs.CallerLemmas.{written_none, written_more, written_all, breaks_off_there}
-use Rattle.commands.specs.Texts.Mix.{from_line}
-use Rattle.commands.proofs.WritingLemmas.{on_err}
-use Rattle.commands.proofs.mix.write_senders.Goals as goal
+use Rattle.map_commands.specs.Mix.{from_line}
+use Rattle.written.proofs.WritingLemmas.{on_err}
+use Rattle.map_commands.proofs.told.write_senders.Goals as goal
 
 -- what is left begins with the piece of this update
 begins : (numbers : List ℕ) (i : ℕ) (piece : List ℕ) → i < length numbers → piece ≡ from_line (get_or numbers i 0) →

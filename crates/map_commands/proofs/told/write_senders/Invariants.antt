@@ -1,7 +1,7 @@
 use Rattle.std.proofs.Common.{drop, map}
 use Rattle.written.proofs.CallerLemmas.{HasWritten}
-use Rattle.commands.specs.Texts.Mix.{from_line}
-use Rattle.commands.proofs.mix.write_senders.Given as goal
+use Rattle.map_commands.specs.Mix.{from_line}
+use Rattle.map_commands.proofs.told.write_senders.Given as goal
 
 -- the lines of the updates before this one were written
 abbrev pub invariant-loop-i : goal.invariant-loop-i
