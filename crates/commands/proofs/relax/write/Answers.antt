@@ -28,6 +28,6 @@ returns g c =
     let (answers, answered, written) = c.in_ok-write_relaxed.ensures.ok in (
       _,
       told c.args.relaxing.indexing.sorted.keys.items (bounds_of c.args.relaxing.indexing.bounds) c.args.relaxing.pieces.count c.in_ok-index.slack c.in_ok-index.index c.args.relaxing.questions.items answers c.in_ok-index.ensures
-      (subst (λ (q : List ℕ). IsAnswered c.in_ok-index.index.keys (bounds_of c.args.relaxing.indexing.bounds) q false answers) c.as_slice-questions.ensures.value answered),
+          (subst (λ (q : List ℕ). IsAnswered c.in_ok-index.index.keys (bounds_of c.args.relaxing.indexing.bounds) q false answers) c.as_slice-questions.ensures.value answered),
       written,
     )
