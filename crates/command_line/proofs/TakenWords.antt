@@ -25,6 +25,11 @@ use Rattle.clap.specs.declared.parser.matches.ArgMatches.{ArgMatches}
 use Rattle.clap.specs.declared.parser.matches.ArgMatches.TheViews.{out-ArgMatches, out-SubCommand}
 use Rattle.clap.specs.declared.parser.matches.SubCommand.{SubCommand}
 use Rattle.exact_cross.specs.declared.TheConstants.{MAX_EPSILON}
+use Rattle.options.specs.declared.drawing.TheConstants.{MAX_DRAWN}
+use Rattle.options.specs.declared.index.TheConstants.{MAX_BITS, MAX_PIECES, MAX_WORKERS}
+use Rattle.options.specs.declared.map.TheConstants.{MAX_READERS, MAX_SENDERS}
+use Rattle.command_line.specs.declared.definition.TheConstants.{GREATEST_SEED}
+use Rattle.command_line.specs.declared.request.TheConstants.{MAX_BATCH}
 use Rattle.command_line.specs.Commands.{Command, application, commands, request_for}
 use Rattle.command_line.specs.declared.request.Request as declared
 use Rattle.command_line.specs.Requests.{Request, asked_of}
@@ -167,24 +172,24 @@ abbrev pub Holds : Text → (List Row → Type 0) → Type 0
 Holds name P = (rows : List Row) → ArePassed (rules_of name) rows → P rows
 
 index_options : (rules : List Rule) (rows : List Row) → (list_all (takes_numbers 0 MAX_EPSILON (codes "eps")) rules ≡ true) →
-    (list_all (takes_numbers 0 MAX_EPSILON (codes "rec")) rules ≡ true) → (list_all (takes_numbers 1 64 (codes "workers")) rules ≡ true) → (list_all (takes_flag (codes "narrow")) rules ≡ true) →
+    (list_all (takes_numbers 0 MAX_EPSILON (codes "rec")) rules ≡ true) → (list_all (takes_numbers 1 MAX_WORKERS (codes "workers")) rules ≡ true) → (list_all (takes_flag (codes "narrow")) rules ≡ true) →
     ArePassed rules rows → AreIndexOptions rows
 index_options rules rows eps eps_rec workers narrow passed = record {
   eps = number_reads rules 0 MAX_EPSILON (codes "eps") rows eps passed;
   eps_rec = number_reads rules 0 MAX_EPSILON (codes "rec") rows eps_rec passed;
-  workers = number_reads rules 1 64 (codes "workers") rows workers passed;
+  workers = number_reads rules 1 MAX_WORKERS (codes "workers") rows workers passed;
   narrow = flag_reads rules (codes "narrow") rows narrow passed;
 }
 
 -- of rules that let these numbers through
 replay_options : (rules : List Rule) (rows : List Row) → (list_all (takes_numbers 1 26 (codes "levels")) rules ≡ true) →
-    (list_all (takes_numbers 1 65536 (codes "batch")) rules ≡ true) → (list_all (takes_numbers 0 16 (codes "readers")) rules ≡ true) →
-    (list_all (takes_numbers 1 64 (codes "workers")) rules ≡ true) → ArePassed rules rows → AreReplayOptions rows
+    (list_all (takes_numbers 1 MAX_BATCH (codes "batch")) rules ≡ true) → (list_all (takes_numbers 0 MAX_READERS (codes "readers")) rules ≡ true) →
+    (list_all (takes_numbers 1 MAX_WORKERS (codes "workers")) rules ≡ true) → ArePassed rules rows → AreReplayOptions rows
 replay_options rules rows levels batch readers workers passed = record {
   levels = number_reads rules 1 26 (codes "levels") rows levels passed;
-  batch = number_reads rules 1 65536 (codes "batch") rows batch passed;
-  readers = number_reads rules 0 16 (codes "readers") rows readers passed;
-  workers = number_reads rules 1 64 (codes "workers") rows workers passed;
+  batch = number_reads rules 1 MAX_BATCH (codes "batch") rows batch passed;
+  readers = number_reads rules 0 MAX_READERS (codes "readers") rows readers passed;
+  workers = number_reads rules 1 MAX_WORKERS (codes "workers") rows workers passed;
 }
 
 pub build_options : Holds (codes "build") AreIndexOptions
@@ -205,13 +210,13 @@ query_options rows passed = (
   index_options (rules_of (codes "query")) rows refl refl refl refl passed,
   record {
     windows = flag_reads (rules_of (codes "query")) (codes "windows") rows refl passed;
-    buckets = number_reads (rules_of (codes "query")) 0 20 (codes "buckets") rows refl passed;
+    buckets = number_reads (rules_of (codes "query")) 0 MAX_BITS (codes "buckets") rows refl passed;
   },
 )
 
 pub relax_options : Holds (codes "relax") (λ rows. AreIndexOptions rows × IsPiecesOption rows)
 unfolding clap_on_literals
-relax_options rows passed = (index_options (rules_of (codes "relax")) rows refl refl refl refl passed, number_reads (rules_of (codes "relax")) 1 65536 (codes "pieces") rows refl passed)
+relax_options rows passed = (index_options (rules_of (codes "relax")) rows refl refl refl refl passed, number_reads (rules_of (codes "relax")) 1 MAX_PIECES (codes "pieces") rows refl passed)
 
 pub box_options : Holds (codes "box") IsDimensionOption
 unfolding clap_on_literals
@@ -227,7 +232,7 @@ replaying_options rows passed = replay_options (rules_of (codes "replay")) rows 
 
 pub mix_options : Holds (codes "mix") (λ rows. AreReplayOptions rows × IsSendersOption rows)
 unfolding clap_on_literals
-mix_options rows passed = (replay_options (rules_of (codes "mix")) rows refl refl refl refl passed, number_reads (rules_of (codes "mix")) 1 16 (codes "senders") rows refl passed)
+mix_options rows passed = (replay_options (rules_of (codes "mix")) rows refl refl refl refl passed, number_reads (rules_of (codes "mix")) 1 MAX_SENDERS (codes "senders") rows refl passed)
 
 pub line_options : Holds (codes "lines") AreLineOptions
 unfolding clap_on_literals
@@ -243,11 +248,11 @@ find_options rows passed = flag_reads (rules_of (codes "find")) (codes "narrow")
 pub drill_options : Holds (codes "drill") AreDrillOptions
 unfolding clap_on_literals
 drill_options rows passed = record {
-  number = number_reads (rules_of (codes "drill")) 1 1000000 (codes "N") rows refl passed;
-  seed = number_reads (rules_of (codes "drill")) 0 2147483647 (codes "SEED") rows refl passed;
+  number = number_reads (rules_of (codes "drill")) 1 MAX_DRAWN (codes "N") rows refl passed;
+  seed = number_reads (rules_of (codes "drill")) 0 GREATEST_SEED (codes "SEED") rows refl passed;
   eps = number_reads (rules_of (codes "drill")) 0 MAX_EPSILON (codes "eps") rows refl passed;
   eps_rec = number_reads (rules_of (codes "drill")) 0 MAX_EPSILON (codes "rec") rows refl passed;
-  workers = number_reads (rules_of (codes "drill")) 1 64 (codes "workers") rows refl passed;
+  workers = number_reads (rules_of (codes "drill")) 1 MAX_WORKERS (codes "workers") rows refl passed;
 }
 
 pub check_options : Holds (codes "check") IsNarrowOption

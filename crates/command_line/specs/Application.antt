@@ -5,6 +5,11 @@ use Rattle.clap.specs.Simple.{new_shape}
 use Rattle.clap.specs.declared.builder.action.ArgAction.TheVariants.{SetTrue}
 use Rattle.clap.specs.declared.builder.value_parser.ValueParser.TheVariants as parser
 use Rattle.exact_cross.specs.declared.TheConstants.{MAX_EPSILON}
+use Rattle.options.specs.declared.drawing.TheConstants.{MAX_DRAWN}
+use Rattle.options.specs.declared.index.TheConstants.{MAX_BITS, MAX_PIECES, MAX_WORKERS}
+use Rattle.options.specs.declared.map.TheConstants.{MAX_READERS, MAX_SENDERS}
+use Rattle.command_line.specs.declared.definition.TheConstants.{GREATEST_SEED}
+use Rattle.command_line.specs.declared.request.TheConstants.{MAX_BATCH}
 
 -- a name that has to be given
 abbrev pub positional : Text → Rule
@@ -30,10 +35,19 @@ flag name = record (new_rule name) { long = Some name; action = Some SetTrue }
 abbrev pub command : Text → List Rule → Shape
 command name rules = record (new_shape name) { rules = rules }
 
+-- the error bound of level 0, that of the levels above, and how many workers there are
+abbrev pub eps_rule : Rule
+eps_rule = number (codes "eps") 0 MAX_EPSILON (codes "64")
+
+abbrev pub eps_rec_rule : Rule
+eps_rec_rule = number (codes "rec") 0 MAX_EPSILON (codes "4")
+
+abbrev pub workers_rule : Rule
+workers_rule = number (codes "workers") 1 MAX_WORKERS (codes "4")
+
 -- how an index is built
 abbrev pub bounds_rules : List Rule
-bounds_rules = number (codes "eps") 0 MAX_EPSILON (codes "64") ∷ number (codes "rec") 0 MAX_EPSILON (codes "4")
-    ∷ number (codes "workers") 1 64 (codes "4") ∷ []
+bounds_rules = eps_rule ∷ eps_rec_rule ∷ workers_rule ∷ []
 
 -- of a key file
 abbrev pub index_rules : List Rule
@@ -46,11 +60,11 @@ build_rules = index_rules ++ flag (codes "narrow") ∷ []
 -- and a script of questions, and how many bits of a key a table goes by, if there is one
 abbrev pub query_rules : List Rule
 query_rules = build_rules ++ positional (codes "SCRIPT") ∷ flag (codes "windows")
-    ∷ number (codes "buckets") 0 20 (codes "0") ∷ []
+    ∷ number (codes "buckets") 0 MAX_BITS (codes "0") ∷ []
 
 -- and a script of questions, and into how many pieces the points are cut
 abbrev pub relax_rules : List Rule
-relax_rules = build_rules ++ positional (codes "SCRIPT") ∷ number (codes "pieces") 1 65536 (codes "4") ∷ []
+relax_rules = build_rules ++ positional (codes "SCRIPT") ∷ number (codes "pieces") 1 MAX_PIECES (codes "4") ∷ []
 
 -- a file of points with so many coordinates each, and a script of what is asked of them
 abbrev pub points_rules : List Rule
@@ -58,19 +72,19 @@ points_rules = positional (codes "FILE") ∷ positional (codes "SCRIPT") ∷ num
 
 -- a script of updates and questions, how many levels the map has that they are made to and asked of, and how many updates a batch has
 abbrev pub batch_rules : List Rule
-batch_rules = positional (codes "SCRIPT") ∷ number (codes "levels") 1 26 (codes "20") ∷ number (codes "batch") 1 65536 (codes "16") ∷ []
+batch_rules = positional (codes "SCRIPT") ∷ number (codes "levels") 1 26 (codes "20") ∷ number (codes "batch") 1 MAX_BATCH (codes "16") ∷ []
 
 -- and how many readers ask beside the writer
 abbrev pub replay_rules : List Rule
-replay_rules = batch_rules ++ number (codes "readers") 0 16 (codes "0") ∷ number (codes "workers") 1 64 (codes "4") ∷ []
+replay_rules = batch_rules ++ number (codes "readers") 0 MAX_READERS (codes "0") ∷ workers_rule ∷ []
 
 -- and among how many senders the updates are dealt out
 abbrev pub mix_rules : List Rule
-mix_rules = replay_rules ++ number (codes "senders") 1 16 (codes "2") ∷ []
+mix_rules = replay_rules ++ number (codes "senders") 1 MAX_SENDERS (codes "2") ∷ []
 
 -- how many inputs are drawn of each kind, and a seed
 abbrev pub drawn_rules : List Rule
-drawn_rules = positional_number (codes "N") 1 1000000 ∷ positional_number (codes "SEED") 0 2147483647 ∷ []
+drawn_rules = positional_number (codes "N") 1 MAX_DRAWN ∷ positional_number (codes "SEED") 0 GREATEST_SEED ∷ []
 
 -- and how an index is built
 abbrev pub drill_rules : List Rule

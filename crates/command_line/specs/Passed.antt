@@ -4,6 +4,11 @@ use Rattle.clap.specs.Words.{Text, Row, Rule, IsSignedIn, without_minus, one_of}
 use Rattle.clap.specs.Walk.{reading_by}
 use Rattle.clap.specs.Takes.{values_pass}
 use Rattle.exact_cross.specs.declared.TheConstants.{MAX_EPSILON}
+use Rattle.options.specs.declared.drawing.TheConstants.{MAX_DRAWN}
+use Rattle.options.specs.declared.index.TheConstants.{MAX_BITS, MAX_PIECES, MAX_WORKERS}
+use Rattle.options.specs.declared.map.TheConstants.{MAX_READERS, MAX_SENDERS}
+use Rattle.command_line.specs.declared.definition.TheConstants.{GREATEST_SEED}
+use Rattle.command_line.specs.declared.request.TheConstants.{MAX_BATCH}
 
 -- some rule of the list does
 abbrev pub SomeRule : List Rule → (Rule → Type 0) → Type 0
@@ -33,7 +38,7 @@ IsFlag id rows = (text : Text) → one_of id rows ≡ Some text → (text ≡ co
 -- what the options of a query hold, beside those of its index
 pub record AreQueryOptions (rows : List Row) : Type 0 where
   pub windows : IsFlag (codes "windows") rows
-  pub buckets : IsNumberIn 0 20 (codes "buckets") rows
+  pub buckets : IsNumberIn 0 MAX_BITS (codes "buckets") rows
 
 -- what the option of a search in points holds
 abbrev pub IsDimensionOption : List Row → Type 0
@@ -41,7 +46,7 @@ IsDimensionOption rows = IsNumberIn 2 4 (codes "dims") rows
 
 -- what the option of a relaxed index holds, beside those of an index
 abbrev pub IsPiecesOption : List Row → Type 0
-IsPiecesOption rows = IsNumberIn 1 65536 (codes "pieces") rows
+IsPiecesOption rows = IsNumberIn 1 MAX_PIECES (codes "pieces") rows
 
 -- what the option of a check or a find holds
 abbrev pub IsNarrowOption : List Row → Type 0
@@ -55,25 +60,25 @@ pub record AreLineOptions (rows : List Row) : Type 0 where
 -- what the options of a replay hold
 pub record AreReplayOptions (rows : List Row) : Type 0 where
   pub levels : IsNumberIn 1 26 (codes "levels") rows
-  pub batch : IsNumberIn 1 65536 (codes "batch") rows
-  pub readers : IsNumberIn 0 16 (codes "readers") rows
-  pub workers : IsNumberIn 1 64 (codes "workers") rows
+  pub batch : IsNumberIn 1 MAX_BATCH (codes "batch") rows
+  pub readers : IsNumberIn 0 MAX_READERS (codes "readers") rows
+  pub workers : IsNumberIn 1 MAX_WORKERS (codes "workers") rows
 
 -- what the option of a mix holds, beside those of a replay
 abbrev pub IsSendersOption : List Row → Type 0
-IsSendersOption rows = IsNumberIn 1 16 (codes "senders") rows
+IsSendersOption rows = IsNumberIn 1 MAX_SENDERS (codes "senders") rows
 
 -- what the numbers of a drill hold, and how its index is built
 pub record AreDrillOptions (rows : List Row) : Type 0 where
-  pub number : IsNumberIn 1 1000000 (codes "N") rows
-  pub seed : IsNumberIn 0 2147483647 (codes "SEED") rows
+  pub number : IsNumberIn 1 MAX_DRAWN (codes "N") rows
+  pub seed : IsNumberIn 0 GREATEST_SEED (codes "SEED") rows
   pub eps : IsNumberIn 0 MAX_EPSILON (codes "eps") rows
   pub eps_rec : IsNumberIn 0 MAX_EPSILON (codes "rec") rows
-  pub workers : IsNumberIn 1 64 (codes "workers") rows
+  pub workers : IsNumberIn 1 MAX_WORKERS (codes "workers") rows
 
 -- what the options of an index hold
 pub record AreIndexOptions (rows : List Row) : Type 0 where
   pub eps : IsNumberIn 0 MAX_EPSILON (codes "eps") rows
   pub eps_rec : IsNumberIn 0 MAX_EPSILON (codes "rec") rows
-  pub workers : IsNumberIn 1 64 (codes "workers") rows
+  pub workers : IsNumberIn 1 MAX_WORKERS (codes "workers") rows
   pub narrow : IsFlag (codes "narrow") rows

@@ -3,6 +3,7 @@ use Rattle.std.specs.Prelude.{ℕ, Bool, false, List, Option, Some, None, codes,
 use Rattle.std.specs.Option.{option_map_or}
 use Rattle.std.specs.Str.Parse.{digits_value, without_leading_plus}
 use Rattle.clap.specs.Words.{Text, Row, first_of, one_of}
+use Rattle.options.specs.declared.index.TheConstants.{EPS, EPS_REC}
 use Rattle.command_line.specs.declared.request.Building as declared_building
 use Rattle.command_line.specs.declared.request.Searching as declared_searching
 use Rattle.command_line.specs.declared.request.Replaying as declared_replaying
@@ -89,8 +90,8 @@ abbrev pub building_of : List Row → Building
 building_of rows = record {
   file = name_in (codes "FILE") rows;
   narrow = is_given (codes "narrow") rows;
-  eps = number_in (codes "eps") 64 rows;
-  eps_rec = number_in (codes "rec") 4 rows;
+  eps = number_in (codes "eps") EPS rows;
+  eps_rec = number_in (codes "rec") EPS_REC rows;
 }
 
 abbrev pub query_of : List Row → Request
@@ -136,8 +137,8 @@ abbrev pub drilling_of : List Row → Drilling
 drilling_of rows = record {
   number = number_in (codes "N") 1 rows;
   seed = number_in (codes "SEED") 0 rows;
-  eps = number_in (codes "eps") 64 rows;
-  eps_rec = number_in (codes "rec") 4 rows;
+  eps = number_in (codes "eps") EPS rows;
+  eps_rec = number_in (codes "rec") EPS_REC rows;
 }
 
 abbrev pub checking_of : List Row → Checking

@@ -11,31 +11,15 @@ ghost use Rattle.command_line.specs.Application.{flag, number, positional};
 ghost use Rattle.command_line.specs.Application.{bare_program, batch_rules};
 ghost use Rattle.command_line.specs.Application.{drawn_rules, drill_rules};
 ghost use Rattle.command_line.specs.Application.{positional_number, ranged};
-ghost use Rattle.command_line.specs.Application.{check_rules};
-ghost use Rattle.command_line.specs.Application.{find_rules, lines_rules};
+ghost use Rattle.command_line.specs.Application.{check_rules, eps_rec_rule, eps_rule};
+ghost use Rattle.command_line.specs.Application.{find_rules, lines_rules, workers_rule};
 ghost use Rattle.exact_cross.specs.declared.TheConstants.{MAX_EPSILON};
 
+use crate::request::MAX_BATCH;
 use clap::{Arg, ArgAction, Command, value_parser};
 use exact_cross::MAX_EPSILON;
+use options::{MAX_BITS, MAX_DRAWN, MAX_PIECES, MAX_READERS, MAX_SENDERS, MAX_WORKERS};
 use std::alloc::{AllocError, Global};
-
-/// How many workers build an index at most.
-const MOST_WORKERS: u32 = 64;
-
-/// How many readers ask beside the writer at most.
-const MOST_READERS: u32 = 16;
-
-/// Among how many senders updates are dealt out at most.
-const MOST_SENDERS: u32 = 16;
-
-/// How many bits of a key a table goes by at most.
-const MOST_BITS: u32 = 20;
-
-/// Into how many pieces points are cut at most.
-const MOST_PIECES: u32 = 65_536;
-
-/// How many inputs of each kind a drill draws at most.
-const MOST_DRAWN: u32 = 1_000_000;
 
 /// The greatest seed of a drill.
 const GREATEST_SEED: u32 = 0x7fff_ffff;
@@ -49,7 +33,7 @@ pub fn application<'a>(alloc: Global) -> Result<Command<'a>, AllocError>
     added(program, check_command(alloc))
 }
 
-// The program with its commands over an index, over points, over a map and over lines.
+/// The program with its commands over an index, over points, over a map and over lines.
 fn with_line_commands<'a>(alloc: Global) -> Result<Command<'a>, AllocError>
     ensures { IfOk result (λ program. app_of program
         ≡ program_with (shapes_of (index_commands ++ script_commands ++ line_commands))) }
@@ -58,7 +42,7 @@ fn with_line_commands<'a>(alloc: Global) -> Result<Command<'a>, AllocError>
     added(program, find_command(alloc))
 }
 
-// The program with its commands over an index, over points and over a map.
+/// The program with its commands over an index, over points and over a map.
 fn with_script_commands<'a>(alloc: Global) -> Result<Command<'a>, AllocError>
     ensures { IfOk result (λ program. app_of program
         ≡ program_with (shapes_of (index_commands ++ script_commands))) }
@@ -69,7 +53,7 @@ fn with_script_commands<'a>(alloc: Global) -> Result<Command<'a>, AllocError>
     added(program, mix_command(alloc))
 }
 
-// The program with its commands over the index of a key file.
+/// The program with its commands over the index of a key file.
 fn with_index_commands<'a>(alloc: Global) -> Result<Command<'a>, AllocError>
     ensures { IfOk result (λ program. app_of program ≡ program_with (shapes_of index_commands)) }
 {
@@ -79,8 +63,8 @@ fn with_index_commands<'a>(alloc: Global) -> Result<Command<'a>, AllocError>
     added(program, relax_command(alloc))
 }
 
-// The program with a command more. A command that wasn't made is handed in too, so that a step of
-// `application` holds nothing that is dropped where memory isn't found.
+/// The program with a command more. A command that wasn't made is handed in too, so that a step of
+/// `application` holds nothing that is dropped where memory isn't found.
 fn added<'a>(
     program: Command<'a>,
     command: Result<Command<'a>, AllocError>,
@@ -93,7 +77,7 @@ fn added<'a>(
     program.subcommand(command?)
 }
 
-// The program before its commands.
+/// The program before its commands.
 fn bare_program<'a>(alloc: Global) -> Command<'a>
     ensures { app_of result ≡ bare_program }
 {
@@ -104,7 +88,7 @@ fn bare_program<'a>(alloc: Global) -> Command<'a>
         .subcommand_required(true)
 }
 
-// A command over the index of a key file.
+/// A command over the index of a key file.
 fn index_command<'a>(alloc: Global, name: &'a str) -> Result<Command<'a>, AllocError>
     ensures shape { IfOk result
         (λ made. app_of made ≡ record { top = command name.entry.now build_rules; subs = [] }) }
@@ -113,7 +97,7 @@ fn index_command<'a>(alloc: Global, name: &'a str) -> Result<Command<'a>, AllocE
     counted_command(alloc, name)?.arg(flag(alloc, "narrow"))
 }
 
-// The same without its flag.
+/// A command over the index of a key file, without its flag.
 fn counted_command<'a>(alloc: Global, name: &'a str) -> Result<Command<'a>, AllocError>
     ensures shape { IfOk result
         (λ made. app_of made ≡ record { top = command name.entry.now index_rules; subs = [] }) }
@@ -134,7 +118,7 @@ fn query_command<'a>(alloc: Global) -> Result<Command<'a>, AllocError>
     index_command(alloc, "query")?
         .arg(positional(alloc, "SCRIPT"))?
         .arg(flag(alloc, "windows"))?
-        .arg(number(alloc, "buckets", 0, MOST_BITS, "0"))
+        .arg(number(alloc, "buckets", 0, MAX_BITS, "0"))
 }
 
 fn relax_command<'a>(alloc: Global) -> Result<Command<'a>, AllocError>
@@ -144,10 +128,10 @@ fn relax_command<'a>(alloc: Global) -> Result<Command<'a>, AllocError>
 {
     index_command(alloc, "relax")?
         .arg(positional(alloc, "SCRIPT"))?
-        .arg(number(alloc, "pieces", 1, MOST_PIECES, "4"))
+        .arg(number(alloc, "pieces", 1, MAX_PIECES, "4"))
 }
 
-// A command over a file of points.
+/// A command over a file of points.
 fn points_command<'a>(alloc: Global, name: &'a str) -> Result<Command<'a>, AllocError>
     ensures shape { IfOk result
         (λ made. app_of made ≡ record { top = command name.entry.now points_rules; subs = [] }) }
@@ -159,18 +143,18 @@ fn points_command<'a>(alloc: Global, name: &'a str) -> Result<Command<'a>, Alloc
         .arg(number(alloc, "dims", 2, 4, "2"))
 }
 
-// A command over a script of updates and questions.
+/// A command over a script of updates and questions.
 fn replay_command<'a>(alloc: Global, name: &'a str) -> Result<Command<'a>, AllocError>
     ensures shape { IfOk result
         (λ made. app_of made ≡ record { top = command name.entry.now replay_rules; subs = [] }) }
     ensures local { IfOk result (λ made. (out-Command made).has_globals ≡ false) }
 {
     batch_command(alloc, name)?
-        .arg(number(alloc, "readers", 0, MOST_READERS, "0"))?
+        .arg(number(alloc, "readers", 0, MAX_READERS, "0"))?
         .arg(workers(alloc))
 }
 
-// The same without readers and workers.
+/// A command over a script of updates and questions, without readers and workers.
 fn batch_command<'a>(alloc: Global, name: &'a str) -> Result<Command<'a>, AllocError>
     ensures shape { IfOk result
         (λ made. app_of made ≡ record { top = command name.entry.now batch_rules; subs = [] }) }
@@ -179,7 +163,7 @@ fn batch_command<'a>(alloc: Global, name: &'a str) -> Result<Command<'a>, AllocE
     Command::new(alloc, name)
         .arg(positional(alloc, "SCRIPT"))?
         .arg(number(alloc, "levels", 1, 26, "20"))?
-        .arg(number(alloc, "batch", 1, 65_536, "16"))
+        .arg(number(alloc, "batch", 1, MAX_BATCH, "16"))
 }
 
 fn mix_command<'a>(alloc: Global) -> Result<Command<'a>, AllocError>
@@ -187,7 +171,7 @@ fn mix_command<'a>(alloc: Global) -> Result<Command<'a>, AllocError>
         (λ made. app_of made ≡ record { top = command (codes "mix") mix_rules; subs = [] }) }
     ensures local { IfOk result (λ made. (out-Command made).has_globals ≡ false) }
 {
-    replay_command(alloc, "mix")?.arg(number(alloc, "senders", 1, MOST_SENDERS, "2"))
+    replay_command(alloc, "mix")?.arg(number(alloc, "senders", 1, MAX_SENDERS, "2"))
 }
 
 fn drill_command<'a>(alloc: Global) -> Result<Command<'a>, AllocError>
@@ -201,18 +185,18 @@ fn drill_command<'a>(alloc: Global) -> Result<Command<'a>, AllocError>
         .arg(workers(alloc))
 }
 
-// The same without its options.
+/// The command `drill` without its options.
 fn drawn_command<'a>(alloc: Global) -> Result<Command<'a>, AllocError>
     ensures shape { IfOk result
         (λ made. app_of made ≡ record { top = command (codes "drill") drawn_rules; subs = [] }) }
     ensures local { IfOk result (λ made. (out-Command made).has_globals ≡ false) }
 {
     Command::new(alloc, "drill")
-        .arg(positional_number(alloc, "N", 1, MOST_DRAWN))?
+        .arg(positional_number(alloc, "N", 1, MAX_DRAWN))?
         .arg(positional_number(alloc, "SEED", 0, GREATEST_SEED))
 }
 
-// A command over a key file and a saved index.
+/// A command over a key file and a saved index.
 fn check_command<'a>(alloc: Global) -> Result<Command<'a>, AllocError>
     ensures shape { IfOk result
         (λ made. app_of made ≡ record { top = command (codes "check") check_rules; subs = [] }) }
@@ -224,7 +208,7 @@ fn check_command<'a>(alloc: Global) -> Result<Command<'a>, AllocError>
         .arg(flag(alloc, "narrow"))
 }
 
-// A command that makes lines of a key file.
+/// A command that makes lines of a key file.
 fn lines_command<'a>(alloc: Global) -> Result<Command<'a>, AllocError>
     ensures shape { IfOk result
         (λ made. app_of made ≡ record { top = command (codes "lines") lines_rules; subs = [] }) }
@@ -236,7 +220,7 @@ fn lines_command<'a>(alloc: Global) -> Result<Command<'a>, AllocError>
         .arg(flag(alloc, "narrow"))
 }
 
-// A command over a key file, a file of lines and a script of questions.
+/// A command over a key file, a file of lines and a script of questions.
 fn find_command<'a>(alloc: Global) -> Result<Command<'a>, AllocError>
     ensures shape { IfOk result
         (λ made. app_of made ≡ record { top = command (codes "find") find_rules; subs = [] }) }
@@ -249,31 +233,31 @@ fn find_command<'a>(alloc: Global) -> Result<Command<'a>, AllocError>
         .arg(flag(alloc, "narrow"))
 }
 
-// `--eps N`, the error bound of level 0.
+/// `--eps N`, the error bound of level 0.
 fn eps<'a>(alloc: Global) -> Arg<'a>
-    ensures rule { rule_of result ≡ number (codes "eps") 0 MAX_EPSILON (codes "64") }
+    ensures rule { rule_of result ≡ eps_rule }
     ensures local { result.global ≡ false }
 {
     number(alloc, "eps", 0, MAX_EPSILON, "64")
 }
 
-// `--rec N`, that of the levels above.
+/// `--rec N`, that of the levels above.
 fn eps_rec<'a>(alloc: Global) -> Arg<'a>
-    ensures rule { rule_of result ≡ number (codes "rec") 0 MAX_EPSILON (codes "4") }
+    ensures rule { rule_of result ≡ eps_rec_rule }
     ensures local { result.global ≡ false }
 {
     number(alloc, "rec", 0, MAX_EPSILON, "4")
 }
 
-// `--workers N`.
+/// `--workers N`.
 fn workers<'a>(alloc: Global) -> Arg<'a>
-    ensures rule { rule_of result ≡ number (codes "workers") 1 64 (codes "4") }
+    ensures rule { rule_of result ≡ workers_rule }
     ensures local { result.global ≡ false }
 {
-    number(alloc, "workers", 1, MOST_WORKERS, "4")
+    number(alloc, "workers", 1, MAX_WORKERS, "4")
 }
 
-// A number that has to be given, from `least` to `most`.
+/// A number that has to be given, from `least` to `most`.
 fn positional_number<'a>(alloc: Global, name: &'a str, least: u32, most: u32) -> Arg<'a>
     ensures rule { rule_of result ≡ positional_number name.entry.now least most }
     ensures local { result.global ≡ false }
@@ -281,7 +265,7 @@ fn positional_number<'a>(alloc: Global, name: &'a str, least: u32, most: u32) ->
     ranged(alloc, name, least, most).required(true)
 }
 
-// A name that has to be given.
+/// A name that has to be given.
 fn positional<'a>(alloc: Global, name: &'a str) -> Arg<'a>
     ensures rule { rule_of result ≡ positional name.entry.now }
     ensures local { result.global ≡ false }
@@ -289,7 +273,7 @@ fn positional<'a>(alloc: Global, name: &'a str) -> Arg<'a>
     Arg::new(alloc, name).required(true)
 }
 
-// `--NAME N`, with N from `least` to `most`, and `default` where it isn't given.
+/// `--NAME N`, with N from `least` to `most`, and `default` where it isn't given.
 fn number<'a>(alloc: Global, name: &'a str, least: u32, most: u32, default: &'a str) -> Arg<'a>
     ensures rule { rule_of result ≡ number name.entry.now least most default.entry.now }
     ensures local { result.global ≡ false }
@@ -299,7 +283,7 @@ fn number<'a>(alloc: Global, name: &'a str, least: u32, most: u32, default: &'a 
         .default_value(default)
 }
 
-// A number from `least` to `most`.
+/// A number from `least` to `most`.
 fn ranged<'a>(alloc: Global, name: &'a str, least: u32, most: u32) -> Arg<'a>
     ensures rule { rule_of result ≡ ranged name.entry.now least most }
     ensures local { result.global ≡ false }
@@ -307,7 +291,7 @@ fn ranged<'a>(alloc: Global, name: &'a str, least: u32, most: u32) -> Arg<'a>
     Arg::new(alloc, name).value_parser(value_parser!(u32).range(i64::from(least)..=i64::from(most)))
 }
 
-// `--NAME`, given or not.
+/// `--NAME`, given or not.
 fn flag<'a>(alloc: Global, name: &'a str) -> Arg<'a>
     ensures rule { rule_of result ≡ flag name.entry.now }
     ensures local { result.global ≡ false }

@@ -12,5 +12,7 @@ mod definition;
 mod request;
 mod words;
 
-pub use request::{Building, Checking, Drilling, Finding, Lining, Replaying, Request, Searching};
+pub use request::{
+    Building, Checking, Drilling, Finding, Lining, MAX_BATCH, Replaying, Request, Searching,
+};
 pub use words::{NoRequest, requested, taken_words_ask};

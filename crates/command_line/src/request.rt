@@ -1,8 +1,12 @@
 // What the words ask for.
 ghost use Rattle.std.specs.Prelude.{◌≤◌};
 ghost use Rattle.exact_cross.specs.declared.TheConstants.{MAX_EPSILON};
+ghost use Rattle.command_line.specs.declared.request.TheConstants.{MAX_BATCH};
 
 use options::{Bounds, Drill, Pieces, Plan, Senders, Table, Workers};
+
+/// How many updates a batch has at most.
+pub const MAX_BATCH: u32 = 65_536;
 
 /// A key file, and how its index is built.
 #[derive(Clone, Copy, Debug)]
@@ -33,9 +37,9 @@ pub struct Searching<'a> {
 pub struct Replaying<'a> {
     /// The name of the script.
     pub script: &'a str,
-    /// A batch has at most 65,536 updates.
+    /// A batch has at most [`MAX_BATCH`] updates.
     pub plan: Plan,
-    pub ghost few_updates: { plan.batch ≤ 65536 },
+    pub ghost few_updates: { plan.batch ≤ MAX_BATCH },
 }
 
 /// A key file, and the error bound of the lines that are made of its keys.

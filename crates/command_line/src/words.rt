@@ -4,6 +4,8 @@ ghost use Rattle.std.specs.Prelude.{codes, option_map, option_and_then, IsSome};
 ghost use Rattle.std.specs.String.{string_bytes};
 ghost use Rattle.clap.specs.Words.{Text, found_of, rows_of, subcommand_of, subcommand_rows_of};
 ghost use Rattle.exact_cross.specs.declared.TheConstants.{MAX_EPSILON};
+ghost use Rattle.options.specs.declared.index.TheConstants.{EPS, EPS_REC, MAX_WORKERS};
+ghost use Rattle.command_line.specs.declared.request.TheConstants.{MAX_BATCH};
 ghost use Rattle.command_line.specs.Commands.{application, request_for};
 ghost use Rattle.command_line.specs.Requests.{asked_of, building_of, built_of, is_given, name_in};
 ghost use Rattle.command_line.specs.Requests.{number_in, query_of, relax_of};
@@ -25,7 +27,7 @@ use crate::request::{
 };
 use clap::ArgMatches;
 use clap::error::ErrorKind;
-use options::{Bounds, Drill, Pieces, Plan, Senders, Table, Workers};
+use options::{Bounds, Drill, EPS, EPS_REC, Pieces, Plan, Senders, Table, Workers};
 use std::alloc::{AllocError, Global};
 use thiserror::Error;
 
@@ -68,7 +70,7 @@ pub fn requested<'a>(alloc: Global, words: &'a [String]) -> Result<Request<'a>, 
     }
 }
 
-// What was found for the command that was named. There is one.
+/// What was found for the command that was named. There is one.
 fn request_in<'a>(matches: &ArgMatches<'a>) -> Option<Request<'a>>
     requires { (words : List Text) × AreTaken words
         × (subcommand_rows_of matches.now ≡ subcommand_of application words) }
@@ -260,17 +262,17 @@ fn checking_in<'a>(found: &ArgMatches<'a>) -> Checking<'a>
 fn bounds_in(found: &ArgMatches<'_>) -> Bounds
     requires eps { IsNumberIn 0 MAX_EPSILON (codes "eps") (rows_of (found_of found.now)) }
     requires eps_rec { IsNumberIn 0 MAX_EPSILON (codes "rec") (rows_of (found_of found.now)) }
-    ensures eps { result.eps ≡ number_in (codes "eps") 64 (rows_of (found_of found.now)) }
-    ensures eps_rec { result.eps_rec ≡ number_in (codes "rec") 4 (rows_of (found_of found.now)) }
+    ensures eps { result.eps ≡ number_in (codes "eps") EPS (rows_of (found_of found.now)) }
+    ensures eps_rec { result.eps_rec ≡ number_in (codes "rec") EPS_REC (rows_of (found_of found.now)) }
 {
     Bounds {
-        eps: number_in(found, "eps", 64),
-        eps_rec: number_in(found, "rec", 4),
+        eps: number_in(found, "eps", EPS),
+        eps_rec: number_in(found, "rec", EPS_REC),
     }
 }
 
 fn workers_in(found: &ArgMatches<'_>) -> Workers
-    requires { IsNumberIn 1 64 (codes "workers") (rows_of (found_of found.now)) }
+    requires { IsNumberIn 1 MAX_WORKERS (codes "workers") (rows_of (found_of found.now)) }
 {
     Workers {
         count: number_in(found, "workers", 4),
@@ -283,13 +285,13 @@ fn plan_in(found: &ArgMatches<'_>) -> Plan
     ensures batch { result.batch ≡ number_in (codes "batch") 16 (rows_of (found_of found.now)) }
     ensures readers { result.readers
         ≡ number_in (codes "readers") 0 (rows_of (found_of found.now)) }
-    ensures few_updates { result.batch ≤ 65536 }
+    ensures few_updates { result.batch ≤ MAX_BATCH }
 {
     Plan {
         levels: number_in(found, "levels", 20),
         batch: number_in(found, "batch", 16),
         readers: number_in(found, "readers", 0),
-        workers: number_in(found, "workers", 4),
+        workers: workers_in(found),
     }
 }
 
@@ -304,14 +306,14 @@ fn drill_in(found: &ArgMatches<'_>) -> Drill
     }
 }
 
-// The name that was given.
+/// The name that was given.
 fn name_in<'a>(found: &ArgMatches<'a>, id: &str) -> &'a str
     ensures { result.now ≡ name_in id.now (rows_of (found_of found.now)) }
 {
     found.get_str(id).unwrap_or("")
 }
 
-// The number of an option, or else its default.
+/// The number of an option, or else its default.
 fn number_in(found: &ArgMatches<'_>, id: &str, default: u32) -> u32
     requires { (least most : ℕ) × (most < 2 ^ 32)
         × IsNumberIn least most id.now (rows_of (found_of found.now)) }
@@ -323,7 +325,7 @@ fn number_in(found: &ArgMatches<'_>, id: &str, default: u32) -> u32
     found.get_one::<u32>(id).unwrap_or(default)
 }
 
-// Whether a flag is given.
+/// Whether a flag is given.
 fn is_given(found: &ArgMatches<'_>, id: &str) -> bool
     requires { IsFlag id.now (rows_of (found_of found.now)) }
     ensures { result ≡ is_given id.now (rows_of (found_of found.now)) }

@@ -8,7 +8,7 @@ use Rattle.levels.proofs.CallerLemmas.{AreWindows-some}
 use Rattle.commands.specs.Finders.{IsIndexOf}
 use Rattle.commands.specs.Tasks.{Bounds}
 use Rattle.commands.specs.Texts.Query.{TellsWindows, TellsAnswer, IsAnswered, find_line, window_lines}
-use Rattle.commands.proofs.InTurnLemmas.{some_each}
+use Rattle.written.proofs.InTurnLemmas.{some_each}
 
 module _ {A : Type 0} (index_of : A → PgmIndex) (keys : List ℕ) (bounds : Bounds) where
   -- the windows of the index, where there is one to tell them

@@ -1,12 +1,8 @@
 pub mod RunLines
 pub mod LevelTexts
-pub mod InTurnLemmas
 pub mod AnswerTexts
 pub mod PieceLemmas
-pub mod PlainLemmas
-pub mod ReplayLemmas
 pub mod SearchLemmas
-pub mod WritingLemmas
 pub mod OneDrill
 pub mod SameCuts
 pub mod OneText

@@ -12,7 +12,6 @@ use Rattle.window_search.specs.Searches.{lb}
 use Rattle.zorder.specs.declared.regions.Region.{Region}
 use Rattle.zorder.specs.Codes.{IsDimension, code}
 use Rattle.zorder.proofs.CallerLemmas.{code-lt}
-use Rattle.levels.specs.declared.windows.LevelWindow.{LevelWindow}
 use Rattle.levels.specs.Lookups.{AreWindows}
 use Rattle.piece_join.specs.Cuttings.{even_place}
 use Rattle.key_points.specs.KeyPoints.{xs_of}
@@ -25,7 +24,7 @@ use Rattle.near.specs.Nearest.{AreBoxes}
 use Rattle.near.proofs.CallerLemmas.{one_boxes, one_nearest}
 use Rattle.commands.specs.declared.task.Centre.{Centre}
 use Rattle.commands.specs.Tasks.{Bounds}
-use Rattle.commands.specs.Texts.InTurn.{TellsEach}
+use Rattle.written.specs.InTurn.{TellsEach}
 use Rattle.commands.specs.Texts.Indexing.{tells_levels}
 use Rattle.commands.specs.Texts.Build.{IsBuilt, built_level}
 use Rattle.commands.specs.Texts.Explain.{IsExplained, level_lines}
@@ -34,7 +33,7 @@ use Rattle.commands.specs.Texts.Query.{IsAnswered, TellsAnswer, TellsWindows, fi
 use Rattle.commands.specs.Texts.Relax.{IsBuiltRelaxed}
 use Rattle.commands.specs.Texts.Regions.{IsSearched, TellsRegion, box_line, point_line}
 use Rattle.commands.specs.Texts.Neighbours.{IsNearest, TellsNear, near_lines}
-use Rattle.commands.proofs.InTurnLemmas.{one_each}
+use Rattle.written.proofs.InTurnLemmas.{one_each}
 use Rattle.commands.proofs.SameCuts.{AreCutsAt-unique}
 
 pub one_built : (keys : List ℕ) (bounds : Bounds) (one two : List (List ℕ)) → IsBuilt keys bounds one → IsBuilt keys bounds two → one ≡ two
@@ -61,7 +60,7 @@ module _ (keys : List ℕ) (bounds : Bounds) (order : IsNonDecreasing keys) wher
       let here : AreWindows keys bounds.eps bounds.eps_rec levels' question windows =
       subst (λ (l : List (List Segment)). AreWindows keys bounds.eps bounds.eps_rec l question windows) same are in
       is
-      ∙ ap (λ (w : List LevelWindow). window_lines w) (AreWindows-unique keys bounds.eps bounds.eps_rec levels' order index' question windows windows' here are')
+      ∙ ap window_lines (AreWindows-unique keys bounds.eps bounds.eps_rec levels' order index' question windows windows' here are')
       ∙ sym is'
 
   one_answer : (windows : Bool) (question : ℕ) (one two : List (List ℕ)) → TellsAnswer keys bounds windows question one →

@@ -5,6 +5,8 @@ use Rattle.log_levels.specs.declared.update.Update.{Update}
 use Rattle.map_replay.specs.declared.question.Question.{Question}
 use Rattle.options.specs.declared.index.Bounds as declared_bounds
 use Rattle.commands.specs.declared.task.Centre.{Centre}
+use Rattle.map_commands.specs.declared.history.History as declared_history
+use Rattle.map_commands.specs.declared.history.Mixing as declared_mixing
 use Rattle.commands.specs.declared.task.Task as declared
 use Rattle.commands.specs.declared.task.Task.TheVariants as variant
 
@@ -33,18 +35,23 @@ pub data Task : Type 0 where
 abbrev pub bounds_of : declared_bounds.Bounds → Bounds
 bounds_of b = record { eps = b.eps; eps_rec = b.eps_rec }
 
+abbrev pub replay_of : declared_history.History → Task
+replay_of h = replay h.updates.items h.questions.items h.plan.batch h.plan.readers
+
+abbrev pub mix_of : declared_mixing.Mixing → Task
+mix_of m = mix m.history.updates.items m.history.questions.items m.history.plan.readers m.senders.count
+
 abbrev pub task_of : declared.Task → Task
-task_of (variant.Build keys bounds workers) = build keys.keys.items (bounds_of bounds)
-task_of (variant.Explain keys bounds workers) = explain keys.keys.items (bounds_of bounds)
-task_of (variant.Query keys bounds workers questions windows table) =
-    query keys.keys.items (bounds_of bounds) questions.items windows
-task_of (variant.Relax keys bounds workers pieces questions) = relax keys.keys.items (bounds_of bounds) pieces.count questions.items
-task_of (variant.Box search) = box search.dims search.coords.items search.regions.items
-task_of (variant.Near neighbours) = near neighbours.dims neighbours.coords.items neighbours.centres.items
-task_of (variant.Replay history) = replay history.updates.items history.questions.items history.plan.batch history.plan.readers
-task_of (variant.Mix mixing) = mix mixing.history.updates.items mixing.history.questions.items mixing.history.plan.readers mixing.senders.count
+task_of (variant.Build indexing) = build indexing.sorted.keys.items (bounds_of indexing.bounds)
+task_of (variant.Explain indexing) = explain indexing.sorted.keys.items (bounds_of indexing.bounds)
+task_of (variant.Query a) = query a.indexing.sorted.keys.items (bounds_of a.indexing.bounds) a.questions.items a.windows
+task_of (variant.Relax r) = relax r.indexing.sorted.keys.items (bounds_of r.indexing.bounds) r.pieces.count r.questions.items
+task_of (variant.Box search) = box search.points.dims search.points.coords.items search.regions.items
+task_of (variant.Near neighbours) = near neighbours.points.dims neighbours.points.coords.items neighbours.centres.items
+task_of (variant.Replay history) = replay_of history
+task_of (variant.Mix mixing) = mix_of mixing
 task_of (variant.Lines fitting) = lines fitting.sorted.keys.items fitting.eps
 task_of (variant.Find lookups) = find lookups.sorted.keys.items lookups.questions.items
 task_of (variant.Drill d bounds workers) = drill d.number d.seed (bounds_of bounds)
-task_of (variant.Save keys bounds workers) = save keys.keys.items (bounds_of bounds)
+task_of (variant.Save indexing) = save indexing.sorted.keys.items (bounds_of indexing.bounds)
 task_of (variant.Check levels runs) = check levels runs

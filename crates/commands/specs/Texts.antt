@@ -8,14 +8,13 @@ use Rattle.commands.specs.Texts.Query.{IsAnswered}
 use Rattle.commands.specs.Texts.Relax.{IsBuiltRelaxed}
 use Rattle.commands.specs.Texts.Regions.{IsSearched}
 use Rattle.commands.specs.Texts.Neighbours.{IsNearest}
-use Rattle.commands.specs.Texts.Replay.{IsReplayed}
-use Rattle.commands.specs.Texts.Mix.{IsMixedText}
+use Rattle.map_commands.specs.Replay.{IsReplayed}
+use Rattle.map_commands.specs.Mix.{IsMixedText}
 use Rattle.commands.specs.Texts.Drill.{IsDrilled}
 use Rattle.commands.specs.Texts.Save.{IsSaved}
 use Rattle.commands.specs.Texts.Check.{IsChecked}
 use Rattle.commands.specs.Texts.Lines.{AreLines}
 use Rattle.commands.specs.Texts.Find.{IsFound}
-pub mod InTurn
 pub mod Indexing
 pub mod Build
 pub mod Coordinates
@@ -24,8 +23,6 @@ pub mod Query
 pub mod Relax
 pub mod Regions
 pub mod Neighbours
-pub mod Replay
-pub mod Mix
 pub mod Drill
 pub mod Save
 pub mod Check

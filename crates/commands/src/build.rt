@@ -8,10 +8,10 @@ ghost use Rattle.commands.specs.Texts.Indexing.{tells_levels};
 ghost use Rattle.commands.specs.Texts.Build.{IsBuilt, built_level};
 
 use crate::indexing::{fill_level_line, index_of, write_keys};
-use crate::task::SortedKeys;
+use crate::task::Indexing;
 use edge::{Failed, Gate, Sink};
 use levels::Index;
-use options::{Bounds, Workers};
+use options::Bounds;
 use std::alloc::Global;
 use std::thread::Threads;
 use written::{TextLine, Unfinished, hand_over};
@@ -20,20 +20,16 @@ use written::{TextLine, Unfinished, hand_over};
 pub fn write<R: Threads + Sync, S: Sink, G: Gate>(
     rt: &R,
     alloc: Global,
-    sorted: SortedKeys,
-    bounds: Bounds,
-    workers: Workers,
+    indexing: Indexing,
     out: &mut S,
     gate: &G,
 ) -> Result<(), Unfinished>
     ensures { WritesText S.Sink out.old result out.new
-        (IsBuilt sorted.keys.items (bounds_of bounds)) }
+        (IsBuilt indexing.sorted.keys.items (bounds_of indexing.bounds)) }
 {
-    let index = index_of(rt, alloc, sorted, bounds, workers, gate)?;
-    match write_index(out, &index, bounds, None) {
-        Ok(()) => Ok(()),
-        Err(_) => Err(Unfinished::WriteFault),
-    }
+    let bounds = indexing.bounds;
+    let index = index_of(rt, alloc, indexing, gate)?;
+    Ok(write_index(out, &index, bounds, None)?)
 }
 
 /// Writes the text line of the keys, and that of each level, where level 0 has a slack or not.
@@ -55,7 +51,7 @@ pub fn write_index<S: Sink>(
     write_levels(out, &mut line, index, bounds, slack)
 }
 
-// Writes a text line for each level.
+/// Writes a text line for each level.
 fn write_levels<S: Sink>(
     out: &mut S,
     line: &mut TextLine,

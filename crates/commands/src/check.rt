@@ -12,10 +12,7 @@ pub fn write<S: Sink>(levels: u32, runs: u64, out: &mut S) -> Result<(), Unfinis
 {
     let mut line = TextLine::new();
     fill_line(&mut line, levels, runs);
-    match hand_over(out, line.as_bytes()) {
-        Ok(()) => Ok(()),
-        Err(_) => Err(Unfinished::WriteFault),
-    }
+    Ok(hand_over(out, line.as_bytes())?)
 }
 
 fn fill_line(line: &mut TextLine, levels: u32, runs: u64)

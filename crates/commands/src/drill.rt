@@ -21,7 +21,7 @@ ghost use Rattle.commands.specs.Texts.Drill.{finds_line, index_line, points_line
 use crate::finder::Finder;
 use crate::indexing::index_of;
 use crate::positions::positions_of;
-use crate::task::SortedKeys;
+use crate::task::{Indexing, SortedKeys};
 use boxes::Boxes;
 use budget::NoMemory;
 use drill_inputs::{Inputs, searched_region};
@@ -73,13 +73,10 @@ pub fn write<R: Threads + Sync, S: Sink, G: Gate>(
         (IsDrilled drill.number drill.seed (bounds_of bounds)) }
 {
     let counts = counts_of(rt, alloc, drill, bounds, workers, gate)?;
-    match write_counts(out, drill, counts) {
-        Ok(()) => Ok(()),
-        Err(_) => Err(Unfinished::WriteFault),
-    }
+    Ok(write_counts(out, drill, counts)?)
 }
 
-// Draws the inputs, and counts.
+/// Draws the inputs, and counts.
 fn counts_of<R: Threads + Sync, G: Gate>(
     rt: &R,
     alloc: Global,
@@ -98,7 +95,13 @@ fn counts_of<R: Threads + Sync, G: Gate>(
         coordinates,
         updates,
     } = inputs;
-    let index = index_of(rt, alloc, SortedKeys { keys }, bounds, workers, gate)?;
+    let sorted = SortedKeys { keys };
+    let indexing = Indexing {
+        sorted,
+        bounds,
+        workers,
+    };
+    let index = index_of(rt, alloc, indexing, gate)?;
     let sum = sum_of_positions(rt, alloc, &index, workers, &finds)?;
     let (found, looked) = points_in_region(rt, alloc, &coordinates)?;
     let live = live_after(rt, alloc, &updates, workers, gate)?;
@@ -113,7 +116,7 @@ fn counts_of<R: Threads + Sync, G: Gate>(
     })
 }
 
-// The sum of the positions of the questions.
+/// The sum of the positions of the questions.
 fn sum_of_positions<R: Threads + Sync>(
     rt: &R,
     alloc: Global,
@@ -129,7 +132,7 @@ fn sum_of_positions<R: Threads + Sync>(
     Ok(sum_of(&positions))
 }
 
-// The sum of fewer than 2^32 places.
+/// The sum of fewer than 2^32 places.
 fn sum_of(places: &[u32]) -> u64
     requires { length places.now < 2 ^ 32 }
     ensures { result ≡ sum places.now }
@@ -137,7 +140,7 @@ fn sum_of(places: &[u32]) -> u64
     places.iter().map(|place| u64::from(*place)).sum()
 }
 
-// How many points are in the region that is searched, and at how many places is looked.
+/// How many points are in the region that is searched, and at how many places is looked.
 fn points_in_region<R: Threads + Sync>(
     rt: &R,
     alloc: Global,
@@ -154,7 +157,7 @@ fn points_in_region<R: Threads + Sync>(
     Ok(counts)
 }
 
-// How many keys a map has after updates, which it has room for.
+/// How many keys a map has after updates, which it has room for.
 fn live_after<R: Threads + Sync, G: Gate>(
     rt: &R,
     alloc: Global,
@@ -175,7 +178,7 @@ fn live_after<R: Threads + Sync, G: Gate>(
     }
 }
 
-// Writes the text lines.
+/// Writes the text lines.
 fn write_counts<S: Sink>(out: &mut S, drill: Drill, counts: Counts) -> Result<(), Failed>
     ensures ok { OnOk result (Writes S.Sink out.old out.new
         (drill_lines drill.number drill.seed counts)) }
@@ -190,7 +193,7 @@ fn write_counts<S: Sink>(out: &mut S, drill: Drill, counts: Counts) -> Result<()
     Ok(())
 }
 
-// Fills text line `i`, counted from 0.
+/// Fills text line `i`, counted from 0.
 fn fill_line(line: &mut TextLine, drill: Drill, counts: Counts, i: usize)
     requires { i < 5 }
     ensures { line.new ≡ slice_index_or (drill_lines drill.number drill.seed counts) i [] }

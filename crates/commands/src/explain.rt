@@ -6,11 +6,9 @@ ghost use Rattle.std.specs.Prelude.{decimal};
 ghost use Rattle.std.specs.Prelude.{OnOk, OnErr};
 ghost use Rattle.std.specs.Fmt.{signed_decimal};
 ghost use Rattle.std.specs.List.{flat_map};
-ghost use Rattle.std.specs.List.Sorted.{IsNonDecreasing};
 ghost use Rattle.exact_cross.specs.Points.{places};
 ghost use Rattle.exact_cross.specs.Covers.{run_end};
 ghost use Rattle.exact_cross.specs.Segments.{starts_of};
-ghost use Rattle.levels.specs.Indexes.{IsIndex};
 ghost use Rattle.written.specs.Writing.{Writes, BreaksOff, WritesText};
 ghost use Rattle.commands.specs.Tasks.{Bounds as TaskBounds, bounds_of};
 ghost use Rattle.commands.specs.Texts.Indexing.{tells_levels};
@@ -18,11 +16,11 @@ ghost use Rattle.commands.specs.Texts.Explain.{IsExplained, level_lines, ending}
 ghost use Rattle.commands.specs.Texts.Explain.{run_line, run_lines};
 
 use crate::indexing::{fill_level_line, index_of, write_keys};
-use crate::task::SortedKeys;
+use crate::task::Indexing;
 use edge::{Failed, Gate, Sink};
 use exact_cross::{Line, Segment, Side, Witness};
 use levels::Index;
-use options::{Bounds, Workers};
+use options::Bounds;
 use std::alloc::Global;
 use std::thread::Threads;
 use written::{LINE_ROOM, TextLine, Unfinished, hand_over};
@@ -31,27 +29,20 @@ use written::{LINE_ROOM, TextLine, Unfinished, hand_over};
 pub fn write<R: Threads + Sync, S: Sink, G: Gate>(
     rt: &R,
     alloc: Global,
-    sorted: SortedKeys,
-    bounds: Bounds,
-    workers: Workers,
+    indexing: Indexing,
     out: &mut S,
     gate: &G,
 ) -> Result<(), Unfinished>
     ensures { WritesText S.Sink out.old result out.new
-        (IsExplained sorted.keys.items (bounds_of bounds)) }
+        (IsExplained indexing.sorted.keys.items (bounds_of indexing.bounds)) }
 {
-    let index = index_of(rt, alloc, sorted, bounds, workers, gate)?;
-    match write_index(out, &index, bounds) {
-        Ok(()) => Ok(()),
-        Err(_) => Err(Unfinished::WriteFault),
-    }
+    let bounds = indexing.bounds;
+    let index = index_of(rt, alloc, indexing, gate)?;
+    Ok(write_index(out, &index, bounds)?)
 }
 
-// Writes the text line of the keys, and what is told of the levels.
+/// Writes the text line of the keys, and what is told of the levels.
 fn write_index<S: Sink>(out: &mut S, index: &Index, bounds: Bounds) -> Result<(), Failed>
-    requires never_falls { IsNonDecreasing index.now.keys }
-    requires few { length index.now.keys < 2 ^ 32 }
-    requires index { IsIndex index.now.keys bounds.eps bounds.eps_rec index.now.levels }
     requires eps { index.now.eps ≡ bounds.eps }
     requires eps_rec { index.now.eps_rec ≡ bounds.eps_rec }
     ensures ok { OnOk result (Writes S.Sink out.old out.new (tells_levels index.now.keys
@@ -64,16 +55,13 @@ fn write_index<S: Sink>(out: &mut S, index: &Index, bounds: Bounds) -> Result<()
     write_levels(out, &mut line, index, bounds)
 }
 
-// Writes the text lines of each level.
+/// Writes the text lines of each level.
 fn write_levels<S: Sink>(
     out: &mut S,
     line: &mut TextLine,
     index: &Index,
     bounds: Bounds,
 ) -> Result<(), Failed>
-    requires never_falls { IsNonDecreasing index.now.keys }
-    requires few { length index.now.keys < 2 ^ 32 }
-    requires index { IsIndex index.now.keys bounds.eps bounds.eps_rec index.now.levels }
     requires eps { index.now.eps ≡ bounds.eps }
     requires eps_rec { index.now.eps_rec ≡ bounds.eps_rec }
     ensures ok { OnOk result (Writes S.Sink out.old out.new
@@ -89,7 +77,7 @@ fn write_levels<S: Sink>(
     Ok(())
 }
 
-// Writes the text lines of level `i`.
+/// Writes the text lines of level `i`.
 fn write_level<S: Sink>(
     out: &mut S,
     line: &mut TextLine,
@@ -98,9 +86,6 @@ fn write_level<S: Sink>(
     i: u32,
 ) -> Result<(), Failed>
     requires there { i < length index.now.levels }
-    requires never_falls { IsNonDecreasing index.now.keys }
-    requires few { length index.now.keys < 2 ^ 32 }
-    requires index { IsIndex index.now.keys bounds.eps bounds.eps_rec index.now.levels }
     requires eps { index.now.eps ≡ bounds.eps }
     requires eps_rec { index.now.eps_rec ≡ bounds.eps_rec }
     ensures ok { OnOk result (Writes S.Sink out.old out.new
@@ -113,7 +98,7 @@ fn write_level<S: Sink>(
     write_runs(out, line, index.segments(i), index.point_count(i))
 }
 
-// Writes a text line for each run, the last of which ends at `to`.
+/// Writes a text line for each run, the last of which ends at `to`.
 fn write_runs<S: Sink>(
     out: &mut S,
     line: &mut TextLine,
@@ -131,7 +116,7 @@ fn write_runs<S: Sink>(
     Ok(())
 }
 
-// The start of the segment in this place, or `to` behind the last.
+/// The start of the segment in this place, or `to` behind the last.
 fn start_at(segments: &[Segment], place: usize, to: u32) -> u32
     ensures { result ≡ run_end (starts_of (drop place segments.now)) to }
 {
@@ -152,8 +137,8 @@ fn fill_run_line(line: &mut TextLine, segment: &Segment, end: u32)
     push_ending(line, &segment.cut);
 }
 
-// Adds the four numbers of a line: its word, two of 20 digits and one of 20 with its sign, each
-// after a space.
+/// Adds the four numbers of a line: its word, two of 20 digits and one of 20 with its sign, each
+/// after a space.
 fn push_line(text: &mut TextLine, line: &Line)
     requires { length text.old + 89 ≤ LINE_ROOM }
     ensures text { text.new
@@ -169,7 +154,7 @@ fn push_line(text: &mut TextLine, line: &Line)
     text.push_number(line.run);
 }
 
-// Adds how a run ends, and ends the line of text.
+/// Adds how a run ends, and ends the line of text.
 fn push_ending(text: &mut TextLine, cut: &Option<Witness>)
     requires { length text.old + 44 ≤ LINE_ROOM }
     ensures { text.new ≡ text.old ++ ending cut.now }

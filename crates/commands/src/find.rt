@@ -18,13 +18,10 @@ pub fn write<S: Sink>(lookups: Lookups, out: &mut S) -> Result<(), Unfinished>
     ensures { WritesText S.Sink out.old result out.new
         (IsFound lookups.sorted.keys.items lookups.questions.items) }
 {
-    match write_answers(out, &lookups.sorted, &lookups.words, &lookups.questions) {
-        Ok(()) => Ok(()),
-        Err(_) => Err(Unfinished::WriteFault),
-    }
+    Ok(write_answers(out, &lookups.sorted, &lookups.words, &lookups.questions)?)
 }
 
-// Writes the text line of each question.
+/// Writes the text line of each question.
 fn write_answers<S: Sink>(
     out: &mut S,
     sorted: &SortedKeys,
@@ -44,7 +41,7 @@ fn write_answers<S: Sink>(
     Ok(())
 }
 
-// Fills the text line of a question.
+/// Fills the text line of a question.
 fn fill_answer(line: &mut TextLine, sorted: &SortedKeys, words: &[u64], question: u64)
     ensures { line.new ≡ find_line question (lb sorted.now.keys.items question) }
 {

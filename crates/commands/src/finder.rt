@@ -64,7 +64,7 @@ impl<'a> Finder<'a> {
     }
 }
 
-// The same by halving the keys, many questions grouped by where they fall.
+/// The positions of questions by halving the keys, many of them grouped by where they fall.
 fn positions_of_keys(alloc: Global, keys: &[u64], questions: &[u64], into: &mut Vec<u32>)
     requires never_falls { IsNonDecreasing keys.now }
     requires few { length keys.now < 2 ^ 32 }

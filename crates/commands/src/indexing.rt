@@ -1,17 +1,17 @@
 // What the commands over an index share: building it, and its first text lines.
 ghost use Rattle.std.specs.Prelude.{◌≡◌, ◌∷◌, ◌++◌, ◌<◌, ◌≤◌, [], length, IfOk, OnOk, OnErr};
 ghost use Rattle.exact_cross.specs.IndexLevels.{level_at, eps_at};
-ghost use Rattle.levels.specs.Indexes.{IsIndex, xs_at};
+ghost use Rattle.levels.specs.Indexes.{IsIndexOf, xs_at};
 ghost use Rattle.written.specs.Writing.{Writes, BreaksOff};
 ghost use Rattle.commands.specs.Tasks.{bounds_of};
 ghost use Rattle.commands.specs.Texts.Indexing.{keys_line, level_line, level_line_of};
 ghost use Rattle.commands.specs.Texts.Indexing.{slack_at, slack_ending};
 
-use crate::task::SortedKeys;
+use crate::task::Indexing;
 use budget::NoMemory;
 use edge::{Failed, Gate, Sink};
 use levels::{Index, Keys};
-use options::{Bounds, Workers};
+use options::Bounds;
 use std::alloc::Global;
 use std::thread::Threads;
 use written::{TextLine, hand_over};
@@ -20,19 +20,18 @@ use written::{TextLine, hand_over};
 pub fn index_of<R: Threads + Sync, G: Gate>(
     rt: &R,
     alloc: Global,
-    sorted: SortedKeys,
-    bounds: Bounds,
-    workers: Workers,
+    indexing: Indexing,
     gate: &G,
 ) -> Result<Index, NoMemory>
-    ensures keys { IfOk result (λ index. index.keys ≡ sorted.keys.items) }
-    ensures eps { IfOk result (λ index. index.eps ≡ bounds.eps) }
-    ensures eps_rec { IfOk result (λ index. index.eps_rec ≡ bounds.eps_rec) }
-    ensures index { IfOk result
-        (λ index. IsIndex sorted.keys.items bounds.eps bounds.eps_rec index.levels) }
+    ensures { IfOk result (IsIndexOf indexing.sorted.keys.items indexing.bounds.eps
+        indexing.bounds.eps_rec) }
 {
-    let keys = Keys::of(sorted.keys);
-    Index::by_workers(rt, alloc, keys, bounds, workers, gate)
+    let Indexing {
+        sorted,
+        bounds,
+        workers,
+    } = indexing;
+    Index::by_workers(rt, alloc, Keys::of(sorted.keys), bounds, workers, gate)
 }
 
 /// Writes how many keys there are, how many distinct ones, and how many levels.
@@ -91,7 +90,7 @@ fn slack_at(slack: Option<u32>, i: u32) -> Option<u32>
     if i == 0 { slack } else { None }
 }
 
-// Ends the text line of a level that has a slack or not.
+/// Ends the text line of a level that has a slack or not.
 fn push_ending(line: &mut TextLine, slack: Option<u32>)
     requires { length line.old ≤ 128 }
     ensures { line.new ≡ line.old ++ slack_ending slack }

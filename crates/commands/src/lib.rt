@@ -25,13 +25,11 @@ mod find;
 mod finder;
 mod indexing;
 mod line_words;
-mod mix;
 mod neighbours;
 mod positions;
 mod query;
 mod regions;
 mod relax;
-mod replay;
 mod save;
 mod task;
 
@@ -40,7 +38,8 @@ pub use drill::one_drill;
 use edge::{Gate, Sink};
 pub use explain::one_explain;
 pub use find::find_is_query;
-pub use map_replay::Question;
+pub use map_commands::{History, Mixing, Question};
+use map_commands::{write_mix, write_replay};
 pub use neighbours::one_near;
 pub use query::one_query;
 pub use regions::one_box;
@@ -49,7 +48,10 @@ pub use save::one_save;
 use std::alloc::Global;
 use std::sync::Wait;
 use std::thread::Threads;
-pub use task::{Centre, Fitting, History, Lookups, Mixing, Neighbours, Search, SortedKeys, Task};
+pub use task::{
+    Asking, Centre, Fitting, Indexing, Lookups, Neighbours, Points, Relaxing, Search, SortedKeys,
+    Task,
+};
 use written::Unfinished;
 
 /// Writes the text of the task. An index is built by workers, which pass the gate before and after
@@ -64,39 +66,14 @@ pub fn write<R: Threads + Wait + Sync, S: Sink, G: Gate>(
     ensures { WritesText S.Sink out.old result out.new (IsText (task_of task)) }
 {
     match task {
-        Task::Build {
-            keys,
-            bounds,
-            workers,
-        } => build::write(rt, alloc, keys, bounds, workers, out, gate),
-        Task::Explain {
-            keys,
-            bounds,
-            workers,
-        } => explain::write(rt, alloc, keys, bounds, workers, out, gate),
-        Task::Query {
-            keys,
-            bounds,
-            workers,
-            questions,
-            windows,
-            table,
-        } => query::write(
-            rt, alloc, keys, bounds, workers, &questions, windows, table, out, gate,
-        ),
-        Task::Relax {
-            keys,
-            bounds,
-            workers,
-            pieces,
-            questions,
-        } => relax::write(
-            rt, alloc, keys, bounds, workers, pieces, &questions, out, gate,
-        ),
+        Task::Build { indexing } => build::write(rt, alloc, indexing, out, gate),
+        Task::Explain { indexing } => explain::write(rt, alloc, indexing, out, gate),
+        Task::Query { asking } => query::write(rt, alloc, asking, out, gate),
+        Task::Relax { relaxing } => relax::write(rt, alloc, relaxing, out, gate),
         Task::Box { search } => regions::write(rt, alloc, search, out),
         Task::Near { neighbours } => neighbours::write(rt, alloc, neighbours, out),
-        Task::Replay { history } => replay::write(rt, alloc, history, out, gate),
-        Task::Mix { mixing } => mix::write(rt, alloc, mixing, out, gate),
+        Task::Replay { history } => write_replay(rt, alloc, history, out, gate),
+        Task::Mix { mixing } => write_mix(rt, alloc, mixing, out, gate),
         Task::Lines { fitting } => line_words::write(alloc, fitting, out),
         Task::Find { lookups } => find::write(lookups, out),
         Task::Drill {
@@ -104,11 +81,7 @@ pub fn write<R: Threads + Wait + Sync, S: Sink, G: Gate>(
             bounds,
             workers,
         } => drill::write(rt, alloc, drill, bounds, workers, out, gate),
-        Task::Save {
-            keys,
-            bounds,
-            workers,
-        } => save::write(rt, alloc, keys, bounds, workers, out, gate),
+        Task::Save { indexing } => save::write(rt, alloc, indexing, out, gate),
         Task::Check { levels, runs } => check::write(levels, runs, out),
     }
 }

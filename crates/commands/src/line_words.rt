@@ -20,13 +20,10 @@ pub fn write<S: Sink>(alloc: Global, fitting: Fitting, out: &mut S) -> Result<()
         (AreLines fitting.sorted.keys.items fitting.eps) }
 {
     let words = words_of(alloc, &fitting)?;
-    match write_words(out, &words) {
-        Ok(()) => Ok(()),
-        Err(_) => Err(Unfinished::WriteFault),
-    }
+    Ok(write_words(out, &words)?)
 }
 
-// The words of lines of the keys. These never fall and are few, so nothing is wanting but memory.
+/// The words of lines of the keys. These never fall and are few, so nothing is wanting but memory.
 fn words_of(alloc: Global, fitting: &Fitting) -> Result<Vec<u64>, NoMemory>
     ensures lead { IfOk result
         (λ words. LeadsWithin words.items fitting.now.sorted.keys.items (fitting.now.eps + 2)) }
@@ -39,7 +36,7 @@ fn words_of(alloc: Global, fitting: &Fitting) -> Result<Vec<u64>, NoMemory>
     }
 }
 
-// Hands the bytes of each word over.
+/// Hands the bytes of each word over.
 fn write_words<S: Sink>(out: &mut S, words: &[u64]) -> Result<(), Failed>
     ensures ok { OnOk result (Writes S.Sink out.old out.new (word_pieces words.now)) }
     ensures err { OnErr result (BreaksOff S.Sink out.old out.new (word_pieces words.now)) }
@@ -51,7 +48,7 @@ fn write_words<S: Sink>(out: &mut S, words: &[u64]) -> Result<(), Failed>
     Ok(())
 }
 
-// The bytes of a word, the lowest first.
+/// The bytes of a word, the lowest first.
 #[tactic(auto, unfolding(crate::specs::Texts::Lines::word_bytes))]
 fn bytes_of(word: u64) -> [u8; 8]
     ensures { result ≡ word_bytes word }

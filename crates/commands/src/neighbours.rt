@@ -4,7 +4,7 @@ ghost use Rattle.std.specs.Prelude.{OnOk, OnErr};
 ghost use Rattle.zorder.specs.Codes.{IsCode, IsDimension, IsInRange};
 ghost use Rattle.written.specs.Writing.{Writes, BreaksOff, WritesText};
 ghost use Rattle.commands.specs.declared.task.Centre.{Centre as Asked};
-ghost use Rattle.commands.specs.Texts.InTurn.{TellsEach};
+ghost use Rattle.written.specs.InTurn.{TellsEach};
 ghost use Rattle.commands.specs.Texts.Neighbours.{IsNearest, TellsNear, near_line};
 ghost use Rattle.commands.specs.Texts.Neighbours.{neighbour_line};
 
@@ -28,18 +28,16 @@ pub fn write<R: Threads + Sync, S: Sink>(
     out: &mut S,
 ) -> Result<(), Unfinished>
     ensures { WritesText S.Sink out.old result out.new
-        (IsNearest neighbours.dims neighbours.coords.items neighbours.centres.items) }
+        (IsNearest neighbours.points.dims neighbours.points.coords.items
+        neighbours.centres.items) }
 {
-    let boxes = Boxes::build(rt, alloc, neighbours.dims, &neighbours.coords)?;
+    let boxes = Boxes::build(rt, alloc, neighbours.points.dims, &neighbours.points.coords)?;
     let room = greatest_room(&boxes, &neighbours.centres);
     let mut points = Vec::with_capacity(alloc, room)?;
-    match write_answers(out, &boxes, &neighbours.centres, &mut points) {
-        Ok(()) => Ok(()),
-        Err(_) => Err(Unfinished::WriteFault),
-    }
+    Ok(write_answers(out, &boxes, &neighbours.centres, &mut points)?)
 }
 
-// How many points the longest answer has.
+/// How many points the longest answer has.
 fn greatest_room(boxes: &Boxes, centres: &[Centre]) -> usize
     ensures room { All (λ centre. min (length boxes.now.codes) centre.count ≤ result) centres.now }
     ensures answered { All (λ centre. (pieces : List (List ℕ))
@@ -55,7 +53,7 @@ fn greatest_room(boxes: &Boxes, centres: &[Centre]) -> usize
     most
 }
 
-// Writes the text lines of each centre.
+/// Writes the text lines of each centre.
 fn write_answers<S: Sink>(
     out: &mut S,
     boxes: &Boxes,
@@ -82,7 +80,7 @@ fn write_answers<S: Sink>(
     Ok(())
 }
 
-// Writes the text lines of a centre.
+/// Writes the text lines of a centre.
 fn write_answer<S: Sink>(
     out: &mut S,
     line: &mut TextLine,
@@ -107,7 +105,7 @@ fn write_answer<S: Sink>(
     write_points(out, line, boxes.dims(), points)
 }
 
-// Writes a text line for each point, of its distance and its code.
+/// Writes a text line for each point, of its distance and its code.
 fn write_points<S: Sink>(
     out: &mut S,
     line: &mut TextLine,

@@ -58,7 +58,7 @@ pub fn positions_of<R: Threads + Sync>(
     Ok(positions)
 }
 
-// How many questions a piece of a list of so many has.
+/// How many questions a piece of a list of so many has.
 fn piece_size(finder: &Finder<'_>, workers: Workers, count: usize) -> usize
     ensures { 1 ≤ result }
 {
@@ -69,7 +69,7 @@ fn piece_size(finder: &Finder<'_>, workers: Workers, count: usize) -> usize
     }
 }
 
-// Lists without positions, each with the room of a piece.
+/// Lists without positions, each with the room of a piece.
 fn empty_pieces(alloc: Global, count: usize, size: usize) -> Result<Vec<Vec<u32>>, NoMemory>
     ensures count { IfOk result (λ pieces. vec_len pieces ≡ count) }
     ensures room { IfOk result (λ pieces.
@@ -82,7 +82,7 @@ fn empty_pieces(alloc: Global, count: usize, size: usize) -> Result<Vec<Vec<u32>
     Ok(pieces)
 }
 
-// The questions of a piece. Behind the last there are none.
+/// The questions of a piece. Behind the last there are none.
 fn piece_of(questions: &[u64], size: usize, i: usize) -> &[u64]
     ensures piece { result.now ≡ piece_of questions.now size i }
     ensures few { length result.now ≤ size }
@@ -92,7 +92,7 @@ fn piece_of(questions: &[u64], size: usize, i: usize) -> &[u64]
     &rest[..size.min(rest.len())]
 }
 
-// Puts the positions of the pieces one behind the other.
+/// Puts the positions of the pieces one behind the other.
 fn join_pieces(pieces: &[Vec<u32>], into: &mut Vec<u32>) -> Result<(), NoMemory>
     ensures { OnOk result (into.new.items
         ≡ into.old.items ++ flat_map (λ piece. piece.items) pieces.now) }

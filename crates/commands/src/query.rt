@@ -1,11 +1,11 @@
 // The command `query`.
-ghost use Rattle.std.specs.Prelude.{◌≡◌, ◌∷◌, ◌≤◌, [], ℕ, Bool, List, Option};
+ghost use Rattle.std.specs.Prelude.{◌≡◌, ◌∷◌, ◌≤◌, [], ℕ, Bool, List, Option, false};
 ghost use Rattle.std.specs.Prelude.{is_some, length, map, IfSome, OnOk, OnErr};
 ghost use Rattle.std.specs.Prelude.{vec_capacity};
 ghost use Rattle.std.specs.List.Sorted.{IsNonDecreasing};
 ghost use Rattle.window_search.specs.Searches.{lb};
 ghost use Rattle.written.specs.Writing.{Writes, BreaksOff, WritesText};
-ghost use Rattle.commands.specs.Finders.{IsIndexOf, keys_of};
+ghost use Rattle.commands.specs.Finders.{IsIndexOf};
 ghost use Rattle.commands.specs.Tasks.{Bounds as TaskBounds, bounds_of};
 ghost use Rattle.commands.specs.Texts.Query.{IsAnswered, TellsAnswer, TellsWindows};
 ghost use Rattle.commands.specs.Texts.Query.{find_line, window_line, window_lines};
@@ -13,10 +13,10 @@ ghost use Rattle.commands.specs.Texts.Query.{find_line, window_line, window_line
 use crate::finder::Finder;
 use crate::indexing::index_of;
 use crate::positions::positions_of;
-use crate::task::SortedKeys;
+use crate::task::{Asking, Indexing};
 use edge::{Failed, Gate, Sink};
 use levels::{Index, LevelWindow};
-use options::{Bounds, Table, Workers};
+use options::Bounds;
 use std::alloc::Global;
 use std::thread::Threads;
 use written::{TextLine, Unfinished, hand_over};
@@ -30,65 +30,69 @@ use written::{TextLine, Unfinished, hand_over};
 pub fn write<R: Threads + Sync, S: Sink, G: Gate>(
     rt: &R,
     alloc: Global,
-    sorted: SortedKeys,
-    bounds: Bounds,
-    workers: Workers,
-    questions: &[u64],
-    windows: bool,
-    table: Table,
+    asking: Asking,
     out: &mut S,
     gate: &G,
 ) -> Result<(), Unfinished>
     ensures { WritesText S.Sink out.old result out.new
-        (IsAnswered sorted.keys.items (bounds_of bounds) questions.now windows) }
+        (IsAnswered asking.indexing.sorted.keys.items (bounds_of asking.indexing.bounds)
+        asking.questions.items asking.windows) }
 {
-    if !windows && table.bits == 0 && !is_paid_for(questions.len(), sorted.keys.len()) {
-        let (keys, finder) = (&sorted.keys, Finder::Sorted(&sorted));
-        return write_found(
-            rt, alloc, keys, bounds, workers, questions, &finder, None, out,
-        );
+    let Asking {
+        indexing,
+        questions,
+        windows,
+        table,
+    } = asking;
+    let keys = indexing.sorted.keys.len();
+    if !windows && table.bits == 0 && !is_paid_for(questions.len(), keys) {
+        return write_alone(rt, alloc, &indexing, &questions, out);
     }
-    let index = index_of(rt, alloc, sorted, bounds, workers, gate)?;
+    let (bounds, workers) = (indexing.bounds, indexing.workers);
+    let index = index_of(rt, alloc, indexing, gate)?;
     let finder = Finder::of(alloc, &index, table.bits)?;
+    let questions = questions.as_slice();
+    let positions = positions_of(rt, alloc, &finder, workers, questions)?;
     let told = if windows { Some(&index) } else { None };
+    let mut room = Vec::with_capacity(alloc, level_count(told))?;
     let keys = index.keys().as_slice();
-    write_found(
-        rt, alloc, keys, bounds, workers, questions, &finder, told, out,
-    )
+    Ok(write_answers(out, keys, bounds, questions, &positions, told, &mut room)?)
 }
 
-// Whether so many questions pay for the index of so many keys: building costs a key some 10 to 30
-// nanoseconds, and a question gains up to 80 by it.
+/// Whether so many questions pay for the index of so many keys: building costs a key some 10 to 30
+/// nanoseconds, and a question gains up to 80 by it.
 fn is_paid_for(questions: usize, keys: usize) -> bool {
     questions >= keys
 }
 
-// The same by a finder. `told` is the index whose windows are told, if they are.
-fn write_found<R: Threads + Sync, S: Sink>(
+/// Writes how many keys are below each question, by halving the keys and without windows.
+fn write_alone<R: Threads + Sync, S: Sink>(
     rt: &R,
     alloc: Global,
-    keys: &[u64],
-    bounds: Bounds,
-    workers: Workers,
+    indexing: &Indexing,
     questions: &[u64],
-    finder: &Finder<'_>,
-    told: Option<&Index>,
     out: &mut S,
 ) -> Result<(), Unfinished>
-    requires finder { keys_of finder.now ≡ keys.now }
-    requires index { IfSome told (λ index. IsIndexOf keys.now (bounds_of bounds) index.now) }
     ensures { WritesText S.Sink out.old result out.new
-        (IsAnswered keys.now (bounds_of bounds) questions.now (is_some told.entry)) }
+        (IsAnswered indexing.now.sorted.keys.items (bounds_of indexing.now.bounds) questions.now
+        false) }
 {
-    let positions = positions_of(rt, alloc, finder, workers, questions)?;
-    let mut room = Vec::with_capacity(alloc, level_count(told))?;
-    match write_answers(out, keys, bounds, questions, &positions, told, &mut room) {
-        Ok(()) => Ok(()),
-        Err(_) => Err(Unfinished::WriteFault),
-    }
+    let sorted = &indexing.sorted;
+    let finder = Finder::Sorted(sorted);
+    let positions = positions_of(rt, alloc, &finder, indexing.workers, questions)?;
+    let (keys, mut room) = (&sorted.keys, Vec::new(alloc));
+    Ok(write_answers(
+        out,
+        keys,
+        indexing.bounds,
+        questions,
+        &positions,
+        None,
+        &mut room,
+    )?)
 }
 
-// How many levels the index has, if there is one.
+/// How many levels the index has, if there is one.
 fn level_count(told: Option<&Index>) -> usize
     ensures { IfSome told.entry (λ index. length index.now.levels ≤ result) }
 {
@@ -124,7 +128,7 @@ pub fn write_answers<S: Sink>(
     Ok(())
 }
 
-// Writes the text lines of a question.
+/// Writes the text lines of a question.
 fn write_answer<S: Sink>(
     out: &mut S,
     line: &mut TextLine,
@@ -150,7 +154,7 @@ fn write_answer<S: Sink>(
     write_windows(out, line, room)
 }
 
-// Puts the windows of a question into the list, where they are told, and else none.
+/// Puts the windows of a question into the list, where they are told, and else none.
 fn fill_windows(
     keys: &[u64],
     bounds: Bounds,
@@ -170,7 +174,7 @@ fn fill_windows(
     }
 }
 
-// Writes a text line for each window.
+/// Writes a text line for each window.
 fn write_windows<S: Sink>(
     out: &mut S,
     line: &mut TextLine,
@@ -180,8 +184,7 @@ fn write_windows<S: Sink>(
     ensures err { OnErr result (BreaksOff S.Sink out.old out.new (window_lines windows.now)) }
 {
     for i in 0..windows.len() {
-        let window = windows[i];
-        fill_window_line(line, window.level, window.low, window.high);
+        fill_window_line(line, windows[i]);
         hand_over(out, line.as_bytes())?;
     }
     Ok(())
@@ -198,14 +201,14 @@ pub fn fill_find_line(line: &mut TextLine, question: u64, position: u32)
     line.push(b"\n");
 }
 
-fn fill_window_line(line: &mut TextLine, level: u32, low: u32, high: u32)
-    ensures { line.new ≡ window_line level low high }
+fn fill_window_line(line: &mut TextLine, window: LevelWindow)
+    ensures { line.new ≡ window_line window.level window.low window.high }
 {
     line.clear();
     line.push(b"window");
-    line.push_u64(u64::from(level));
-    line.push_u64(u64::from(low));
-    line.push_u64(u64::from(high));
+    line.push_u64(u64::from(window.level));
+    line.push_u64(u64::from(window.low));
+    line.push_u64(u64::from(window.high));
     line.push(b"\n");
 }
 

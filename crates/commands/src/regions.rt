@@ -6,7 +6,7 @@ ghost use Rattle.zorder.specs.declared.regions.Region.{Region as SearchedRegion}
 ghost use Rattle.boxes.specs.BoxAnswers.{codes_inside};
 ghost use Rattle.written.specs.Writing.{Writes, BreaksOff, WritesText};
 ghost use Rattle.commands.specs.PointRegions.{IsRegionOf};
-ghost use Rattle.commands.specs.Texts.InTurn.{TellsEach};
+ghost use Rattle.written.specs.InTurn.{TellsEach};
 ghost use Rattle.commands.specs.Texts.Regions.{IsSearched, TellsRegion, box_line, point_line};
 
 use crate::coordinates::push_coordinates;
@@ -29,18 +29,15 @@ pub fn write<R: Threads + Sync, S: Sink>(
     out: &mut S,
 ) -> Result<(), Unfinished>
     ensures { WritesText S.Sink out.old result out.new
-        (IsSearched search.dims search.coords.items search.regions.items) }
+        (IsSearched search.points.dims search.points.coords.items search.regions.items) }
 {
-    let boxes = Boxes::build(rt, alloc, search.dims, &search.coords)?;
+    let boxes = Boxes::build(rt, alloc, search.points.dims, &search.points.coords)?;
     let room = greatest_answer(&boxes, &search.regions);
     let mut found = Vec::with_capacity(alloc, room)?;
-    match write_answers(out, &boxes, &search.regions, &mut found) {
-        Ok(()) => Ok(()),
-        Err(_) => Err(Unfinished::WriteFault),
-    }
+    Ok(write_answers(out, &boxes, &search.regions, &mut found)?)
 }
 
-// How many codes are inside the region that has the most.
+/// How many codes are inside the region that has the most.
 fn greatest_answer(boxes: &Boxes, regions: &[Region]) -> usize
     requires { All (IsRegionOf boxes.now.dims) regions.now }
     ensures most { All (λ region. length (codes_inside region boxes.now.codes) ≤ result)
@@ -58,7 +55,7 @@ fn greatest_answer(boxes: &Boxes, regions: &[Region]) -> usize
     most
 }
 
-// Writes the text lines of each region.
+/// Writes the text lines of each region.
 fn write_answers<S: Sink>(
     out: &mut S,
     boxes: &Boxes,
@@ -85,7 +82,7 @@ fn write_answers<S: Sink>(
     Ok(())
 }
 
-// Writes the text lines of a region.
+/// Writes the text lines of a region.
 fn write_answer<S: Sink>(
     out: &mut S,
     line: &mut TextLine,
@@ -111,7 +108,7 @@ fn write_answer<S: Sink>(
     write_points(out, line, region.d, found)
 }
 
-// Writes a text line for each code.
+/// Writes a text line for each code.
 fn write_points<S: Sink>(
     out: &mut S,
     line: &mut TextLine,

@@ -22,11 +22,11 @@ use crate::build::write_index;
 use crate::finder::Finder;
 use crate::positions::positions_of;
 use crate::query::write_answers;
-use crate::task::SortedKeys;
+use crate::task::{Indexing, Relaxing};
 use budget::NoMemory;
 use edge::{Failed, Gate, Sink};
 use levels::{Index, Keys};
-use options::{Bounds, Pieces, Workers};
+use options::{Bounds, Pieces};
 use piece_join::even_cuts;
 use std::alloc::Global;
 use std::thread::Threads;
@@ -40,46 +40,50 @@ use written::Unfinished;
 pub fn write<R: Threads + Sync, S: Sink, G: Gate>(
     rt: &R,
     alloc: Global,
-    sorted: SortedKeys,
-    bounds: Bounds,
-    workers: Workers,
-    pieces: Pieces,
-    questions: &[u64],
+    relaxing: Relaxing,
     out: &mut S,
     gate: &G,
 ) -> Result<(), Unfinished>
     ensures { WritesText S.Sink out.old result out.new
-        (IsBuiltRelaxed sorted.keys.items (bounds_of bounds) pieces.count questions.now) }
+        (IsBuiltRelaxed relaxing.indexing.sorted.keys.items (bounds_of relaxing.indexing.bounds)
+        relaxing.pieces.count relaxing.questions.items) }
 {
-    let (index, slack) = relaxed_of(rt, alloc, sorted, bounds, workers, pieces, gate)?;
+    let Relaxing {
+        indexing,
+        pieces,
+        questions,
+    } = relaxing;
+    let (bounds, workers) = (indexing.bounds, indexing.workers);
+    let (index, slack) = relaxed_of(rt, alloc, indexing, pieces, gate)?;
+    let questions = questions.as_slice();
     let positions = positions_of(rt, alloc, &Finder::Levels(&index), workers, questions)?;
-    match write_relaxed(out, alloc, &index, bounds, slack, questions, &positions) {
-        Ok(()) => Ok(()),
-        Err(_) => Err(Unfinished::WriteFault),
-    }
+    Ok(write_relaxed(out, alloc, &index, bounds, slack, questions, &positions)?)
 }
 
-// The relaxed index of the keys, level 0 of which is built in even pieces by the workers, and at
-// how many places its points are cut.
+/// The relaxed index of the keys, level 0 of which is built in even pieces by the workers, and at
+/// how many places its points are cut.
 fn relaxed_of<R: Threads + Sync, G: Gate>(
     rt: &R,
     alloc: Global,
-    sorted: SortedKeys,
-    bounds: Bounds,
-    workers: Workers,
+    indexing: Indexing,
     pieces: Pieces,
     gate: &G,
 ) -> Result<(Index, u32), NoMemory>
-    ensures { IfOk result (λ made. IsRelaxedOf sorted.keys.items (bounds_of bounds) pieces.count
-        made.1 made.0) }
+    ensures { IfOk result (λ made. IsRelaxedOf indexing.sorted.keys.items
+        (bounds_of indexing.bounds) pieces.count made.1 made.0) }
 {
+    let Indexing {
+        sorted,
+        bounds,
+        workers,
+    } = indexing;
     let keys = Keys::of(sorted.keys);
     let cuts = even_cuts(alloc, keys.point_count(), pieces)?;
     let index = Index::build_relaxed(rt, alloc, keys, bounds, &cuts, workers, gate)?;
     Ok((index, cuts.len() as u32))
 }
 
-// Writes what is told of the index, and then the text line of each question.
+/// Writes what is told of the index, and then the text line of each question.
 fn write_relaxed<S: Sink>(
     out: &mut S,
     alloc: Global,

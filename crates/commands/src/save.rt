@@ -10,13 +10,13 @@ ghost use Rattle.commands.specs.Tasks.{Bounds as TaskBounds, bounds_of};
 ghost use Rattle.commands.specs.Texts.Save.{IsSaved, saved_pieces};
 
 use crate::indexing::index_of;
-use crate::task::SortedKeys;
+use crate::task::Indexing;
 use budget::NoMemory;
 use edge::{Failed, Gate, Sink};
 use exact_cross::Segment;
 use index_file::{spell_head, spell_level};
 use levels::Index;
-use options::{Bounds, Workers};
+use options::Bounds;
 use std::alloc::Global;
 use std::thread::Threads;
 use written::{Unfinished, hand_over};
@@ -28,24 +28,20 @@ use written::{Unfinished, hand_over};
 pub fn write<R: Threads + Sync, S: Sink, G: Gate>(
     rt: &R,
     alloc: Global,
-    sorted: SortedKeys,
-    bounds: Bounds,
-    workers: Workers,
+    indexing: Indexing,
     out: &mut S,
     gate: &G,
 ) -> Result<(), Unfinished>
     ensures { WritesText S.Sink out.old result out.new
-        (IsSaved sorted.keys.items (bounds_of bounds)) }
+        (IsSaved indexing.sorted.keys.items (bounds_of indexing.bounds)) }
 {
-    let index = index_of(rt, alloc, sorted, bounds, workers, gate)?;
+    let bounds = indexing.bounds;
+    let index = index_of(rt, alloc, indexing, gate)?;
     let pieces = pieces_of(alloc, &index, bounds)?;
-    match write_pieces(out, &pieces) {
-        Ok(()) => Ok(()),
-        Err(_) => Err(Unfinished::WriteFault),
-    }
+    Ok(write_pieces(out, &pieces)?)
 }
 
-// The head and each level, as bytes.
+/// The head and each level, as bytes.
 fn pieces_of(alloc: Global, index: &Index, bounds: Bounds) -> Result<Vec<Vec<u8>>, NoMemory>
     requires never_falls { IsNonDecreasing index.now.keys }
     requires few { length index.now.keys < 2 ^ 32 }
@@ -64,7 +60,7 @@ fn pieces_of(alloc: Global, index: &Index, bounds: Bounds) -> Result<Vec<Vec<u8>
     Ok(pieces)
 }
 
-// Adds a level, as bytes.
+/// Adds a level, as bytes.
 fn push_level(
     alloc: Global,
     pieces: &mut Vec<Vec<u8>>,
@@ -80,7 +76,7 @@ fn push_level(
     Ok(())
 }
 
-// Hands each piece over.
+/// Hands each piece over.
 fn write_pieces<S: Sink>(out: &mut S, pieces: &[Vec<u8>]) -> Result<(), Failed>
     ensures ok { OnOk result (Writes S.Sink out.old out.new
         (map (λ piece. piece.items) pieces.now)) }

@@ -1,19 +1,12 @@
 // What there is to do when all inputs are read.
-ghost use Rattle.std.specs.Prelude.{◌-◌, ◌<◌, ◌≤◌, ◌^◌, vec_len};
+ghost use Rattle.std.specs.Prelude.{◌≡◌, ◌*◌, ◌/◌, ◌<◌, ◌≤◌, ◌^◌, All, length, vec_len};
 ghost use Rattle.std.specs.List.Sorted.{IsNonDecreasing};
-ghost use Rattle.std.specs.Prelude.{◌≡◌, ◌*◌, ◌/◌, All, List, Some, length, true};
 ghost use Rattle.exact_cross.specs.declared.TheConstants.{MAX_EPSILON};
 ghost use Rattle.zorder.specs.Codes.{IsDimension, IsInRange, coordinate_bits};
-ghost use Rattle.log_levels.specs.declared.update.Update.{Update};
-ghost use Rattle.log_levels.specs.Accepted.{entries_of};
-ghost use Rattle.log_levels.specs.Maps.{map_after};
-ghost use Rattle.log_levels.specs.Shapes.{Held, StandsFor};
-ghost use Rattle.commands.specs.PlainUpdates.{is_plain};
 ghost use Rattle.commands.specs.PointRegions.{IsRegionOf};
 
-use log_levels::{LogMap, Update};
-use map_replay::Question;
-use options::{Bounds, Drill, Pieces, Plan, Senders, Table, Workers};
+use map_commands::{History, Mixing};
+use options::{Bounds, Drill, Pieces, Table, Workers};
 use zorder::Region;
 
 /// The keys of a file: they never fall, and are fewer than 2^32.
@@ -24,20 +17,54 @@ pub struct SortedKeys {
     pub ghost few: { vec_len keys < 2 ^ 32 },
 }
 
-/// Points, and the regions that are asked for.
+/// The keys of a file, and how their index is built.
 #[derive(Drop)]
-pub struct Search {
+pub struct Indexing {
+    pub sorted: SortedKeys,
+    pub bounds: Bounds,
+    pub workers: Workers,
+}
+
+/// The keys of a file, how their index is built, and the questions that are asked.
+#[derive(Drop)]
+pub struct Asking {
+    pub indexing: Indexing,
+    /// The questions, in turn.
+    pub questions: Vec<u64>,
+    /// Write the windows along each question's lookup, too.
+    pub windows: bool,
+    pub table: Table,
+}
+
+/// The keys of a file, how their relaxed index is built, and the questions that are asked.
+#[derive(Drop)]
+pub struct Relaxing {
+    pub indexing: Indexing,
+    pub pieces: Pieces,
+    /// The questions, in turn.
+    pub questions: Vec<u64>,
+}
+
+/// The points of a file.
+#[derive(Drop)]
+pub struct Points {
     /// How many coordinates a point has, from 2 to 4.
     pub dims: u32,
     /// All coordinates of the first point, then those of the second, and so on.
     pub coords: Vec<u32>,
-    /// The regions, in turn.
-    pub regions: Vec<Region>,
     pub ghost dimension: { IsDimension dims },
     pub ghost whole: { length coords.items ≡ dims * (length coords.items / dims) },
     pub ghost few_points: { length coords.items / dims < 2 ^ 32 },
     pub ghost range: { All (λ value. value < 2 ^ coordinate_bits dims) coords.items },
-    pub ghost each: { All (IsRegionOf dims) regions.items },
+}
+
+/// Points, and the regions that are asked for.
+#[derive(Drop)]
+pub struct Search {
+    pub points: Points,
+    /// The regions, in turn.
+    pub regions: Vec<Region>,
+    pub ghost each: { All (IsRegionOf points.dims) regions.items },
 }
 
 /// A centre, and how many of the points nearest to it are asked for.
@@ -52,42 +79,10 @@ pub struct Centre {
 /// Points, and the centres whose nearest points are asked for.
 #[derive(Drop)]
 pub struct Neighbours {
-    /// How many coordinates a point has, from 2 to 4.
-    pub dims: u32,
-    /// All coordinates of the first point, then those of the second, and so on.
-    pub coords: Vec<u32>,
+    pub points: Points,
     /// The centres, in turn.
     pub centres: Vec<Centre>,
-    pub ghost dimension: { IsDimension dims },
-    pub ghost whole: { length coords.items ≡ dims * (length coords.items / dims) },
-    pub ghost few_points: { length coords.items / dims < 2 ^ 32 },
-    pub ghost range: { All (λ value. value < 2 ^ coordinate_bits dims) coords.items },
-    pub ghost each: { All (λ centre. IsInRange dims centre.place) centres.items },
-}
-
-/// Updates of a map, and the questions that are asked of it beside them and after them.
-#[derive(Drop)]
-pub struct History {
-    pub plan: Plan,
-    /// The updates, in order.
-    pub updates: Vec<Update>,
-    /// The questions, in order.
-    pub questions: Vec<Question>,
-    /// The map after the updates, where it is there already.
-    pub map: Option<LogMap>,
-    pub ghost fits: { length (entries_of updates.items) ≤ 64 * 2 ^ plan.levels - 1 },
-    pub ghost after: { (held : Held) (others : List Update) → map ≡ Some held →
-        StandsFor held others → map_after others ≡ map_after updates.items },
-}
-
-/// Updates that are dealt out to senders, and the questions that are asked beside them and after
-/// them.
-#[derive(Drop)]
-pub struct Mixing {
-    /// The updates, none of them a sweep, and the questions.
-    pub history: History,
-    pub senders: Senders,
-    pub ghost plain: { All (λ update. is_plain update ≡ true) history.updates.items },
+    pub ghost each: { All (λ centre. IsInRange points.dims centre.place) centres.items },
 }
 
 /// The keys of a file, and the error bound of the lines that are made of them.
@@ -114,34 +109,21 @@ pub struct Lookups {
 pub enum Task {
     /// Write how many keys and levels there are, and of each level how many runs.
     Build {
-        keys: SortedKeys,
-        bounds: Bounds,
-        workers: Workers,
+        indexing: Indexing,
     },
     /// Write the same, and each run.
     Explain {
-        keys: SortedKeys,
-        bounds: Bounds,
-        workers: Workers,
+        indexing: Indexing,
     },
     /// Write the position of each question's key, and, where asked for, the windows along its
     /// lookup in the index: those of the definition, whatever finds the position.
     Query {
-        keys: SortedKeys,
-        bounds: Bounds,
-        workers: Workers,
-        questions: Vec<u64>,
-        windows: bool,
-        table: Table,
+        asking: Asking,
     },
     /// Write how many keys and levels a relaxed index has, of each level how many runs, how many of
     /// them level 0 may have too many, and the position of each question's key.
     Relax {
-        keys: SortedKeys,
-        bounds: Bounds,
-        workers: Workers,
-        pieces: Pieces,
-        questions: Vec<u64>,
+        relaxing: Relaxing,
     },
     /// Write the points in each region, and at how many places was looked.
     Box {
@@ -176,9 +158,7 @@ pub enum Task {
     },
     /// Write the index, as bytes that can be read again.
     Save {
-        keys: SortedKeys,
-        bounds: Bounds,
-        workers: Workers,
+        indexing: Indexing,
     },
     /// Write how many levels and runs a saved index has that was found right.
     Check {

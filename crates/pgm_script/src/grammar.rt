@@ -48,7 +48,7 @@ pub fn parse(alloc: Global, kind: ScriptKind, text: &[u8]) -> Result<Vec<ScriptL
     parse_as(alloc, kind, text)
 }
 
-/// The same, the lines kept as a list of the caller's choice that takes those of the kind.
+/// Parses the text, its lines kept as a list of the caller's choice that takes those of the kind.
 ///
 /// # Errors
 ///

@@ -10,7 +10,7 @@ use crate::words::{cut_word, numbers};
 use crate::{ScriptKind, ScriptLine, Why};
 use std::str::from_utf8;
 
-// The line of the script that this one is, if it isn't skipped; or what is wrong with it first.
+/// The line of the script that this one is, if it isn't skipped; or what is wrong with it first.
 pub(crate) fn read_line(kind: ScriptKind, line: &[u8]) -> Result<Option<ScriptLine>, Why>
     requires { IsKind kind }
     ensures { result ≡ line_reading kind line.now }
@@ -28,7 +28,7 @@ fn is_utf8(line: &[u8]) -> bool
     from_utf8(line).is_ok()
 }
 
-// The line without the byte 13 at its end, if it has one.
+/// The line without the byte 13 at its end, if it has one.
 #[inline]
 fn without_return(line: &[u8]) -> &[u8]
     ensures { result.now ≡ strip_carriage_return line.now }
@@ -39,7 +39,7 @@ fn without_return(line: &[u8]) -> &[u8]
     }
 }
 
-// The same of a line that is text.
+/// What a line says that is text.
 fn read_words(kind: ScriptKind, line: &[u8]) -> Result<Option<ScriptLine>, Why>
     requires { IsKind kind }
     ensures { result ≡ words_reading kind (words_of line.now) }

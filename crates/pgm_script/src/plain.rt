@@ -9,8 +9,8 @@ use crate::verb::{Verb, count, script_line};
 use crate::words::digits;
 use crate::{ScriptKind, ScriptLine};
 
-// The first line of the text, and the text after it, where it is such a line, by one pass that cuts
-// off no line and no word first. Of another line this says nothing.
+/// The first line of the text, and the text after it, where it is such a line, by one pass that
+/// cuts off no line and no word first. Of another line this says nothing.
 pub(crate) fn plain_line(kind: ScriptKind, text: &[u8]) -> Option<(ScriptLine, &[u8])>
     requires { IsKind kind }
     ensures { IfSome result (λ cut. BeginsWithLine kind text.now cut.0 cut.1.now) }
@@ -26,7 +26,7 @@ pub(crate) fn plain_line(kind: ScriptKind, text: &[u8]) -> Option<(ScriptLine, &
     Some((script_line(verb, &[first, second, 0, 0, 0, 0, 0, 0]), after))
 }
 
-// The command that the text begins with, if it has one or two numbers.
+/// The command that the text begins with, if it has one or two numbers.
 #[inline]
 fn plain_command(kind: ScriptKind, text: &[u8]) -> Option<(Verb, &[u8])>
     requires { IsKind kind }
@@ -45,7 +45,7 @@ fn plain_command(kind: ScriptKind, text: &[u8]) -> Option<(Verb, &[u8])>
     }
 }
 
-// The same in a script of updates and questions, with sweeps or without.
+/// The plain command of a line of updates and questions, with sweeps or without.
 #[inline]
 fn plain_map_command(sweeps: bool, text: &[u8]) -> Option<(Verb, &[u8])>
     ensures verb { IfSome result (λ cut. IsVerb cut.0) }
@@ -73,7 +73,7 @@ fn plain_map_command(sweeps: bool, text: &[u8]) -> Option<(Verb, &[u8])>
     }
 }
 
-// The number behind one space, and the text after its digits.
+/// The number behind one space, and the text after its digits.
 #[inline]
 fn plain_number(text: &[u8]) -> Option<(u64, &[u8])>
     ensures { IfSome result (λ cut. BeginsWithDigits text.now cut.0 cut.1.now) }
@@ -88,7 +88,7 @@ fn plain_number(text: &[u8]) -> Option<(u64, &[u8])>
     Some((number, &rest[len..]))
 }
 
-// The text after byte 10.
+/// The text after byte 10.
 #[inline]
 fn plain_end(text: &[u8]) -> Option<&[u8]>
     ensures { IfSome result (λ after. text.now ≡ 10 ∷ after.now) }

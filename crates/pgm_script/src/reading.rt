@@ -63,7 +63,7 @@ pub fn read_text<F: Shelf>(alloc: Global, shelf: &mut F, limit: u64) -> Result<V
     read_up_to(alloc, shelf, limit)
 }
 
-// The same in fewer words.
+/// What is told of the file, in fewer words.
 fn read_up_to<F: Shelf>(alloc: Global, shelf: &mut F, limit: u64) -> Result<Vec<u8>, ScriptFault>
     requires { limit < 2 ^ 63 }
     ensures text { IfOk result (λ text. IfSome (F.rest shelf.old) (λ bytes. text.items ≡ bytes)) }

@@ -16,7 +16,7 @@ pub enum ScriptKind {
     /// `put K V`, `del K` and `sweep A B`, updates of a map, and `get K`, `next Q` and `count A B`,
     /// questions to it.
     Replay,
-    /// The same without `sweep A B`.
+    /// Updates of senders and questions, as `Replay` without `sweep A B`.
     Mix,
 }
 

@@ -23,7 +23,7 @@ pub(crate) enum Verb {
     Sweep,
 }
 
-// The command of this word, if the kind has it.
+/// The command of this word, if the kind has it.
 pub(crate) fn verb_of(kind: ScriptKind, word: &[u8]) -> Option<Verb>
     requires { IsKind kind }
     ensures command { option_map command_of result ≡ find
@@ -39,7 +39,7 @@ pub(crate) fn verb_of(kind: ScriptKind, word: &[u8]) -> Option<Verb>
     }
 }
 
-// The command of this word on a map; `sweep` is one only where sweeps may stand.
+/// The command of this word on a map; `sweep` is one only where sweeps may stand.
 fn map_verb(sweeps: bool, word: &[u8]) -> Option<Verb>
     ensures command { option_map command_of result ≡ find
         (λ command. bytes_eq word.now command.word) (map_commands sweeps) }
@@ -62,7 +62,7 @@ fn map_verb(sweeps: bool, word: &[u8]) -> Option<Verb>
     }
 }
 
-// How many numbers follow.
+/// How many numbers follow.
 pub(crate) fn count(verb: Verb) -> usize
     requires { IsVerb verb }
     ensures count { result ≡ length (command_of verb).most }
@@ -76,7 +76,7 @@ pub(crate) fn count(verb: Verb) -> usize
     }
 }
 
-// The greatest value of each. Past the last number's the list says nothing.
+/// The greatest value of each. Past the last number's the list says nothing.
 pub(crate) fn most(verb: Verb) -> [u64; 8]
     requires { IsVerb verb }
     ensures { take (length (command_of verb).most) result ≡ (command_of verb).most }
@@ -92,7 +92,7 @@ pub(crate) fn most(verb: Verb) -> [u64; 8]
     }
 }
 
-// The greatest coordinate.
+/// The greatest coordinate.
 fn greatest(d: u32) -> u64
     requires { IsDimension d }
     ensures { result ≡ greatest d }
@@ -100,7 +100,7 @@ fn greatest(d: u32) -> u64
     (1 << (64 / d)) - 1
 }
 
-// The line that the command makes of its numbers.
+/// The line that the command makes of its numbers.
 pub(crate) fn script_line(verb: Verb, numbers: &[u64]) -> ScriptLine
     requires verb { IsVerb verb }
     requires enough { 8 ≤ length numbers.now }
@@ -123,7 +123,7 @@ pub(crate) fn script_line(verb: Verb, numbers: &[u64]) -> ScriptLine
     }
 }
 
-// The region of these corners, the low one first.
+/// The region of these corners, the low one first.
 fn region(d: u32, numbers: &[u64]) -> Region
     requires dimension { IsDimension d }
     requires enough { 8 ≤ length numbers.now }
@@ -139,7 +139,7 @@ fn region(d: u32, numbers: &[u64]) -> Region
     }
 }
 
-// The first coordinates, with 0 for the others.
+/// The first coordinates, with 0 for the others.
 fn corner(d: usize, numbers: &[u64]) -> [u32; 4]
     requires dimension { IsDimension d }
     requires enough { d ≤ length numbers.now }

@@ -10,10 +10,10 @@ ghost use Rattle.pgm_script.specs.Scripts.{numbers_of};
 
 use crate::Why;
 
-// Eight bytes `0`.
+/// Eight bytes `0`.
 const EIGHT_ZEROS: u64 = 0x3030_3030_3030_3030;
 
-// The first line without its byte 10, and the text after it.
+/// The first line without its byte 10, and the text after it.
 pub(crate) fn cut_line(text: &[u8]) -> (&[u8], &[u8])
     requires { 0 < length text.now }
     ensures lines { lines_of text.now ≡ result.0.now ∷ lines_of result.1.now }
@@ -27,7 +27,7 @@ pub(crate) fn cut_line(text: &[u8]) -> (&[u8], &[u8])
     }
 }
 
-// How many bytes come before the first byte 10.
+/// How many bytes come before the first byte 10.
 #[inline]
 fn line_len(text: &[u8]) -> usize
     ensures within { result ≤ length text.now }
@@ -42,7 +42,7 @@ fn line_len(text: &[u8]) -> usize
     text.len()
 }
 
-// The first word, which is empty where there is none, and the line after it.
+/// The first word, which is empty where there is none, and the line after it.
 #[inline]
 pub(crate) fn cut_word(line: &[u8]) -> (&[u8], &[u8])
     ensures none { length result.0.now ≡ 0 → words_of line.now ≡ [] }
@@ -54,7 +54,7 @@ pub(crate) fn cut_word(line: &[u8]) -> (&[u8], &[u8])
     (&rest[..len], &rest[len..])
 }
 
-// How many blanks come first.
+/// How many blanks come first.
 #[inline]
 fn blank_len(line: &[u8]) -> usize
     ensures within { result ≤ length line.now }
@@ -69,7 +69,7 @@ fn blank_len(line: &[u8]) -> usize
     line.len()
 }
 
-// How many bytes come before the first blank.
+/// How many bytes come before the first blank.
 #[inline]
 fn word_len(line: &[u8]) -> usize
     ensures within { result ≤ length line.now }
@@ -91,8 +91,8 @@ fn is_blank(byte: u8) -> bool
     byte == b' ' || byte == b'\t'
 }
 
-// The numbers of the words of this line, one for each of these greatest values. Past these the list
-// is 0.
+/// The numbers of the words of this line, one for each of these greatest values. Past these the
+/// list is 0.
 pub(crate) fn numbers(line: &[u8], most: &[u64]) -> Result<[u64; 8], Why>
     requires { length most.now ≤ 8 }
     ensures { MatchResult result
@@ -112,8 +112,8 @@ pub(crate) fn numbers(line: &[u8], most: &[u64]) -> Result<[u64; 8], Why>
     Ok(numbers)
 }
 
-// The number of the first word, and the line after it; or that there is no word, or that it is no
-// such number.
+/// The number of the first word, and the line after it; or that there is no word, or that it is no
+/// such number.
 #[inline]
 fn cut_number(line: &[u8], most: u64) -> Result<(u64, &[u8]), Why>
     ensures { MatchResult result
@@ -137,7 +137,7 @@ fn cut_number(line: &[u8], most: u64) -> Result<(u64, &[u8]), Why>
     Ok((value, after))
 }
 
-// Whether a word ends here.
+/// Whether a word ends here.
 #[inline]
 fn is_divided(line: &[u8]) -> bool
     ensures { result ≡ not (goes_on line.now) }
@@ -145,8 +145,8 @@ fn is_divided(line: &[u8]) -> bool
     line.is_empty() || is_blank(line[0])
 }
 
-// The number that the first digits write and how many they are, where it is below 2^64. The first
-// sixteen always fit, so they are taken eight at a time where they are there.
+/// The number that the first digits write and how many they are, where it is below 2^64. The first
+/// sixteen always fit, so they are taken eight at a time where they are there.
 #[inline]
 pub(crate) fn digits(line: &[u8]) -> Option<(u64, usize)>
     ensures some { IfSome result (λ read. ReadsDigits line.now read.1 read.0) }
@@ -162,7 +162,7 @@ pub(crate) fn digits(line: &[u8]) -> Option<(u64, usize)>
     digits_from(line, 16, first * 100_000_000 + eight_digits(line, 8))
 }
 
-// The same where the first digits, so many, write this number.
+/// The number of a line's digits, of which the first, so many, write this number.
 #[inline]
 fn digits_from(line: &[u8], from: usize, number: u64) -> Option<(u64, usize)>
     requires within { from ≤ length line.now }
@@ -181,7 +181,7 @@ fn digits_from(line: &[u8], from: usize, number: u64) -> Option<(u64, usize)>
     Some((value, line.len()))
 }
 
-// Whether eight digits stand from this place on.
+/// Whether eight digits stand from this place on.
 #[inline]
 fn has_eight_digits(line: &[u8], at: usize) -> bool
     requires { at ≤ 8 }
@@ -197,8 +197,8 @@ fn has_eight_digits(line: &[u8], at: usize) -> bool
     all
 }
 
-// The number that they write. The eight bytes are taken as one number, less a `0` from each; in
-// every second byte of ten times that and the same a byte on stand the numbers of pairs of digits.
+/// The number that they write. The eight bytes are taken as one number, less a `0` from each; in
+/// every second byte of ten times that and the same a byte on stand the numbers of pairs of digits.
 #[inline]
 fn eight_digits(line: &[u8], at: usize) -> u64
     requires few { at ≤ 8 }
@@ -214,7 +214,7 @@ fn eight_digits(line: &[u8], at: usize) -> u64
     first * 10_000 + second
 }
 
-// The eight bytes from this place on as one number, the first the lowest.
+/// The eight bytes from this place on as one number, the first the lowest.
 #[inline]
 fn eight_bytes(line: &[u8], at: usize) -> u64
     requires few { at ≤ 8 }
@@ -233,7 +233,7 @@ fn eight_bytes(line: &[u8], at: usize) -> u64
     ])
 }
 
-// The number with one more digit, where it fits.
+/// The number with one more digit, where it fits.
 #[inline]
 fn pushed(value: u64, digit: u8) -> Option<u64>
     requires { digit < 10 }

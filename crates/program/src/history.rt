@@ -7,7 +7,7 @@ ghost use Rattle.log_levels.specs.declared.update.Update.{Update};
 ghost use Rattle.log_levels.specs.Accepted.{IsPlain, entries_of};
 ghost use Rattle.log_levels.specs.Maps.{map_after};
 ghost use Rattle.log_levels.specs.Shapes.{Held, StandsFor};
-ghost use Rattle.commands.specs.Histories.{mix_of, replay_of};
+ghost use Rattle.commands.specs.Tasks.{mix_of, replay_of};
 ghost use Rattle.program.specs.declared.inputs.TheConstants.{SCRIPT_LIMIT};
 ghost use Rattle.program.specs.Inputs.{map_questions_in, reads_history, reads_mixing};
 ghost use Rattle.program.specs.Inputs.{room_of, updates_in};
@@ -56,7 +56,7 @@ pub fn history_in(
     })
 }
 
-/// The same where senders send the updates, of which none is a sweep.
+/// The updates that senders send, of which none is a sweep, and the questions of a script.
 ///
 /// # Errors
 ///
@@ -90,7 +90,7 @@ pub fn mixing_in(
     })
 }
 
-// How many entries a map of so many levels can accept.
+/// How many entries a map of so many levels can accept.
 fn room_of(levels: u32) -> u64
     requires { levels ≤ 26 }
     ensures { result ≡ room_of levels }
@@ -98,7 +98,7 @@ fn room_of(levels: u32) -> u64
     (64 << levels) - 1
 }
 
-// The updates of a script.
+/// The updates of a script.
 fn updates_in(alloc: Global, lines: &[ScriptLine]) -> Result<Vec<Update>, AllocError>
     ensures { IfOk result (λ updates. updates.items ≡ updates_in lines.now) }
 {
@@ -122,7 +122,7 @@ fn push_update(updates: &mut Vec<Update>, line: &ScriptLine) -> Result<(), Alloc
     Ok(())
 }
 
-// The questions to a map of a script.
+/// The questions to a map of a script.
 fn map_questions_in(alloc: Global, lines: &[ScriptLine]) -> Result<Vec<Question>, AllocError>
     ensures { IfOk result (λ questions. questions.items ≡ map_questions_in lines.now) }
 {
@@ -146,10 +146,10 @@ fn push_map_question(questions: &mut Vec<Question>, line: &ScriptLine) -> Result
     Ok(())
 }
 
-// How many entries the updates have, and the map after them, where it was made.
-//
-// A sweep has one for each key that it takes away, so the updates are made to the greatest map.
-// They don't fill it: a key that is taken away was put before, so each update has two at most.
+/// How many entries the updates have, and the map after them, where it was made.
+///
+/// A sweep has one for each key that it takes away, so the updates are made to the greatest map.
+/// They don't fill it: a key that is taken away was put before, so each update has two at most.
 fn counted(alloc: Global, updates: &[Update]) -> Result<(u64, Option<LogMap>), AllocError>
     requires { length updates.now ≤ SCRIPT_LIMIT }
     ensures count { IfOk result (λ counted. counted.0 ≡ length (entries_of updates.now)) }
@@ -171,14 +171,14 @@ fn counted(alloc: Global, updates: &[Update]) -> Result<(u64, Option<LogMap>), A
     Ok((map.accepted(), Some(map)))
 }
 
-// The map, unless readers ask beside the updates, who look at one of their own.
+/// The map, unless readers ask beside the updates, who look at one of their own.
 fn unless_read(readers: u32, map: Option<LogMap>) -> Option<LogMap>
     ensures { (held : Held) → result ≡ Some held → map ≡ Some held }
 {
     if readers > 0 { None } else { map }
 }
 
-// Whether no update is a sweep.
+/// Whether no update is a sweep.
 fn are_plain(updates: &[Update]) -> bool
     ensures { IsTrue result → All IsPlain updates.now }
 {

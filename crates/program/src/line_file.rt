@@ -51,7 +51,7 @@ pub fn line_words<F: Shelf>(
     }
 }
 
-// How many bytes are taken of a file of lines of so many keys.
+/// How many bytes are taken of a file of lines of so many keys.
 fn room_for(keys: usize) -> u64
     requires { keys < 2 ^ 32 }
     ensures { result < 2 ^ 63 }
@@ -59,7 +59,7 @@ fn room_for(keys: usize) -> u64
     8 * (WORDS_A_KEY * keys as u64 + WORDS_BESIDE)
 }
 
-// The words that the bytes are.
+/// The words that the bytes are.
 fn words_of(alloc: Global, bytes: &[u8]) -> Result<Vec<u64>, AllocError> {
     let count = bytes.len() / 8;
     let mut words = Vec::with_capacity(alloc, count)?;
@@ -69,7 +69,7 @@ fn words_of(alloc: Global, bytes: &[u8]) -> Result<Vec<u64>, AllocError> {
     Ok(words)
 }
 
-// The word whose bytes begin at this place.
+/// The word whose bytes begin at this place.
 fn word_at(bytes: &[u8], at: usize) -> u64
     requires { at + 8 ≤ length bytes.now }
 {

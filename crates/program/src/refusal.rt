@@ -136,7 +136,7 @@ fn fill_line(line: &mut TextLine, refusal: Refusal)
     line.push(b"\n");
 }
 
-// Adds what kind of fault it is, and its first number, of at most twenty digits.
+/// Adds what kind of fault it is, and its first number, of at most twenty digits.
 fn push_kind(line: &mut TextLine, kind: &[u8], number: u64)
     requires { length line.old + length kind.now + (1 + 20) ≤ LINE_ROOM }
     ensures text { line.new ≡ line.old ++ kind.now ++ 32 ∷ decimal number }
@@ -146,7 +146,7 @@ fn push_kind(line: &mut TextLine, kind: &[u8], number: u64)
     line.push_number(number);
 }
 
-// Adds what is wrong with a line.
+/// Adds what is wrong with a line.
 fn push_why(line: &mut TextLine, why: Why)
     requires { length line.old + 8 ≤ LINE_ROOM }
     ensures text { line.new ≡ line.old ++ 32 ∷ why_word why }

@@ -16,7 +16,7 @@ use crate::judging::{judged, saved_index};
 use crate::line_file::line_words;
 use crate::refusal::{Refusal, Stopped};
 use command_line::{Building, Checking, Finding, Replaying, Request, Searching};
-use commands::{Fitting, Lookups, Neighbours, Search, Task};
+use commands::{Asking, Fitting, Indexing, Lookups, Neighbours, Points, Relaxing, Search, Task};
 use edge::Shelf;
 use options::{Pieces, Senders, Table};
 use pgm_script::{Finds, ScriptKind, ScriptLine};
@@ -37,22 +37,24 @@ pub fn read<F: Shelf>(alloc: Global, files: &mut F, request: Request<'_>) -> Res
 {
     match request {
         Request::Build { building } => {
-            let keys = index_keys(alloc, files, building)?;
+            let sorted = index_keys(alloc, files, building)?;
             let (bounds, workers) = (building.bounds, building.workers);
-            Ok(Task::Build {
-                keys,
+            let indexing = Indexing {
+                sorted,
                 bounds,
                 workers,
-            })
+            };
+            Ok(Task::Build { indexing })
         }
         Request::Explain { building } => {
-            let keys = index_keys(alloc, files, building)?;
+            let sorted = index_keys(alloc, files, building)?;
             let (bounds, workers) = (building.bounds, building.workers);
-            Ok(Task::Explain {
-                keys,
+            let indexing = Indexing {
+                sorted,
                 bounds,
                 workers,
-            })
+            };
+            Ok(Task::Explain { indexing })
         }
         Request::Query {
             building,
@@ -83,19 +85,20 @@ pub fn read<F: Shelf>(alloc: Global, files: &mut F, request: Request<'_>) -> Res
             workers: drilling.workers,
         }),
         Request::Save { building } => {
-            let keys = index_keys(alloc, files, building)?;
+            let sorted = index_keys(alloc, files, building)?;
             let (bounds, workers) = (building.bounds, building.workers);
-            Ok(Task::Save {
-                keys,
+            let indexing = Indexing {
+                sorted,
                 bounds,
                 workers,
-            })
+            };
+            Ok(Task::Save { indexing })
         }
         Request::Check { checking } => check_task(alloc, files, checking),
     }
 }
 
-// Keys, and questions for their positions.
+/// Keys, and questions for their positions.
 fn query_task<F: Shelf>(
     alloc: Global,
     files: &mut F,
@@ -110,19 +113,23 @@ fn query_task<F: Shelf>(
     ensures missing { IsMissing (F.files files.old) building.entry.file.now
         → result ≡ Err (Stopped.Refused Refusal.ReadFault) }
 {
-    let keys = index_keys(alloc, files, building)?;
+    let sorted = index_keys(alloc, files, building)?;
     let finds: Finds = script_lines(alloc, files, script, ScriptKind::Find)?;
-    Ok(Task::Query {
-        keys,
+    let indexing = Indexing {
+        sorted,
         bounds: building.bounds,
         workers: building.workers,
+    };
+    let asking = Asking {
+        indexing,
         questions: finds.numbers,
         windows,
         table,
-    })
+    };
+    Ok(Task::Query { asking })
 }
 
-// The same of an index whose pieces aren't joined.
+/// Keys of an index whose pieces aren't joined, and questions for their positions.
 fn relax_task<F: Shelf>(
     alloc: Global,
     files: &mut F,
@@ -136,18 +143,22 @@ fn relax_task<F: Shelf>(
     ensures missing { IsMissing (F.files files.old) building.entry.file.now
         → result ≡ Err (Stopped.Refused Refusal.ReadFault) }
 {
-    let keys = index_keys(alloc, files, building)?;
+    let sorted = index_keys(alloc, files, building)?;
     let finds: Finds = script_lines(alloc, files, script, ScriptKind::Find)?;
-    Ok(Task::Relax {
-        keys,
+    let indexing = Indexing {
+        sorted,
         bounds: building.bounds,
         workers: building.workers,
+    };
+    let relaxing = Relaxing {
+        indexing,
         pieces,
         questions: finds.numbers,
-    })
+    };
+    Ok(Task::Relax { relaxing })
 }
 
-// Points, and regions.
+/// Points, and regions.
 fn box_task<F: Shelf>(
     alloc: Global,
     files: &mut F,
@@ -164,15 +175,12 @@ fn box_task<F: Shelf>(
     let kind = ScriptKind::Region(dims);
     let lines: Vec<ScriptLine> = script_lines(alloc, files, searching.script, kind)?;
     let regions = regions_in(alloc, dims, &lines)?;
-    let search = Search {
-        dims,
-        coords,
-        regions,
-    };
+    let points = Points { dims, coords };
+    let search = Search { points, regions };
     Ok(Task::Box { search })
 }
 
-// Points, and centres.
+/// Points, and centres.
 fn near_task<F: Shelf>(
     alloc: Global,
     files: &mut F,
@@ -189,15 +197,12 @@ fn near_task<F: Shelf>(
     let kind = ScriptKind::Near(dims);
     let lines: Vec<ScriptLine> = script_lines(alloc, files, searching.script, kind)?;
     let centres = centres_in(alloc, dims, &lines)?;
-    let neighbours = Neighbours {
-        dims,
-        coords,
-        centres,
-    };
+    let points = Points { dims, coords };
+    let neighbours = Neighbours { points, centres };
     Ok(Task::Near { neighbours })
 }
 
-// Updates, and questions.
+/// Updates, and questions.
 fn replay_task<F: Shelf>(
     alloc: Global,
     files: &mut F,
@@ -215,7 +220,7 @@ fn replay_task<F: Shelf>(
     Ok(Task::Replay { history })
 }
 
-// The same where senders send the updates.
+/// Updates that senders send, and questions.
 fn mix_task<F: Shelf>(
     alloc: Global,
     files: &mut F,
@@ -234,7 +239,7 @@ fn mix_task<F: Shelf>(
     Ok(Task::Mix { mixing })
 }
 
-// Keys, words that say where among them to look first, and questions for their positions.
+/// Keys, words that say where among them to look first, and questions for their positions.
 fn find_task<F: Shelf>(alloc: Global, files: &mut F, finding: Finding<'_>) -> Result<Task, Stopped>
     ensures answer { Answers (reads (F.files files.old) (find (found_by finding.entry))) task_of
         (F.faults files.old) (F.faults files.new) result }
@@ -252,7 +257,7 @@ fn find_task<F: Shelf>(alloc: Global, files: &mut F, finding: Finding<'_>) -> Re
     Ok(Task::Find { lookups })
 }
 
-// Keys, and a saved index that is judged over them.
+/// Keys, and a saved index that is judged over them.
 fn check_task<F: Shelf>(
     alloc: Global,
     files: &mut F,

@@ -25,7 +25,7 @@ mod replay;
 mod saved;
 mod workers;
 
-// A device of the tests: the call that fails, 0 for none, and the most bytes that one call moves.
+/// A device of the tests: the call that fails, 0 for none, and the most bytes that one call moves.
 #[derive(Clone, Copy)]
 struct Device {
     failing: u64,
@@ -42,8 +42,8 @@ const ONE_BYTE: Device = Device {
     most: 1,
 };
 
-// A run of the program: its words after the program's name, with spaces between them, and the bytes
-// of the files `keys` and `script`.
+/// A run of the program: its words after the program's name, with spaces between them, and the
+/// bytes of the files `keys` and `script`.
 #[derive(Clone, Copy)]
 struct Given<'a> {
     words: &'a str,
@@ -51,7 +51,7 @@ struct Given<'a> {
     script: &'a [u8],
 }
 
-// What a run says and writes, and how many calls of the shelf and of the sink it makes.
+/// What a run says and writes, and how many calls of the shelf and of the sink it makes.
 #[derive(Drop)]
 struct Seen {
     status: Status,
@@ -82,7 +82,7 @@ fn shelf_of<R: AllocGlobal>(rt: &R, given: Given<'_>, device: Device) -> Result<
     Ok(MemShelf::new(files, failing, device.most.max(1)))
 }
 
-// A run over such devices, whose threads pass the gate.
+/// A run over such devices, whose threads pass the gate.
 fn observed<R: AllocGlobal + Threads + Wait + Sync, G: Gate>(
     rt: &R,
     given: Given<'_>,
@@ -103,7 +103,7 @@ fn observed<R: AllocGlobal + Threads + Wait + Sync, G: Gate>(
     })
 }
 
-// Fails with the row's name, and the number of the call that was to fail.
+/// Fails with the row's name, and the number of the call that was to fail.
 fn expect<R: AllocGlobal + Abort>(
     rt: &R,
     name: &str,
@@ -116,7 +116,7 @@ fn expect<R: AllocGlobal + Abort>(
     assert_eq!(rt; found.written.as_slice(), written, "{name} {failing}");
 }
 
-// What is written over a device for both, and no call of which is refused.
+/// What is written over a device for both, and no call of which is refused.
 fn check_at<R: AllocGlobal + Abort + Threads + Wait + Sync>(
     rt: &R,
     name: &str,
@@ -129,8 +129,8 @@ fn check_at<R: AllocGlobal + Abort + Threads + Wait + Sync>(
     Ok(())
 }
 
-// A run and its text: a name, the words after the program's name, the numbers of the file `keys`,
-// those of 8 bytes before those of 4, the script, and the text.
+/// A run and its text: a name, the words after the program's name, the numbers of the file `keys`,
+/// those of 8 bytes before those of 4, the script, and the text.
 type Row = (
     &'static str,
     &'static str,
@@ -153,8 +153,8 @@ fn file_of<R: AllocGlobal>(rt: &R, wide: &str, narrow: &str) -> Result<Vec<u8>, 
     Ok(bytes)
 }
 
-// What is written with more words behind the row's own, by whole devices and by such that move a
-// byte at a time.
+/// What is written with more words behind the row's own, by whole devices and by such that move a
+/// byte at a time.
 fn check_row<R: AllocGlobal + Abort + Threads + Wait + Sync>(
     rt: &R,
     row: &Row,
@@ -186,10 +186,10 @@ fn check_rows<R: AllocGlobal + Abort + Threads + Wait + Sync>(
     Ok(())
 }
 
-// Numbers of text lines: the first, and by how much each is above the one before it.
+/// Numbers of text lines: the first, and by how much each is above the one before it.
 type Numbers = (u64, u64);
 
-// So many text lines that each put a value at a key.
+/// So many text lines that each put a value at a key.
 fn puts<R: AllocGlobal>(
     rt: &R,
     count: u64,
@@ -206,7 +206,7 @@ fn puts<R: AllocGlobal>(
     Ok(script)
 }
 
-// It leaves no file behind.
+/// It leaves no file behind.
 #[test]
 fn adapters_carry_real_bytes(rt: HostRuntime) -> Result<(), Fail> {
     let mut sink = OutSink::new(rt.alloc(), fs::create(&rt, "bytes")?, 4)?;

@@ -85,13 +85,9 @@ pub fn read_keys<F: Shelf>(alloc: Global, shelf: &mut F, wide: bool) -> Result<V
         keys: Vec::new(alloc),
         wide,
     };
-    match read_file(alloc, shelf, &mut list) {
-        Ok(()) => {
-            let KeyList { keys, wide: _ } = list;
-            Ok(keys)
-        }
-        Err(fault) => Err(fault),
-    }
+    read_file(alloc, shelf, &mut list)?;
+    let KeyList { keys, wide: _ } = list;
+    Ok(keys)
 }
 
 /// Keys that never fall, of 8 bytes where they are wide, and else of 4.
@@ -133,7 +129,7 @@ impl NumberList for KeyList {
     }
 }
 
-// How many bytes a key has.
+/// How many bytes a key has.
 fn width_of(wide: bool) -> usize
     ensures value { result ≡ key_width wide }
     ensures kind { IsKind (of_keys result) }
@@ -141,7 +137,7 @@ fn width_of(wide: bool) -> usize
     if wide { 8 } else { 4 }
 }
 
-// Adds the whole numbers of these bytes, and stops at one that is below the key before it.
+/// Adds the whole numbers of these bytes, and stops at one that is below the key before it.
 fn push_keys<const WIDTH: usize>(keys: &mut Vec<u64>, bytes: &[u8]) -> Result<(), KeyFault>
     requires kind { IsKind (of_keys WIDTH) }
     requires all_follow { AllFollow (of_keys WIDTH) keys.old.items }
@@ -165,7 +161,7 @@ fn push_keys<const WIDTH: usize>(keys: &mut Vec<u64>, bytes: &[u8]) -> Result<()
     Ok(())
 }
 
-// The number whose bytes are the first ones, as many as it is wide, the lowest first.
+/// The number whose bytes are the first ones, as many as it is wide, the lowest first.
 #[inline]
 fn first_number<const WIDTH: usize>(bytes: &[u8]) -> u64
     requires kind { IsKind (of_keys WIDTH) }

@@ -82,13 +82,9 @@ pub fn read_points<F: Shelf>(alloc: Global, shelf: &mut F, d: u32) -> Result<Vec
         coords: Vec::new(alloc),
         d,
     };
-    match read_file(alloc, shelf, &mut list) {
-        Ok(()) => {
-            let PointList { coords, d: _ } = list;
-            Ok(coords)
-        }
-        Err(fault) => Err(fault),
-    }
+    read_file(alloc, shelf, &mut list)?;
+    let PointList { coords, d: _ } = list;
+    Ok(coords)
 }
 
 /// The coordinates of points, all in range.
@@ -127,7 +123,7 @@ impl NumberList for PointList {
     }
 }
 
-// Adds the whole numbers of these bytes, and stops at one that is out of range.
+/// Adds the whole numbers of these bytes, and stops at one that is out of range.
 fn push_coords(d: u32, coords: &mut Vec<u32>, bytes: &[u8]) -> Result<(), KeyFault>
     requires dimension { IsDimension d }
     requires all_follow { AllFollow (of_points d) coords.old.items }

@@ -46,7 +46,7 @@ pub fn read_file<F: Shelf, T: NumberList>(
     Ok(())
 }
 
-// How many there are, by the first eight bytes. The kind of the file plays no part.
+/// How many there are, by the first eight bytes. The kind of the file plays no part.
 fn read_count<F: Shelf>(shelf: &mut F) -> Result<u32, KeyFault>
     ensures count { IfOk result
         (λ count. HasRead (F.rest shelf.old) (little_bytes 8 count) (F.rest shelf.new)) }
@@ -69,7 +69,8 @@ fn read_count<F: Shelf>(shelf: &mut F) -> Result<u32, KeyFault>
     Ok(count as u32)
 }
 
-// The next numbers, `total` in all, by chunks, for each of which memory is taken before it is read.
+/// The next numbers, `total` in all, by chunks, for each of which memory is taken before it is
+/// read.
 fn read_list<F: Shelf, T: NumberList>(
     alloc: Global,
     shelf: &mut F,
@@ -105,9 +106,9 @@ fn read_list<F: Shelf, T: NumberList>(
     Ok(())
 }
 
-// Takes in the next numbers, as many as these bytes have room for: takes their memory, reads,
-// judges the whole numbers in order, and then whether all were there. The file has a count of eight
-// bytes before all numbers.
+/// Takes in the next numbers, as many as these bytes have room for: takes their memory, reads,
+/// judges the whole numbers in order, and then whether all were there. The file has a count of
+/// eight bytes before all numbers.
 fn read_chunk<F: Shelf, T: NumberList>(
     shelf: &mut F,
     room: usize,
@@ -141,7 +142,7 @@ fn read_chunk<F: Shelf, T: NumberList>(
     Ok(())
 }
 
-// How many bytes the count and the numbers so far have.
+/// How many bytes the count and the numbers so far have.
 fn bytes_before<T: NumberList>(numbers: &T) -> u64
     requires { length (T.list numbers.now) < 2 ^ 35 }
     ensures value { result ≡ 8 + number_width (T.kind numbers.now)

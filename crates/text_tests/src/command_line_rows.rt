@@ -4,9 +4,9 @@ use command_line::{Building, NoRequest, Request, requested};
 use options::Plan;
 use std::alloc::Global;
 
-// Command lines, with a space between two words, and what they ask for: a command, its one to three
-// names, and its numbers, with 1 for a flag that is given. The numbers of an index are its two
-// error bounds, its workers, and whether its keys are narrow.
+/// Command lines, with a space between two words, and what they ask for: a command, its one to
+/// three names, and its numbers, with 1 for a flag that is given. The numbers of an index are its
+/// two error bounds, its workers, and whether its keys are narrow.
 static TAKEN: [(&str, &str); 47] = [
     // All defaults, and another command.
     ("pgmtool explain keys", "explain keys, [64, 4, 4, 0, 0, 0]"),
@@ -192,7 +192,7 @@ static TAKEN: [(&str, &str); 47] = [
     ),
 ];
 
-// Command lines that are no command, though each is near one.
+/// Command lines that are no command, though each is near one.
 static REFUSED: [(&str, &str); 78] = [
     ("no command", "pgmtool"),
     ("a command that isn't there", "pgmtool nothing keys"),
@@ -331,7 +331,7 @@ static REFUSED: [(&str, &str); 78] = [
     ("the version of a command", "pgmtool explain --version"),
 ];
 
-// The words as a program gets them; none where memory wasn't found.
+/// The words as a program gets them; none where memory wasn't found.
 fn words_of(alloc: Global, line: &str) -> Option<Vec<String>> {
     let mut words = Vec::new(alloc);
     for word in line.split(' ') {
@@ -341,7 +341,7 @@ fn words_of(alloc: Global, line: &str) -> Option<Vec<String>> {
     Some(words)
 }
 
-// What a request asks for, beside its numbers: its command, and its first names.
+/// What a request asks for, beside its numbers: its command, and its first names.
 fn names_of<'a>(request: Request<'a>) -> (&'a str, &'a str, &'a str) {
     match request {
         Request::Build { building } => ("build", building.file, ""),
@@ -368,7 +368,7 @@ fn names_of<'a>(request: Request<'a>) -> (&'a str, &'a str, &'a str) {
     }
 }
 
-// Those of an index, and two more.
+/// Those of an index, and two more.
 fn index_numbers(asked: Building<'_>, more: u32, last: u32) -> [u32; 6] {
     let narrow = u32::from(asked.narrow);
     [
@@ -381,7 +381,7 @@ fn index_numbers(asked: Building<'_>, more: u32, last: u32) -> [u32; 6] {
     ]
 }
 
-// Those of a plan, and one more.
+/// Those of a plan, and one more.
 fn plan_numbers(plan: Plan, more: u32) -> [u32; 6] {
     [plan.levels, plan.batch, plan.readers, plan.workers, more, 0]
 }
@@ -422,7 +422,7 @@ fn numbers_of(request: Request<'_>) -> [u32; 6] {
     }
 }
 
-// The third name, behind a comma, where there is one.
+/// The third name, behind a comma, where there is one.
 fn last_name<'a>(request: Request<'a>) -> (&'a str, &'a str) {
     match request {
         Request::Find { finding } => (",", finding.script),
@@ -430,7 +430,7 @@ fn last_name<'a>(request: Request<'a>) -> (&'a str, &'a str) {
     }
 }
 
-// Whether a request, as the rows write it, is this.
+/// Whether a request, as the rows write it, is this.
 fn is_told(alloc: Global, request: Request<'_>, asked: &str) -> bool {
     let (command, file, script) = names_of(request);
     let (comma, last) = last_name(request);
@@ -441,7 +441,7 @@ fn is_told(alloc: Global, request: Request<'_>, asked: &str) -> bool {
     }
 }
 
-// Whether a line asks for this, or why it is no request.
+/// Whether a line asks for this, or why it is no request.
 fn reading(alloc: Global, line: &str, asked: &str) -> Option<Result<bool, NoRequest>> {
     let words = words_of(alloc, line)?;
     match requested(alloc, &words) {

@@ -10,10 +10,10 @@ use std::alloc::Global;
 use std::process::Abort;
 use zorder::Region;
 
-// A kind and a text; and its lines, or the line of its first fault and what that is.
+/// A kind and a text; and its lines, or the line of its first fault and what that is.
 type Script<'a> = (ScriptKind, &'a [u8], Result<&'a [ScriptLine], (u64, Why)>);
 
-// Texts of questions, and their lines.
+/// Texts of questions, and their lines.
 static FINDS: [Script; 9] = [
     (ScriptKind::Find, b"", Ok(&[])),
     (ScriptKind::Find, b"\n\n \t\n", Ok(&[])),
@@ -42,7 +42,7 @@ static FINDS: [Script; 9] = [
     ),
 ];
 
-// Texts that are none, each with its first fault: by the first word and the text, ..
+/// Texts that are none, each with its first fault: by the first word and the text, ..
 static NO_COMMANDS: [Script; 8] = [
     (ScriptKind::Find, b"look 1", Err((1, Why::Word))),
     (ScriptKind::Find, b"finds 1", Err((1, Why::Word))),
@@ -58,7 +58,7 @@ static NO_COMMANDS: [Script; 8] = [
     ),
 ];
 
-// .. and by its numbers.
+/// .. and by its numbers.
 static NO_NUMBERS: [Script; 13] = [
     (ScriptKind::Find, b"find 1 2", Err((1, Why::Extra))),
     (ScriptKind::Find, b"\nfind", Err((2, Why::Missing))),
@@ -118,7 +118,7 @@ static REGIONS: [Script; 4] = [
     (ScriptKind::Region(2), b"box 0 0 1", Err((1, Why::Missing))),
 ];
 
-// Lines of centres of so many coordinates, at the ends of their ranges, and what they are.
+/// Lines of centres of so many coordinates, at the ends of their ranges, and what they are.
 static CENTRES: [Script; 6] = [
     (
         ScriptKind::Near(2),
@@ -152,7 +152,7 @@ static CENTRES: [Script; 6] = [
     ),
 ];
 
-// Lines that are none, each with what is wrong with it first.
+/// Lines that are none, each with what is wrong with it first.
 static NO_CENTRES: [Script; 18] = [
     (ScriptKind::Near(2), b"near", Err((1, Why::Missing))),
     (ScriptKind::Near(2), b"near 1 2", Err((1, Why::Missing))),
@@ -206,7 +206,7 @@ static NO_CENTRES: [Script; 18] = [
     (ScriptKind::Near(2), b"nearest 1 2 3", Err((1, Why::Word))),
 ];
 
-// Updates of a map and questions to it, which a replay and a mix may have.
+/// Updates of a map and questions to it, which a replay and a mix may have.
 const FIVE_LINES: &[ScriptLine] = &[
     ScriptLine::Put(1, 10),
     ScriptLine::Del(2),
@@ -215,7 +215,7 @@ const FIVE_LINES: &[ScriptLine] = &[
     ScriptLine::Count(5, 6),
 ];
 
-// The first five lines of a replay are those of a mix, and a sweep is none.
+/// The first five lines of a replay are those of a mix, and a sweep is none.
 static REPLAYS: [Script; 4] = [
     (
         ScriptKind::Replay,
@@ -246,7 +246,7 @@ static REPLAYS: [Script; 4] = [
     ),
 ];
 
-// Whether a kind is one, with a number of coordinates that there is.
+/// Whether a kind is one, with a number of coordinates that there is.
 fn is_kind(kind: ScriptKind) -> bool
     ensures { IsTrue result → IsKind kind }
 {
@@ -256,7 +256,7 @@ fn is_kind(kind: ScriptKind) -> bool
     }
 }
 
-// Whether the lines of a text as a script of a kind are these.
+/// Whether the lines of a text as a script of a kind are these.
 fn is_script(
     alloc: Global,
     kind: ScriptKind,
@@ -269,7 +269,7 @@ fn is_script(
     Ok(lines.as_slice() == wanted)
 }
 
-// What is wanted of the reading of a text, and the lines that it is compared with.
+/// What is wanted of the reading of a text, and the lines that it is compared with.
 fn wanted_of<'a>(
     wanted: Result<&'a [ScriptLine], (u64, Why)>,
 ) -> (Result<bool, ScriptFault>, &'a [ScriptLine]) {
@@ -312,7 +312,7 @@ fn replays(rt: HostRuntime) {
     check_rows(&rt, rt.alloc(), &REPLAYS);
 }
 
-// Whether these are the numbers of the lines.
+/// Whether these are the numbers of the lines.
 fn are_numbers(numbers: &[u64], lines: &[ScriptLine]) -> bool {
     for (number, line) in numbers.iter().zip(lines) {
         if *line != ScriptLine::Find(*number) {
@@ -322,7 +322,7 @@ fn are_numbers(numbers: &[u64], lines: &[ScriptLine]) -> bool {
     numbers.len() == lines.len()
 }
 
-// Whether the lines of a text, kept as their numbers, are these.
+/// Whether the lines of a text, kept as their numbers, are these.
 fn has_numbers(alloc: Global, text: &[u8], lines: &[ScriptLine]) -> Result<bool, ScriptFault> {
     let finds: Finds = parse_as(alloc, ScriptKind::Find, text)?;
     Ok(are_numbers(&finds.numbers, lines))
@@ -336,7 +336,7 @@ fn finds(rt: HostRuntime) {
     }
 }
 
-// The text of two questions: these digits behind so many zeros, and 7.
+/// The text of two questions: these digits behind so many zeros, and 7.
 fn padded(alloc: Global, zeros: u32, digits: &[u8]) -> Option<Vec<u8>> {
     let mut text = Vec::from_slice(alloc, b"find ").ok()?;
     for _ in 0..zeros {
@@ -347,14 +347,14 @@ fn padded(alloc: Global, zeros: u32, digits: &[u8]) -> Option<Vec<u8>> {
     Some(text)
 }
 
-// Whether they are read as this value.
+/// Whether they are read as this value.
 fn is_value(alloc: Global, zeros: u32, digits: &[u8], value: u64) -> Option<bool> {
     let text = padded(alloc, zeros, digits)?;
     let wanted = [ScriptLine::Find(value), ScriptLine::Find(7)];
     has_numbers(alloc, &text, &wanted).ok()
 }
 
-// Numbers of each length, with and without leading zeros.
+/// Numbers of each length, with and without leading zeros.
 #[test]
 fn lengths(rt: HostRuntime) {
     let digits = b"12345678901234567890";
@@ -370,7 +370,7 @@ fn lengths(rt: HostRuntime) {
     }
 }
 
-// Bytes that are no digits, and what is wrong with them.
+/// Bytes that are no digits, and what is wrong with them.
 static NO_DIGITS: [(u8, Why); 5] = [
     (b'/', Why::Number),
     (b':', Why::Number),
@@ -379,7 +379,7 @@ static NO_DIGITS: [(u8, Why); 5] = [
     (0xb0, Why::NotUtf8),
 ];
 
-// How a question is read with this byte in this place.
+/// How a question is read with this byte in this place.
 fn read_with(alloc: Global, byte: u8, place: usize) -> Result<bool, ScriptFault>
     requires { place < 26 }
 {
@@ -388,7 +388,7 @@ fn read_with(alloc: Global, byte: u8, place: usize) -> Result<bool, ScriptFault>
     is_script(alloc, ScriptKind::Find, &text, &[])
 }
 
-// A byte beside the digits, in each place of a number of 20 digits.
+/// A byte beside the digits, in each place of a number of 20 digits.
 #[test]
 fn no_digits(rt: HostRuntime) {
     for (byte, why) in &NO_DIGITS {
@@ -404,7 +404,7 @@ fn no_digits(rt: HostRuntime) {
     }
 }
 
-// Whether the text that is read is this.
+/// Whether the text that is read is this.
 fn is_text(
     alloc: Global,
     shelf: &mut MemShelf,
@@ -417,8 +417,8 @@ fn is_text(
     Ok(text.as_slice() == wanted)
 }
 
-// What is read of a file: whether it is the whole, or why it isn't read; nothing where memory
-// wasn't found.
+/// What is read of a file: whether it is the whole, or why it isn't read; nothing where memory
+/// wasn't found.
 type Reading = Option<Result<bool, ScriptFault>>;
 
 fn reading(alloc: Global, bytes: &[u8], failing: &[u64], most: usize, limit: u64) -> Reading
@@ -429,8 +429,8 @@ fn reading(alloc: Global, bytes: &[u8], failing: &[u64], most: usize, limit: u64
     Some(is_text(alloc, &mut shelf, limit, bytes))
 }
 
-// Texts, calls that fail, how many bytes a read gives at most, and what is read of three bytes.
-// Calls 2 to 5 read the text a byte at a time, and its end.
+/// Texts, calls that fail, how many bytes a read gives at most, and what is read of three bytes.
+/// Calls 2 to 5 read the text a byte at a time, and its end.
 static READS: [(&[u8], &[u64], usize, Result<bool, ScriptFault>); 6] = [
     (b"abc", &[], 1, Ok(true)),
     (b"abc", &[], 2, Ok(true)),
@@ -455,7 +455,7 @@ fn texts(rt: HostRuntime) {
     );
 }
 
-// How a text of six bytes is read where three are allowed, and how many the next read gives.
+/// How a text of six bytes is read where three are allowed, and how many the next read gives.
 fn too_long(alloc: Global, most: usize) -> Option<(Result<bool, ScriptFault>, usize)>
     requires { 1 ≤ most }
 {
@@ -466,7 +466,7 @@ fn too_long(alloc: Global, most: usize) -> Option<(Result<bool, ScriptFault>, us
     Some((read, count))
 }
 
-// One byte past the limit is gone, so two are left.
+/// One byte past the limit is gone, so two are left.
 #[test]
 fn long_texts(rt: HostRuntime) {
     let fault = Err(ScriptFault::TooLong { got: 4 });
@@ -480,7 +480,7 @@ fn long_texts(rt: HostRuntime) {
     );
 }
 
-// How one byte more than two chunks hold is read.
+/// How one byte more than two chunks hold is read.
 fn long_reading(alloc: Global, limit: u64) -> Reading
     requires { limit < 2 ^ 63 }
 {
@@ -488,7 +488,7 @@ fn long_reading(alloc: Global, limit: u64) -> Reading
     reading(alloc, &bytes, &[], usize::MAX, limit)
 }
 
-// One byte more than two chunks hold.
+/// One byte more than two chunks hold.
 #[test]
 fn three_chunks(rt: HostRuntime) {
     let fault = Err(ScriptFault::TooLong { got: 131_073 });
@@ -507,7 +507,7 @@ fn three_chunks(rt: HostRuntime) {
     expect(&rt, "less", long_reading(rt.alloc(), 131_072), Some(fault));
 }
 
-// Whether a fault is told so.
+/// Whether a fault is told so.
 fn is_told(alloc: Global, fault: ScriptFault, wanted: &str) -> bool {
     match format!(in alloc; "{fault}") {
         Ok(text) => text.as_str() == wanted,

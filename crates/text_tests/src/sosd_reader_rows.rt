@@ -8,7 +8,7 @@ use sosd_reader::{KeyFault, read_keys, read_points};
 use std::alloc::Global;
 use std::process::Abort;
 
-// How a file is read: as keys, of 64 bits or of 32, or as points of so many coordinates.
+/// How a file is read: as keys, of 64 bits or of 32, or as points of so many coordinates.
 #[derive(Clone, Copy)]
 enum Format {
     Wide,
@@ -16,10 +16,10 @@ enum Format {
     Points(u32),
 }
 
-// Whether a file is the list that is wanted, or why it is none; nothing where memory wasn't found.
+/// Whether a file is the list that is wanted, or why it is none; nothing where memory wasn't found.
 type Reading = Option<Result<bool, KeyFault>>;
 
-// A name, a format, the bytes of a file and the calls that fail; and its numbers, or its fault.
+/// A name, a format, the bytes of a file and the calls that fail; and its numbers, or its fault.
 type Row<'a> = (
     &'a str,
     Format,
@@ -28,11 +28,11 @@ type Row<'a> = (
     Result<&'a [u64], KeyFault>,
 );
 
-// The file of the keys 0, 1, 2, 10, a byte a column: the count, then the keys.
+/// The file of the keys 0, 1, 2, 10, a byte a column: the count, then the keys.
 const WHOLE: &[u8] =
     b"\x04\0\0\0\0\0\0\0\0\0\0\0\0\0\0\0\x01\0\0\0\0\0\0\0\x02\0\0\0\0\0\0\0\x0a\0\0\0\0\0\0\0";
 
-// Files and their keys.
+/// Files and their keys.
 static KEY_FILES: [Row; 5] = [
     ("no key", Format::Wide, b"\0\0\0\0\0\0\0\0", &[], Ok(&[])),
     (
@@ -65,8 +65,8 @@ static KEY_FILES: [Row; 5] = [
     ),
 ];
 
-// Bytes that are the key file of no list, each with its fault. Calls 2 to 4 read the count, the
-// keys and what follows them.
+/// Bytes that are the key file of no list, each with its fault. Calls 2 to 4 read the count, the
+/// keys and what follows them.
 static FAULTY_FILES: [Row; 15] = [
     (
         "seven bytes",
@@ -191,7 +191,7 @@ static FAULTY_FILES: [Row; 15] = [
     ),
 ];
 
-// Point files, with their coordinates.
+/// Point files, with their coordinates.
 static POINT_FILES: [Row; 4] = [
     (
         "no point",
@@ -223,7 +223,7 @@ static POINT_FILES: [Row; 4] = [
     ),
 ];
 
-// Bytes that are the file of no points of the dimension, each with its fault.
+/// Bytes that are the file of no points of the dimension, each with its fault.
 static FAULTY_POINTS: [Row; 9] = [
     (
         "no byte",
@@ -301,7 +301,7 @@ static FAULTY_POINTS: [Row; 9] = [
     ),
 ];
 
-// Whether the coordinates are these numbers.
+/// Whether the coordinates are these numbers.
 fn are_same(coordinates: &[u32], numbers: &[u64]) -> bool {
     for (coordinate, number) in coordinates.iter().zip(numbers) {
         if u64::from(*coordinate) != *number {
@@ -311,7 +311,7 @@ fn are_same(coordinates: &[u32], numbers: &[u64]) -> bool {
     coordinates.len() == numbers.len()
 }
 
-// Whether what is left on a shelf is the file of these keys.
+/// Whether what is left on a shelf is the file of these keys.
 fn are_keys(
     alloc: Global,
     shelf: &mut MemShelf,
@@ -322,7 +322,7 @@ fn are_keys(
     Ok(read.as_slice() == keys)
 }
 
-// Whether it is the file of these points; never where there are none of so many coordinates.
+/// Whether it is the file of these points; never where there are none of so many coordinates.
 fn are_points(
     alloc: Global,
     shelf: &mut MemShelf,
@@ -336,7 +336,7 @@ fn are_points(
     Ok(are_same(&read, points))
 }
 
-// Whether it is the file of these numbers.
+/// Whether it is the file of these numbers.
 fn are_numbers(
     alloc: Global,
     shelf: &mut MemShelf,
@@ -350,7 +350,7 @@ fn are_numbers(
     }
 }
 
-// The same of a file of which a read gives at most `most` bytes.
+/// What is read of a file of which a read gives at most `most` bytes.
 fn reading(
     alloc: Global,
     format: Format,
@@ -365,7 +365,7 @@ fn reading(
     Some(are_numbers(alloc, &mut shelf, format, numbers))
 }
 
-// The readings of a row, by 1000, 5, 3 and 1 bytes.
+/// The readings of a row, by 1000, 5, 3 and 1 bytes.
 fn readings(alloc: Global, row: &Row, numbers: &[u64]) -> [Reading; 4] {
     let (_, format, bytes, failing, _) = *row;
     [
@@ -376,7 +376,7 @@ fn readings(alloc: Global, row: &Row, numbers: &[u64]) -> [Reading; 4] {
     ]
 }
 
-// What is wanted of the readings of a row, and the numbers that they are compared with.
+/// What is wanted of the readings of a row, and the numbers that they are compared with.
 fn wanted_of<'a>(wanted: Result<&'a [u64], KeyFault>) -> (Reading, &'a [u64]) {
     match wanted {
         Ok(numbers) => (Some(Ok(true)), numbers),
@@ -411,7 +411,7 @@ fn faulty_points(rt: HostRuntime) {
     check_rows(&rt, rt.alloc(), &FAULTY_POINTS);
 }
 
-// How an empty shelf is read.
+/// How an empty shelf is read.
 fn untaken_reading(alloc: Global) -> Result<bool, KeyFault> {
     let mut shelf = MemShelf::new(Vec::new(alloc), Vec::new(alloc), 1000);
     are_keys(alloc, &mut shelf, true, &[])
@@ -423,7 +423,7 @@ fn no_file_is_taken(rt: HostRuntime) {
     expect(&rt, "no file is taken", untaken_reading(rt.alloc()), short);
 }
 
-// The file of the keys 0, 1, 2, 10, cut to each length.
+/// The file of the keys 0, 1, 2, 10, cut to each length.
 #[test]
 fn cut_files(rt: HostRuntime) {
     expect(&rt, "the whole file", WHOLE.len(), 40);
@@ -434,7 +434,7 @@ fn cut_files(rt: HostRuntime) {
     }
 }
 
-// Whether a fault is told so.
+/// Whether a fault is told so.
 fn is_told(alloc: Global, fault: KeyFault, wanted: &str) -> bool {
     match format!(in alloc; "{fault}") {
         Ok(text) => text.as_str() == wanted,
@@ -453,7 +453,7 @@ fn messages(rt: HostRuntime) {
     expect(&rt, text, is_told(rt.alloc(), short, text), true);
 }
 
-// How a file of no key is read that three bytes follow, and what the next read gives.
+/// How a file of no key is read that three bytes follow, and what the next read gives.
 fn trailing_reading(alloc: Global) -> Option<(Result<bool, KeyFault>, usize, [u8; 8])> {
     let mut shelf = shelf_of(alloc, b"\0\0\0\0\0\0\0\0\x01\x02\x03", &[], 1000)?;
     let read = are_keys(alloc, &mut shelf, true, &[]);
@@ -462,7 +462,7 @@ fn trailing_reading(alloc: Global) -> Option<(Result<bool, KeyFault>, usize, [u8
     Some((read, count, left))
 }
 
-// One byte past the last key is read, and no more.
+/// One byte past the last key is read, and no more.
 #[test]
 fn bytes_past_the_keys(rt: HostRuntime) {
     let trailing = Err(KeyFault::Trailing { byte: 1 });
@@ -470,7 +470,7 @@ fn bytes_past_the_keys(rt: HostRuntime) {
     expect(&rt, "bytes 1, 2, 3", trailing_reading(rt.alloc()), wanted);
 }
 
-// The numbers 0, 1, 2, .., so many.
+/// The numbers 0, 1, 2, .., so many.
 fn first_numbers(alloc: Global, count: u64) -> Option<Vec<u64>> {
     let mut numbers = Vec::with_capacity(alloc, count as usize).ok()?;
     for number in 0..count {
@@ -479,7 +479,7 @@ fn first_numbers(alloc: Global, count: u64) -> Option<Vec<u64>> {
     Some(numbers)
 }
 
-// The file of a count and of the numbers, each of its first eight bytes, or of fewer.
+/// The file of a count and of the numbers, each of its first eight bytes, or of fewer.
 fn file_of(alloc: Global, count: u64, numbers: &[u64], width: usize) -> Option<Vec<u8>>
     requires { width ≤ 8 }
 {
@@ -492,7 +492,7 @@ fn file_of(alloc: Global, count: u64, numbers: &[u64], width: usize) -> Option<V
     Some(bytes)
 }
 
-// How the file of the first numbers is read.
+/// How the file of the first numbers is read.
 fn long_reading(alloc: Global, format: Format, count: u64, numbers: u64, width: usize) -> Reading
     requires { width ≤ 8 }
 {
@@ -501,14 +501,14 @@ fn long_reading(alloc: Global, format: Format, count: u64, numbers: u64, width: 
     reading(alloc, format, &bytes, &[], usize::MAX, &numbers)
 }
 
-// The keys 0 to 131,072, one more than two chunks hold.
+/// The keys 0 to 131,072, one more than two chunks hold.
 #[test]
 fn three_chunks(rt: HostRuntime) {
     let read = long_reading(rt.alloc(), Format::Wide, 131_073, 131_073, 8);
     expect(&rt, "keys 0 to 131,072", read, Some(Ok(true)));
 }
 
-// 30,000 points of three coordinates, of which one stands in two chunks.
+/// 30,000 points of three coordinates, of which one stands in two chunks.
 #[test]
 fn points_in_two_chunks(rt: HostRuntime) {
     let read = long_reading(rt.alloc(), Format::Points(3), 30_000, 90_000, 4);

@@ -3,7 +3,7 @@
 use crate::expected::expect;
 use written::TextLine;
 
-// A number, and its text.
+/// A number, and its text.
 static ENDS: [(u64, &[u8]); 12] = [
     (0, b" 0"),
     (9, b" 9"),
@@ -19,7 +19,7 @@ static ENDS: [(u64, &[u8]); 12] = [
     (u64::MAX, b" 18446744073709551615"),
 ];
 
-// Whether a number is written the same in both ways, whatever the lines held before.
+/// Whether a number is written the same in both ways, whatever the lines held before.
 fn is_one_text(copied: &mut TextLine, written: &mut TextLine, number: u64) -> bool {
     copied.clear();
     copied.push_number(number);
@@ -39,7 +39,7 @@ fn numbers(rt: HostRuntime) {
     }
 }
 
-// All lengths, at both ends.
+/// All lengths, at both ends.
 #[test]
 fn lengths(rt: HostRuntime) {
     let mut copied = TextLine::new();

@@ -1,3 +1,4 @@
 pub mod TextLines
 pub mod Handing
 pub mod Writing
+pub mod InTurn

@@ -73,7 +73,7 @@ impl TextLine {
         self.push_digits(number);
     }
 
-    // The same where there is room for the digits.
+    /// Adds a space and the number in decimal, where there is room for its digits.
     #[inline]
     fn push_digits(&mut self, number: u64)
         requires { length self.old + 1 + length (decimal number) ≤ LINE_ROOM }
@@ -105,7 +105,7 @@ impl TextLine {
     }
 }
 
-// How many digits write the number in decimal.
+/// How many digits write the number in decimal.
 #[inline]
 fn digit_count(number: u64) -> usize
     ensures { result ≡ length (decimal number) }

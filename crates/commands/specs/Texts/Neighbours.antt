@@ -5,7 +5,7 @@ use Rattle.near.specs.Nearest.{IsNear, NearAnswer}
 use Rattle.written.specs.TextLines.{text_line}
 use Rattle.commands.specs.declared.task.Centre.{Centre}
 use Rattle.commands.specs.Texts.Coordinates.{coordinate_words}
-use Rattle.commands.specs.Texts.InTurn.{TellsEach}
+use Rattle.written.specs.InTurn.{TellsEach}
 
 -- `near FOUND BOXES`
 abbrev pub near_line : (found boxes : ℕ) → List ℕ

@@ -7,7 +7,7 @@ use Rattle.levels.specs.Lookups.{AreWindows}
 use Rattle.window_search.specs.Searches.{lb}
 use Rattle.written.specs.TextLines.{text_line}
 use Rattle.commands.specs.Tasks.{Bounds}
-use Rattle.commands.specs.Texts.InTurn.{TellsEach}
+use Rattle.written.specs.InTurn.{TellsEach}
 
 -- `find Q P`
 abbrev pub find_line : (question position : ℕ) → List ℕ

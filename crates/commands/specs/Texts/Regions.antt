@@ -5,7 +5,7 @@ use Rattle.boxes.specs.PointCodes.{AreSortedCodes}
 use Rattle.boxes.specs.BoxAnswers.{IsLooked, codes_inside}
 use Rattle.written.specs.TextLines.{text_line}
 use Rattle.commands.specs.Texts.Coordinates.{coordinate_words}
-use Rattle.commands.specs.Texts.InTurn.{TellsEach}
+use Rattle.written.specs.InTurn.{TellsEach}
 
 -- `box FOUND LOOKED`
 abbrev pub box_line : (found looked : ℕ) → List ℕ

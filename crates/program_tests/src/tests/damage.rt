@@ -2,7 +2,7 @@
 // that can't be read have their fault line. Texts are worked out by hand.
 use super::*;
 
-// A run, and what comes where no call is refused.
+/// A run, and what comes where no call is refused.
 #[derive(Clone, Copy)]
 pub struct Case<'a> {
     pub name: &'static str,
@@ -25,16 +25,16 @@ impl<'a> Case<'a> {
 
 pub const EXPLAIN: &str = "explain keys --eps 0 --rec 0";
 
-// The keys 0, 1, 2 and 10.
+/// The keys 0, 1, 2 and 10.
 pub const FOUR: &[u8] =
     b"\x04\0\0\0\0\0\0\0\0\0\0\0\0\0\0\0\x01\0\0\0\0\0\0\0\x02\0\0\0\0\0\0\0\x0a\0\0\0\0\0\0\0";
 
-// The squares of 0 to 5.
+/// The squares of 0 to 5.
 pub const SQUARES: &[u8] = b"\x06\0\0\0\0\0\0\0\
     \0\0\0\0\0\0\0\0\x01\0\0\0\0\0\0\0\x04\0\0\0\0\0\0\0\
     \x09\0\0\0\0\0\0\0\x10\0\0\0\0\0\0\0\x19\0\0\0\0\0\0\0";
 
-// The points of the square of side 4, in no order.
+/// The points of the square of side 4, in no order.
 const SIDE_4: &[u8] = b"\x10\0\0\0\0\0\0\0\
     \x03\0\0\0\x03\0\0\0\0\0\0\0\0\0\0\0\
     \x02\0\0\0\x01\0\0\0\x01\0\0\0\x02\0\0\0\
@@ -45,10 +45,10 @@ const SIDE_4: &[u8] = b"\x10\0\0\0\0\0\0\0\
     \x02\0\0\0\0\0\0\0\0\0\0\0\x02\0\0\0\
     \x03\0\0\0\x02\0\0\0\x02\0\0\0\x03\0\0\0";
 
-// Keys of 32 bits: 5 and 9.
+/// Keys of 32 bits: 5 and 9.
 const NARROW: &[u8] = b"\x02\0\0\0\0\0\0\0\x05\0\0\0\x09\0\0\0";
 
-// Words, the files `keys` and `script`, and the text.
+/// Words, the files `keys` and `script`, and the text.
 const TEXTS: [(&str, &[u8], &[u8], &str); 12] = [
     (
         EXPLAIN,
@@ -122,10 +122,10 @@ const TEXTS: [(&str, &[u8], &[u8], &str); 12] = [
     ),
 ];
 
-// Past any run's number of calls.
+/// Past any run's number of calls.
 const MANY: u64 = 4096;
 
-// The shelf's calls fail in turn: each leaves one fault line, until a run makes fewer calls.
+/// The shelf's calls fail in turn: each leaves one fault line, until a run makes fewer calls.
 pub fn check_reads<R: AllocGlobal + Abort + Threads + Wait + Sync>(
     rt: &R,
     case: Case<'_>,
@@ -148,7 +148,7 @@ pub fn check_reads<R: AllocGlobal + Abort + Threads + Wait + Sync>(
     Ok(())
 }
 
-// What so many puts take of a text: a text line each, or a byte each.
+/// What so many puts take of a text: a text line each, or a byte each.
 fn front_of<R: AllocGlobal>(rt: &R, text: &str, calls: u64, most: usize) -> Result<Vec<u8>, Fail> {
     let mut front = Vec::new(rt.alloc());
     let mut taken = 0u64;
@@ -164,8 +164,8 @@ fn front_of<R: AllocGlobal>(rt: &R, text: &str, calls: u64, most: usize) -> Resu
     Ok(front)
 }
 
-// The sink's calls fail in turn: each leaves what the calls before it took, until they took all. A
-// text then ends as a fault of writing, and the fault line of a refusal leaves its status.
+/// The sink's calls fail in turn: each leaves what the calls before it took, until they took all. A
+/// text then ends as a fault of writing, and the fault line of a refusal leaves its status.
 pub fn check_puts<R: AllocGlobal + Abort + Threads + Wait + Sync>(
     rt: &R,
     case: Case<'_>,
@@ -191,7 +191,7 @@ pub fn check_puts<R: AllocGlobal + Abort + Threads + Wait + Sync>(
     Ok(())
 }
 
-// Each call refused in turn, of devices that move much at a time and of such that move a byte.
+/// Each call refused in turn, of devices that move much at a time and of such that move a byte.
 pub fn check_calls<R: AllocGlobal + Abort + Threads + Wait + Sync>(
     rt: &R,
     case: Case<'_>,

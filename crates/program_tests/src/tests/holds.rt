@@ -5,10 +5,10 @@ use edge::Place;
 use std::sync::atomic::{AtomicBool, Ordering};
 use std::thread::yield_now;
 
-// How often a thread looks before it gives up.
+/// How often a thread looks before it gives up.
 const TURNS: u64 = 1_000_000;
 
-// A place that is held until another is reached, or for so many looks.
+/// A place that is held until another is reached, or for so many looks.
 #[derive(Drop)]
 pub struct Hold {
     place: Place,
@@ -51,14 +51,14 @@ impl Hold {
         self.gave_up.store(true, Ordering::SeqCst);
     }
 
-    // Whether both places were reached, and no thread gave up.
+    /// Whether both places were reached, and no thread gave up.
     fn is_passed(&self) -> bool {
         self.begun.load(Ordering::SeqCst)
             && self.reached.load(Ordering::SeqCst)
             && !self.gave_up.load(Ordering::SeqCst)
     }
 
-    // Whether the other place was reached, but only when a thread had given up.
+    /// Whether the other place was reached, but only when a thread had given up.
     pub fn is_in_vain(&self) -> bool {
         self.reached.load(Ordering::SeqCst) && self.gave_up.load(Ordering::SeqCst)
     }
@@ -71,7 +71,7 @@ impl Gate for Hold {
     }
 }
 
-// A gate that holds two places.
+/// A gate that holds two places.
 #[derive(Drop)]
 pub struct Holds {
     one: Hold,
@@ -79,7 +79,7 @@ pub struct Holds {
 }
 
 impl Holds {
-    // Each pair is a place, and the one that it is held for.
+    /// Each pair is a place, and the one that it is held for.
     pub fn new(one: (Place, Place), other: (Place, Place)) -> Holds {
         Holds {
             one: Hold::new(one, TURNS),

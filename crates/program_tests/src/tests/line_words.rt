@@ -3,8 +3,8 @@
 use super::*;
 use damage::FOUR;
 
-// The words of the keys 0, 1, 2 and 10 with the error bound 0: a head, a table of three words, and
-// two lines.
+/// The words of the keys 0, 1, 2 and 10 with the error bound 0: a head, a table of three words, and
+/// two lines.
 const FOUR_LINES: &[u8] = b"kbqline1\0\0\0\0\0\0\0\0\
     \x02\0\0\0\0\0\0\0\x03\0\0\0\0\0\0\0\x02\0\0\0\0\0\0\0\0\0\0\0\0\0\0\0\
     \0\0\0\0\0\0\0\0\x01\0\0\0\0\0\0\0\x01\0\0\0\0\0\0\0\
@@ -13,7 +13,7 @@ const FOUR_LINES: &[u8] = b"kbqline1\0\0\0\0\0\0\0\0\
 
 const FOUR_NARROW: &[u8] = b"\x04\0\0\0\0\0\0\0\0\0\0\0\x01\0\0\0\x02\0\0\0\x0a\0\0\0";
 
-// The keys 5 and 4.
+/// The keys 5 and 4.
 const FALLING: &[u8] = b"\x02\0\0\0\0\0\0\0\x05\0\0\0\0\0\0\0\x04\0\0\0\0\0\0\0";
 
 const NO_KEY: &[u8] = b"\0\0\0\0\0\0\0\0";
@@ -24,8 +24,8 @@ const ASKED: &[u8] = b"find 0\nfind 1\nfind 3\nfind 11\n";
 
 const ANSWERED: &[u8] = b"find 0 0\nfind 1 1\nfind 3 3\nfind 11 4\n";
 
-// A run over the files `keys`, `lines` and `script`. Where there are no bytes of lines, there is no
-// such file.
+/// A run over the files `keys`, `lines` and `script`. Where there are no bytes of lines, there is
+/// no such file.
 #[derive(Clone, Copy)]
 struct Asked<'a> {
     words: &'a str,
@@ -34,7 +34,7 @@ struct Asked<'a> {
     script: &'a [u8],
 }
 
-// What comes of it over such a shelf.
+/// What comes of it over such a shelf.
 fn seen<R: AllocGlobal + Threads + Wait + Sync>(
     rt: &R,
     asked: Asked<'_>,
@@ -59,7 +59,7 @@ fn seen<R: AllocGlobal + Threads + Wait + Sync>(
     })
 }
 
-// The text over devices that move much at a time and over such that move a byte.
+/// The text over devices that move much at a time and over such that move a byte.
 fn check_text<R: AllocGlobal + Abort + Threads + Wait + Sync>(
     rt: &R,
     name: &str,
@@ -71,7 +71,7 @@ fn check_text<R: AllocGlobal + Abort + Threads + Wait + Sync>(
     Ok(())
 }
 
-// The words that `lines` makes of keys.
+/// The words that `lines` makes of keys.
 fn made<'a, R: AllocGlobal + Abort + Threads + Wait + Sync>(
     rt: &R,
     keys: &'a [u8],
@@ -105,7 +105,7 @@ fn words_of_lines_have_their_bytes(rt: HostRuntime) -> Result<(), Fail> {
     Ok(())
 }
 
-// The error bound where no other is given, and one line for all keys that it takes in.
+/// The error bound where no other is given, and one line for all keys that it takes in.
 #[test]
 fn lines_have_their_error_bound(rt: HostRuntime) -> Result<(), Fail> {
     let head = b"kbqline1\x20\0\0\0\0\0\0\0\x01\0\0\0\0\0\0\0";
@@ -115,7 +115,7 @@ fn lines_have_their_error_bound(rt: HostRuntime) -> Result<(), Fail> {
     Ok(())
 }
 
-// A name, the words of `find`, the numbers of the file of keys, the script, and the text.
+/// A name, the words of `find`, the numbers of the file of keys, the script, and the text.
 type Answered = (&'static str, &'static str, &'static str, &'static str);
 
 const ROWS: [Answered; 6] = [
@@ -152,7 +152,7 @@ const ROWS: [Answered; 6] = [
     ("no question", "1 5", "# find 5\n\n", ""),
 ];
 
-// Over the lines of the keys themselves, over those of others, and over what is no lines.
+/// Over the lines of the keys themselves, over those of others, and over what is no lines.
 #[test]
 fn finds_are_answered_whatever_the_lines(rt: HostRuntime) -> Result<(), Fail> {
     let zeros = [0u8; 120];
@@ -185,7 +185,7 @@ fn finds_are_answered_whatever_the_lines(rt: HostRuntime) -> Result<(), Fail> {
     Ok(())
 }
 
-// What is asked of the four keys, with these lines.
+/// What is asked of the four keys, with these lines.
 fn of_four<'a>(lines: &'a [u8]) -> Asked<'a> {
     Asked {
         words: FIND,
@@ -205,7 +205,7 @@ fn finds_are_answered_over_lines_cut_anywhere(rt: HostRuntime) -> Result<(), Fai
     Ok(())
 }
 
-// Every fifth byte is changed in three ways.
+/// Every fifth byte is changed in three ways.
 #[test]
 fn finds_are_answered_over_changed_lines(rt: HostRuntime) -> Result<(), Fail> {
     let mut lines = FOUR_LINES.to_vec(rt.alloc())?;
@@ -224,8 +224,8 @@ fn finds_are_answered_over_changed_lines(rt: HostRuntime) -> Result<(), Fail> {
     Ok(())
 }
 
-// Four words a key and 4,096 are taken of a file of lines; one byte more makes it none. Narrow keys
-// have the same answers.
+/// Four words a key and 4,096 are taken of a file of lines; one byte more makes it none. Narrow
+/// keys have the same answers.
 #[test]
 fn finds_are_answered_over_too_many_words(rt: HostRuntime) -> Result<(), Fail> {
     let room = 8 * (4 * 4 + 4_096);
@@ -242,7 +242,7 @@ fn finds_are_answered_over_too_many_words(rt: HostRuntime) -> Result<(), Fail> {
     check_text(&rt, "narrow keys", narrow, ANSWERED)
 }
 
-// Each call on the files refused in turn.
+/// Each call on the files refused in turn.
 #[test]
 fn files_that_fail_are_told(rt: HostRuntime) -> Result<(), Fail> {
     for most in [65_536, 16] {
@@ -264,7 +264,7 @@ fn files_that_fail_are_told(rt: HostRuntime) -> Result<(), Fail> {
     Ok(())
 }
 
-// The file of keys is judged first, then that of lines, then the script.
+/// The file of keys is judged first, then that of lines, then the script.
 #[test]
 fn the_first_bad_file_is_told(rt: HostRuntime) -> Result<(), Fail> {
     let none = Asked {

@@ -47,7 +47,7 @@ fn rows_have_their_text(rt: HostRuntime) -> Result<(), Fail> {
     check_rows(&rt, &ROWS, &workers)
 }
 
-// The text of a mix whose threads pass the gate.
+/// The text of a mix whose threads pass the gate.
 fn mixed<R: AllocGlobal + Abort + Threads + Wait + Sync, G: Gate>(
     rt: &R,
     words: &str,
@@ -64,8 +64,8 @@ fn mixed<R: AllocGlobal + Abort + Threads + Wait + Sync, G: Gate>(
     Ok(found.written)
 }
 
-// The first sender waits until the second one's update is published. A program that sends in the
-// order of the script never gets there.
+/// The first sender waits until the second one's update is published. A program that sends in the
+/// order of the script never gets there.
 #[test]
 fn senders_send_at_once(rt: HostRuntime) -> Result<(), Fail> {
     let first = Place::Send { sender: 0, turn: 0 };
@@ -79,7 +79,7 @@ fn senders_send_at_once(rt: HostRuntime) -> Result<(), Fail> {
     Ok(())
 }
 
-// A gate that holds two places, and keeps the number of the last publication.
+/// A gate that holds two places, and keeps the number of the last publication.
 #[derive(Drop)]
 struct Counted {
     holds: Holds,
@@ -95,8 +95,8 @@ impl Gate for Counted {
     }
 }
 
-// Mixes so many puts of one sender in batches of three. Both holds have to be passed, and there
-// have to be so many publications.
+/// Mixes so many puts of one sender in batches of three. Both holds have to be passed, and there
+/// have to be so many publications.
 fn check_batches<R: AllocGlobal + Abort + Threads + Wait + Sync>(
     rt: &R,
     count: u64,
@@ -116,8 +116,8 @@ fn check_batches<R: AllocGlobal + Abort + Threads + Wait + Sync>(
     Ok(())
 }
 
-// The sender waits with its second update until the first is published, and with its third until
-// the second is. A writer that waits for whole batches, or publishes at the end, never gets there.
+/// The sender waits with its second update until the first is published, and with its third until
+/// the second is. A writer that waits for whole batches, or publishes at the end, never gets there.
 #[test]
 fn an_update_by_itself_is_published(rt: HostRuntime) -> Result<(), Fail> {
     let second = Place::Send { sender: 0, turn: 1 };
@@ -126,8 +126,8 @@ fn an_update_by_itself_is_published(rt: HostRuntime) -> Result<(), Fail> {
     check_batches(&rt, 3, holds, 3)
 }
 
-// The writer waits, its first update published, until the sender has sent three more and is about
-// to send the fifth. They are one batch, and the fifth the next.
+/// The writer waits, its first update published, until the sender has sent three more and is about
+/// to send the fifth. They are one batch, and the fifth the next.
 #[test]
 fn updates_that_wait_are_published_at_once(rt: HostRuntime) -> Result<(), Fail> {
     let second = Place::Send { sender: 0, turn: 1 };
@@ -137,8 +137,8 @@ fn updates_that_wait_are_published_at_once(rt: HostRuntime) -> Result<(), Fail> 
     check_batches(&rt, 5, holds, 3)
 }
 
-// What a script of puts to the key 1 is mixed with: the batch, readers, senders, how many puts
-// there are, of the values 1 and up, and how often the key is asked for.
+/// What a script of puts to the key 1 is mixed with: the batch, readers, senders, how many puts
+/// there are, of the values 1 and up, and how often the key is asked for.
 type Mix = (u64, u64, u64, u64, u64);
 
 const MIXES: [Mix; 8] = [
@@ -156,13 +156,13 @@ fn number(word: Option<&str>) -> Option<u64> {
     word?.parse::<u64>().ok()
 }
 
-// The two numbers behind the words, and that no word stands behind them.
+/// The two numbers behind the words, and that no word stands behind them.
 fn ends_with(line: &str, before: &str) -> Option<u64> {
     number(line.strip_prefix(before))
 }
 
-// The values of all puts in the order in which they came, by the lines that tell their senders: the
-// next value of a sender is so many above the one before.
+/// The values of all puts in the order in which they came, by the lines that tell their senders:
+/// the next value of a sender is so many above the one before.
 fn values_of<'a, R: AllocGlobal + Abort>(
     rt: &R,
     lines: &mut std::str::Lines<'a>,
@@ -195,7 +195,7 @@ fn values_of<'a, R: AllocGlobal + Abort>(
     Ok(values)
 }
 
-// The answer after so many updates.
+/// The answer after so many updates.
 fn answer_after<R: AllocGlobal>(rt: &R, values: &[u64], length: u64) -> Result<String, Fail> {
     match values.get((length as usize).wrapping_sub(1)) {
         Some(value) => Ok(format!(in rt.alloc(); "get 1 {value}")?),
@@ -203,7 +203,7 @@ fn answer_after<R: AllocGlobal>(rt: &R, values: &[u64], length: u64) -> Result<S
     }
 }
 
-// After how many updates the answer of a reader's line is.
+/// After how many updates the answer of a reader's line is.
 fn length_in(line: &str, reader: u64) -> Option<u64> {
     let mut words = line.split(' ');
     if words.next() != Some("reader") || number(words.next()) != Some(reader) {
@@ -212,8 +212,8 @@ fn length_in(line: &str, reader: u64) -> Option<u64> {
     number(words.next())
 }
 
-// Judges a reader's lines: each answer is after so many updates, and after no fewer than the one
-// before.
+/// Judges a reader's lines: each answer is after so many updates, and after no fewer than the one
+/// before.
 fn judge_reader<'a, R: AllocGlobal + Abort>(
     rt: &R,
     lines: &mut std::str::Lines<'a>,
@@ -236,7 +236,7 @@ fn judge_reader<'a, R: AllocGlobal + Abort>(
     Ok(())
 }
 
-// Judges the text, line by line.
+/// Judges the text, line by line.
 fn judge<R: AllocGlobal + Abort>(rt: &R, text: &str, row: Mix) -> Result<(), Fail> {
     let (_, readers, _, count, asked) = row;
     let mut lines = text.lines();
@@ -287,7 +287,7 @@ fn senders_readers_and_batches_of_every_size(rt: HostRuntime) -> Result<(), Fail
     Ok(())
 }
 
-// A name, the words, the script, the status and what is written.
+/// A name, the words, the script, the status and what is written.
 type Refusal = (
     &'static str,
     &'static str,
@@ -341,7 +341,7 @@ fn refusals_have_their_line(rt: HostRuntime) -> Result<(), Fail> {
     Ok(())
 }
 
-// A map of one level has room for 127 updates.
+/// A map of one level has room for 127 updates.
 #[test]
 fn as_many_updates_as_the_map_has_room_for(rt: HostRuntime) -> Result<(), Fail> {
     let words = "mix script --levels 1 --senders 16 --batch 5";

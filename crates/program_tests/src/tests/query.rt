@@ -5,7 +5,7 @@ const NO_BOUND: &str = "query keys script --eps 0";
 
 const GREATEST_BOUND: &str = "query keys script --eps 1048576";
 
-// The texts are those with windows, and no bound above level 0.
+/// The texts are those with windows, and no bound above level 0.
 const ROWS: [Row; 9] = [
     ("no key", NO_BOUND, "0", "", "find 5\n", "find 5 0\n"),
     (
@@ -75,7 +75,7 @@ const ROWS: [Row; 9] = [
     ),
 ];
 
-// No table, the smallest one, one that the keys stand in together, and the greatest.
+/// No table, the smallest one, one that the keys stand in together, and the greatest.
 const WINDOWS: [&str; 4] = [
     "--rec 0 --windows --buckets 0",
     "--rec 0 --windows --buckets 1",
@@ -85,7 +85,7 @@ const WINDOWS: [&str; 4] = [
 
 const FINDS: [&str; 4] = ["--buckets 0", "--buckets 1", "--buckets 4", "--buckets 20"];
 
-// The lines of the questions alone.
+/// The lines of the questions alone.
 fn finds_of<R: AllocGlobal>(rt: &R, text: &str) -> Result<Vec<u8>, Fail> {
     let mut finds = Vec::new(rt.alloc());
     for line in text.lines() {
@@ -113,8 +113,8 @@ fn check_finds<R: AllocGlobal + Abort + Threads + Wait + Sync>(
     Ok(())
 }
 
-// Without the flag there are no windows. Rows with fewer questions than keys go by the keys alone,
-// the others by an index.
+/// Without the flag there are no windows. Rows with fewer questions than keys go by the keys alone,
+/// the others by an index.
 #[test]
 fn rows_have_no_windows_without_the_flag(rt: HostRuntime) -> Result<(), Fail> {
     for row in &ROWS {

@@ -4,7 +4,7 @@ use super::*;
 use edge::Place;
 use holds::Holds;
 
-// The text of a replay whose threads pass the gate.
+/// The text of a replay whose threads pass the gate.
 fn replayed<R: AllocGlobal + Abort + Threads + Wait + Sync, G: Gate>(
     rt: &R,
     words: &str,
@@ -21,7 +21,7 @@ fn replayed<R: AllocGlobal + Abort + Threads + Wait + Sync, G: Gate>(
     Ok(found.written)
 }
 
-// Whether the text is one of these, each with the same first and last lines.
+/// Whether the text is one of these, each with the same first and last lines.
 fn is_one_of<R: AllocGlobal>(
     rt: &R,
     text: &[u8],
@@ -37,7 +37,7 @@ fn is_one_of<R: AllocGlobal>(
     Ok(false)
 }
 
-// The first publication waits for the first reader, and that one for the second publication.
+/// The first publication waits for the first reader, and that one for the second publication.
 #[test]
 fn a_reader_that_begins_late_sees_all(rt: HostRuntime) -> Result<(), Fail> {
     let look = Place::Look { reader: 0, turn: 0 };
@@ -61,7 +61,7 @@ fn a_reader_that_begins_late_sees_all(rt: HostRuntime) -> Result<(), Fail> {
     Ok(())
 }
 
-// The reader waits until a level is being built, and the building until the reader's next look.
+/// The reader waits until a level is being built, and the building until the reader's next look.
 #[test]
 fn a_look_is_answered_while_a_level_is_built(rt: HostRuntime) -> Result<(), Fail> {
     let look = Place::Look { reader: 0, turn: 0 };
@@ -85,7 +85,7 @@ fn number(word: Option<&str>) -> Option<u64> {
     word?.parse::<u64>().ok()
 }
 
-// What `reader R K get 1 V` tells, with 0 for no value.
+/// What `reader R K get 1 V` tells, with 0 for no value.
 fn told(line: &str) -> Option<(u64, u64, u64)> {
     let mut words = line.split(' ');
     if words.next() != Some("reader") {
@@ -106,7 +106,7 @@ fn told(line: &str) -> Option<(u64, u64, u64)> {
     Some((reader, length, value))
 }
 
-// Batches, readers, and how often the key 1 is put, to 1 and up, and asked for.
+/// Batches, readers, and how often the key 1 is put, to 1 and up, and asked for.
 type Counted = (u64, u64, u64, u64);
 
 const COUNTED: [Counted; 6] = [
@@ -118,8 +118,8 @@ const COUNTED: [Counted; 6] = [
     (16, 0, 100, 3),
 ];
 
-// Judges a reader's line, whose last one was at that length: after so many updates the value is
-// their number.
+/// Judges a reader's line, whose last one was at that length: after so many updates the value is
+/// their number.
 fn judge<R: AllocGlobal + Abort>(
     rt: &R,
     line: &str,
@@ -136,7 +136,7 @@ fn judge<R: AllocGlobal + Abort>(
     Ok(length)
 }
 
-// Judges the text, line by line.
+/// Judges the text, line by line.
 fn judge_all<R: AllocGlobal + Abort>(rt: &R, text: &str, row: Counted) -> Result<(), Fail> {
     let (_, readers, count, asked) = row;
     let mut lines = text.lines().skip(1);

@@ -10,10 +10,10 @@ const SPACE: &str = "box keys script --dims 3";
 
 const NEAR: &str = "near keys script";
 
-// A point file without points.
+/// A point file without points.
 const NO_POINT: &[u8] = b"\0\0\0\0\0\0\0\0";
 
-// A name, words, the files `keys` and `script`, and the fault line.
+/// A name, words, the files `keys` and `script`, and the fault line.
 type Refused = (
     &'static str,
     &'static str,

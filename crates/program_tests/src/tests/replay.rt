@@ -81,8 +81,8 @@ const ONE_LEVEL: &str = "replay script --levels 1";
 
 const TWO_LEVELS: &str = "replay script --levels 2";
 
-// A name, words, how many times a key is put and by how much it is above the one before it, what
-// else the script says, and what comes. A sweep counts what it takes away.
+/// A name, words, how many times a key is put and by how much it is above the one before it, what
+/// else the script says, and what comes. A sweep counts what it takes away.
 type Entries = (
     &'static str,
     &'static str,
@@ -151,7 +151,7 @@ const ENTRIES: [Entries; 7] = [
     ),
 ];
 
-// Calls that move much at a time are refused in turn, and puts of a byte.
+/// Calls that move much at a time are refused in turn, and puts of a byte.
 fn check_entries<R: AllocGlobal + Abort + Threads + Wait + Sync>(
     rt: &R,
     row: &Entries,

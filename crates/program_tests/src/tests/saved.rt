@@ -3,12 +3,12 @@
 use super::*;
 use damage::{Case, FOUR, check_calls};
 
-// The index of the keys 0, 1, 2 and 10 with both error bounds 0.
+/// The index of the keys 0, 1, 2 and 10 with both error bounds 0.
 const FOUR_SAVED: &[u8] = b"PGMINDEX\0\0\0\0\0\0\0\0\x02\0\0\0\
     \x02\0\0\0\0\0\0\0\0\0\0\0\x01\0\0\0\x02\0\0\0\0\x01\0\0\0\x03\0\0\0\x03\0\0\0\x03\0\0\0\0\
     \x01\0\0\0\0\0\0\0\0\0\0\0\x01\0\0\0\0";
 
-// The same with the side of the first run made over, and with its steep pair told another way.
+/// That index with the side of the first run made over, and with its steep pair told another way.
 const OTHER_SIDE: &[u8] = b"PGMINDEX\0\0\0\0\0\0\0\0\x02\0\0\0\
     \x02\0\0\0\0\0\0\0\0\0\0\0\x01\0\0\0\x01\0\0\0\0\x01\0\0\0\x03\0\0\0\x03\0\0\0\x03\0\0\0\0\
     \x01\0\0\0\0\0\0\0\0\0\0\0\x01\0\0\0\0";
@@ -17,7 +17,7 @@ const OTHER_PAIR: &[u8] = b"PGMINDEX\0\0\0\0\0\0\0\0\x02\0\0\0\
     \x02\0\0\0\0\0\0\0\0\0\0\0\x02\0\0\0\x02\0\0\0\0\x01\0\0\0\x03\0\0\0\x03\0\0\0\x03\0\0\0\0\
     \x01\0\0\0\0\0\0\0\0\0\0\0\x01\0\0\0\0";
 
-// The keys 0, 1, 2 and 3, and the same as 0, 1, 2 and 10 of 4 bytes.
+/// The keys 0, 1, 2 and 3, and the same as 0, 1, 2 and 10 of 4 bytes.
 const EVEN: &[u8] =
     b"\x04\0\0\0\0\0\0\0\0\0\0\0\0\0\0\0\x01\0\0\0\0\0\0\0\x02\0\0\0\0\0\0\0\x03\0\0\0\0\0\0\0";
 
@@ -31,7 +31,7 @@ const SAVE: &str = "save keys --eps 0 --rec 0";
 
 const CHECK: &str = "check keys script";
 
-// A name, words, the files `keys` and `script`, and what is written.
+/// A name, words, the files `keys` and `script`, and what is written.
 type Done = (
     &'static str,
     &'static str,
@@ -73,7 +73,7 @@ const DONE: [Done; 6] = [
     ),
 ];
 
-// A name, the files `keys` and `script`, and the fault line of `check`.
+/// A name, the files `keys` and `script`, and the fault line of `check`.
 type Refused = (&'static str, &'static [u8], &'static [u8], &'static str);
 
 const REFUSED: [Refused; 9] = [

@@ -5,7 +5,7 @@ use damage::SQUARES;
 use edge::Place;
 use holds::{Hold, Holds};
 
-// By two workers. The six squares are six pieces, and the keys of the drill three or more.
+/// By two workers. The six squares are six pieces, and the keys of the drill three or more.
 const WORDS: [&str; 6] = [
     "build keys --workers 2",
     "explain keys --workers 2",
@@ -24,10 +24,10 @@ const ALONE: [&str; 6] = [
     "drill 6 1 --workers 1",
 ];
 
-// How often a worker by itself looks for another one before it goes on.
+/// How often a worker by itself looks for another one before it goes on.
 const TURNS: u64 = 100_000;
 
-// Runs the words, whose threads pass the gate.
+/// Runs the words, whose threads pass the gate.
 fn check_done<R: AllocGlobal + Abort + Threads + Wait + Sync, G: Gate>(
     rt: &R,
     words: &str,
@@ -64,7 +64,7 @@ fn two_pieces_are_built_at_once(rt: HostRuntime) -> Result<(), Fail> {
     Ok(())
 }
 
-// Where each worker had every second piece as its own, the one that is held would be waited for.
+/// Where each worker had every second piece as its own, the one that is held would be waited for.
 #[test]
 fn a_worker_draws_on_while_another_is_held(rt: HostRuntime) -> Result<(), Fail> {
     let pair = (Place::PieceBegun(0), Place::PieceDone(2));
@@ -74,7 +74,7 @@ fn a_worker_draws_on_while_another_is_held(rt: HostRuntime) -> Result<(), Fail> 
     Ok(())
 }
 
-// Nobody else begins the next piece while the only worker is held at its first.
+/// Nobody else begins the next piece while the only worker is held at its first.
 #[test]
 fn one_worker_is_alone(rt: HostRuntime) -> Result<(), Fail> {
     let pair = (Place::PieceBegun(0), Place::PieceBegun(1));

@@ -13,9 +13,9 @@ told keys of_index bounds levels same index =
     subst (λ (k : List ℕ). IsBuilt keys bounds (tells_levels k levels (built_level k bounds None levels))) (sym same)
     (record { levels = levels; index = index; told = refl })
 
-pub returns-in-Ok : goal.returns-in-Ok
-returns-in-Ok g c = (
+pub returns : goal.returns
+returns g c = (
   _,
-  told c.args.sorted.keys.items _ (bounds_of c.args.bounds) _ c.in_ok-index.ensures.keys c.in_ok-index.ensures.index,
-  c.in-Ok.ensures.ok,
+  told c.args.indexing.sorted.keys.items _ (bounds_of c.args.indexing.bounds) _ c.in_ok-index.ensures.of_keys c.in_ok-index.ensures.levels,
+  c.in_ok-write_index.ensures.ok,
 )

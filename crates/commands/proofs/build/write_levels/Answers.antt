@@ -7,7 +7,7 @@ use Rattle.commands.specs.Tasks.{Bounds, bounds_of}
 use Rattle.commands.specs.Texts.Indexing.{level_line_of}
 use Rattle.commands.specs.Texts.Build.{built_level}
 use Rattle.commands.proofs.LevelTexts.{told_from, told_end}
-use Rattle.commands.proofs.WritingLemmas.{on_err}
+use Rattle.written.proofs.WritingLemmas.{on_err}
 use Rattle.commands.proofs.build.write_levels.Goals as goal
 
 -- what is left begins with the piece of this level

@@ -17,7 +17,7 @@ returns g c =
     let seed = c.args.drill.seed in
     let levels = c.in_ok-index.index.levels in
     let drawn = c.in_ok-inputs.ensures in
-    let keys : c.in_ok-index.index.keys ≡ keys_of n seed = c.in_ok-index.ensures.keys ∙ drawn.keys in
+    let keys : c.in_ok-index.index.keys ≡ keys_of n seed = c.in_ok-index.ensures.of_keys ∙ drawn.keys in
     let finds = c.deref.ensures.value ∙ drawn.finds in
     let coordinates = c.deref-2.ensures.value ∙ drawn.coordinates in
     let updates = c.deref-3.ensures.value ∙ drawn.updates in
@@ -25,7 +25,7 @@ returns g c =
     record {
       distinct = c.distinct_count.ensures ∙ ap (λ (k : List ℕ). length (distinct_of k)) (c.keys.ensures ∙ keys);
       levels = levels;
-      index = subst (λ (k : List ℕ). IsIndex k c.args.bounds.eps c.args.bounds.eps_rec levels) drawn.keys c.in_ok-index.ensures.index;
+      index = subst (λ (k : List ℕ). IsIndex k c.args.bounds.eps c.args.bounds.eps_rec levels) drawn.keys c.in_ok-index.ensures.levels;
       level_count = c.level_count.ensures.count;
       runs = c.runs.ensures.count ∙ xs_at-length c.in_ok-index.index.keys levels 0;
       sum = c.in_ok-sum.ensures ∙ ap (λ k. sum (map (lb k) c.deref.result.now)) keys ∙ ap (λ q. sum (map (lb (keys_of n seed)) q)) finds;

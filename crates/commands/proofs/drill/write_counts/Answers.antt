@@ -2,7 +2,7 @@ use Rattle.std.proofs.Common.{◌≡◌, ◌+◌, ◌<◌, [], ◌∷◌, ◌++�
 use Rattle.std.proofs.lemmas.List.{drop_all}
 use Rattle.written.proofs.CallerLemmas.{written_none, written_more, written_all, breaks_off_there}
 use Rattle.commands.specs.Texts.Drill.{drill_lines}
-use Rattle.commands.proofs.WritingLemmas.{on_err}
+use Rattle.written.proofs.WritingLemmas.{on_err}
 use Rattle.commands.proofs.drill.write_counts.Goals as goal
 
 -- what is left begins with this piece

@@ -3,6 +3,7 @@ use Rattle.std.specs.List.Sorted.{IsNonDecreasing}
 use Rattle.exact_cross.specs.declared.segment.Segment.{Segment}
 use Rattle.levels.specs.Indexes.{IsIndex}
 use Rattle.levels.proofs.CallerLemmas.{IsIndex-least, IsIndex-checked}
+use Rattle.written.proofs.WritingLemmas.{broken_text}
 use Rattle.commands.specs.Tasks.{Bounds, bounds_of}
 use Rattle.commands.specs.Texts.Indexing.{tells_levels}
 use Rattle.commands.specs.Texts.Explain.{IsExplained, level_lines}
@@ -24,16 +25,15 @@ told keys of_index bounds levels same index order few bounded bounded_above =
       told = refl;
     })
 
-pub returns-in-Ok : goal.returns-in-Ok
-returns-in-Ok g c = (
-  _,
-  told c.args.sorted.keys.items _ (bounds_of c.args.bounds) _ c.in_ok-index.ensures.keys c.in_ok-index.ensures.index c.args.sorted.never_falls (omega (arith, c.args.sorted.keys.ok.0, c.args.sorted.few)) c.args.bounds.bounded c.args.bounds.bounded_above,
-  c.in-Ok.ensures.ok,
-)
-
 pub returns : goal.returns
 returns g c = (
   _,
-  told c.args.sorted.keys.items _ (bounds_of c.args.bounds) _ c.in_ok-index.ensures.keys c.in_ok-index.ensures.index c.args.sorted.never_falls (omega (arith, c.args.sorted.keys.ok.0, c.args.sorted.few)) c.args.bounds.bounded c.args.bounds.bounded_above,
-  c.in-Err.ensures.err,
+  told c.args.indexing.sorted.keys.items _ (bounds_of c.args.indexing.bounds) _ c.in_ok-index.ensures.of_keys c.in_ok-index.ensures.levels c.args.indexing.sorted.never_falls (omega (arith, c.args.indexing.sorted.keys.ok.0, c.args.indexing.sorted.few)) c.args.indexing.bounds.bounded c.args.indexing.bounds.bounded_above,
+  c.in_ok-write_index.ensures.ok,
 )
+
+pub returns-in_err-write_index : goal.returns-in_err-write_index
+returns-in_err-write_index g c =
+    broken_text g.S.Sink c.args.out.now c.write_index.new.out c.from_residual-in_err-write_index.result _ _ c.from_residual-in_err-write_index.ensures.1
+    (told c.args.indexing.sorted.keys.items _ (bounds_of c.args.indexing.bounds) _ c.in_ok-index.ensures.of_keys c.in_ok-index.ensures.levels c.args.indexing.sorted.never_falls (omega (arith, c.args.indexing.sorted.keys.ok.0, c.args.indexing.sorted.few)) c.args.indexing.bounds.bounded c.args.indexing.bounds.bounded_above)
+    c.in_err-write_index.ensures.err

@@ -5,7 +5,7 @@ use Rattle.written.proofs.CallerLemmas.{BreaksOff-more}
 use Rattle.commands.specs.Tasks.{bounds_of}
 use Rattle.commands.specs.Texts.Indexing.{keys_line}
 use Rattle.commands.specs.Texts.Explain.{level_lines}
-use Rattle.commands.proofs.WritingLemmas.{on_err, ok_behind, err_behind}
+use Rattle.written.proofs.WritingLemmas.{on_err, ok_behind, err_behind}
 use Rattle.commands.proofs.explain.write_index.Goals as goal
 
 pub returns-in_err-write_keys-clause-err : goal.returns-in_err-write_keys-clause-err

@@ -6,7 +6,7 @@ use Rattle.levels.specs.Indexes.{xs_at}
 use Rattle.commands.specs.Tasks.{bounds_of}
 use Rattle.commands.specs.Texts.Indexing.{level_line_of}
 use Rattle.commands.specs.Texts.Explain.{run_lines}
-use Rattle.commands.proofs.WritingLemmas.{on_err, ok_behind, err_behind, head_written, head_broken}
+use Rattle.written.proofs.WritingLemmas.{on_err, ok_behind, err_behind, head_written, head_broken}
 use Rattle.commands.proofs.explain.write_level.Goals as goal
 
 pub returns-in_err-hand_over-clause-err : goal.returns-in_err-hand_over-clause-err

@@ -3,7 +3,7 @@ use Rattle.written.proofs.CallerLemmas.{written_none, written_more, written_all,
 use Rattle.commands.specs.Tasks.{bounds_of}
 use Rattle.commands.specs.Texts.Explain.{level_lines}
 use Rattle.commands.proofs.LevelTexts.{told_from, told_end}
-use Rattle.commands.proofs.WritingLemmas.{on_err}
+use Rattle.written.proofs.WritingLemmas.{on_err}
 use Rattle.commands.proofs.explain.write_levels.Goals as goal
 
 pub loop-i-init : goal.loop-i-init

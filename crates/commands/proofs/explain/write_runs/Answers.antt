@@ -2,7 +2,7 @@ use Rattle.std.proofs.Common.{◌≡◌, ◌+◌, [], ◌∷◌, get_or, drop, a
 use Rattle.written.proofs.CallerLemmas.{written_none, written_more, written_all, breaks_off_there}
 use Rattle.commands.specs.Texts.Explain.{run_line, run_lines}
 use Rattle.commands.proofs.RunLines.{no_segment, run_lines-begin, run_lines-end}
-use Rattle.commands.proofs.WritingLemmas.{on_err}
+use Rattle.written.proofs.WritingLemmas.{on_err}
 use Rattle.commands.proofs.explain.write_runs.Goals as goal
 
 pub loop-i-init : goal.loop-i-init

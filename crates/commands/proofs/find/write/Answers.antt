@@ -1,12 +1,14 @@
 -- What is handed over is the text of the questions.
 use Rattle.std.proofs.Common.{ap}
+use Rattle.written.proofs.WritingLemmas.{broken_text}
 use Rattle.commands.specs.Texts.Find.{found_lines}
 use Rattle.commands.proofs.find.write.Goals as goal
 
-pub returns-in-Ok : goal.returns-in-Ok
-returns-in-Ok g c =
-    (found_lines c.args.lookups.sorted.keys.items c.deref-2.result.now, ap (found_lines c.args.lookups.sorted.keys.items) c.deref-2.ensures.value, c.in-Ok.ensures.ok)
-
 pub returns : goal.returns
 returns g c =
-    (found_lines c.args.lookups.sorted.keys.items c.deref-2.result.now, ap (found_lines c.args.lookups.sorted.keys.items) c.deref-2.ensures.value, c.in-Err.ensures.err)
+    (found_lines c.args.lookups.sorted.keys.items c.deref-2.result.now, ap (found_lines c.args.lookups.sorted.keys.items) c.deref-2.ensures.value, c.in_ok-write_answers.ensures.ok)
+
+pub returns-in_err-write_answers : goal.returns-in_err-write_answers
+returns-in_err-write_answers g c =
+    broken_text g.S.Sink c.args.out.now c.write_answers.new.out c.from_residual.result _ (found_lines c.args.lookups.sorted.keys.items c.deref-2.result.now) c.from_residual.ensures.1
+    (ap (found_lines c.args.lookups.sorted.keys.items) c.deref-2.ensures.value) c.in_err-write_answers.ensures.err

@@ -5,7 +5,7 @@ use Rattle.written.proofs.CallerLemmas.{written_none, written_more, written_all,
 use Rattle.window_search.specs.Searches.{lb}
 use Rattle.commands.specs.Texts.Find.{found_lines}
 use Rattle.commands.specs.Texts.Query.{find_line}
-use Rattle.commands.proofs.WritingLemmas.{on_err}
+use Rattle.written.proofs.WritingLemmas.{on_err}
 use Rattle.commands.proofs.find.write_answers.Goals as goal
 
 -- what is left begins with the piece of this question

@@ -3,6 +3,7 @@ use Rattle.std.proofs.Common.{◌≡◌, ◌+◌, ◌<◌, ◌^◌, ℕ, List, r
 use Rattle.std.specs.Prelude.{All}
 use Rattle.lines.specs.Leads.{HaveLeastLines}
 use Rattle.lines.specs.Lookups.{LeadsWithin}
+use Rattle.written.proofs.WritingLemmas.{broken_text}
 use Rattle.commands.specs.Texts.Lines.{AreLines, word_pieces}
 use Rattle.commands.proofs.line_words.write.Goals as goal
 
@@ -17,18 +18,17 @@ are_lines keys words handed eps small lead least same = record {
   told = refl;
 }
 
-pub returns-in-Ok : goal.returns-in-Ok
-returns-in-Ok g c = (
-  word_pieces c.deref.result.now,
-  are_lines c.args.fitting.sorted.keys.items c.in_ok-words.words.items c.deref.result.now c.args.fitting.eps c.in-Ok.ensures.small
-      c.in_ok-words.ensures.lead c.in_ok-words.ensures.least c.deref.ensures.value,
-  c.in-Ok.ensures.ok,
-)
-
 pub returns : goal.returns
 returns g c = (
   word_pieces c.deref.result.now,
-  are_lines c.args.fitting.sorted.keys.items c.in_ok-words.words.items c.deref.result.now c.args.fitting.eps c.in-Err.ensures.small
+  are_lines c.args.fitting.sorted.keys.items c.in_ok-words.words.items c.deref.result.now c.args.fitting.eps c.in_ok-write_words.ensures.small
       c.in_ok-words.ensures.lead c.in_ok-words.ensures.least c.deref.ensures.value,
-  c.in-Err.ensures.err,
+  c.in_ok-write_words.ensures.ok,
 )
+
+pub returns-in_err-write_words : goal.returns-in_err-write_words
+returns-in_err-write_words g c =
+    broken_text g.S.Sink c.args.out.now c.write_words.new.out c.from_residual-in_err-write_words.result _ (word_pieces c.deref.result.now) c.from_residual-in_err-write_words.ensures.1
+    (are_lines c.args.fitting.sorted.keys.items c.in_ok-words.words.items c.deref.result.now c.args.fitting.eps c.in_err-write_words.ensures.small
+    c.in_ok-words.ensures.lead c.in_ok-words.ensures.least c.deref.ensures.value)
+    c.in_err-write_words.ensures.err

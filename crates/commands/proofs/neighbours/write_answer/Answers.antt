@@ -5,7 +5,7 @@ use Rattle.zorder.specs.Codes.{IsCode}
 use Rattle.near.specs.Nearest.{NearAnswer}
 use Rattle.near.proofs.CallerLemmas.{nearest_codes}
 use Rattle.commands.specs.Texts.Neighbours.{near_line, neighbour_line}
-use Rattle.commands.proofs.WritingLemmas.{on_err, ok_told, err_told, ok_behind, err_behind, head_written, head_broken}
+use Rattle.written.proofs.WritingLemmas.{on_err, ok_told, err_told, ok_behind, err_behind, head_written, head_broken}
 use Rattle.commands.proofs.neighbours.write_answer.Goals as goal
 
 pub returns-in_err-hand_over-clause-err : goal.returns-in_err-hand_over-clause-err

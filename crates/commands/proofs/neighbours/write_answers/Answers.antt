@@ -4,11 +4,11 @@ use Rattle.std.proofs.lemmas.List.{take_more, take-append-drop}
 use Rattle.std.proofs.lemmas.List.Elements.{All-drop, All-get_or}
 use Rattle.written.proofs.CallerLemmas.{Writes-nil, Writes-append, BreaksOff-append, BreaksOff-more}
 use Rattle.commands.specs.declared.task.Centre.{Centre}
-use Rattle.commands.specs.Texts.InTurn.{TellsEach}
+use Rattle.written.specs.InTurn.{TellsEach}
 use Rattle.commands.specs.Texts.Neighbours.{TellsNear}
-use Rattle.commands.proofs.InTurnLemmas.{each_append, each_more, some_each}
+use Rattle.written.proofs.InTurnLemmas.{each_append, each_more, some_each}
 use Rattle.commands.proofs.SearchLemmas.{no_centre}
-use Rattle.commands.proofs.WritingLemmas.{on_err}
+use Rattle.written.proofs.WritingLemmas.{on_err}
 use Rattle.commands.proofs.neighbours.write_answers.Goals as goal
 
 -- a list around one place

@@ -1,7 +1,7 @@
 use Rattle.std.proofs.Common.{◌≤◌, take, List, ℕ}
 use Rattle.std.specs.Prelude.{vec_capacity}
 use Rattle.written.specs.Writing.{Writes}
-use Rattle.commands.specs.Texts.InTurn.{TellsEach}
+use Rattle.written.specs.InTurn.{TellsEach}
 use Rattle.commands.specs.Texts.Neighbours.{TellsNear}
 use Rattle.commands.proofs.neighbours.write_answers.Given as goal
 

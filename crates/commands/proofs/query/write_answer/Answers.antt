@@ -3,7 +3,7 @@ use Rattle.std.specs.Prelude.{OnOk, OnErr}
 use Rattle.written.specs.Writing.{Writes, BreaksOff}
 use Rattle.window_search.specs.Searches.{lb}
 use Rattle.commands.specs.Texts.Query.{find_line, window_lines}
-use Rattle.commands.proofs.WritingLemmas.{on_err, ok_told, err_told, ok_behind, err_behind, head_written, head_broken}
+use Rattle.written.proofs.WritingLemmas.{on_err, ok_told, err_told, ok_behind, err_behind, head_written, head_broken}
 use Rattle.commands.proofs.query.write_answer.Goals as goal
 
 pub returns-in_err-hand_over-clause-err : goal.returns-in_err-hand_over-clause-err

@@ -6,8 +6,8 @@ use Rattle.window_search.specs.Searches.{lb}
 use Rattle.commands.specs.Tasks.{bounds_of}
 use Rattle.commands.specs.Texts.Query.{TellsAnswer, IsAnswered}
 use Rattle.commands.proofs.AnswerTexts.{some_answers}
-use Rattle.commands.proofs.InTurnLemmas.{each_append, each_more}
-use Rattle.commands.proofs.WritingLemmas.{on_err}
+use Rattle.written.proofs.InTurnLemmas.{each_append, each_more}
+use Rattle.written.proofs.WritingLemmas.{on_err}
 use Rattle.commands.proofs.query.write_answers.Goals as goal
 
 -- a list around one place

@@ -3,10 +3,11 @@ use Rattle.std.proofs.lemmas.List.{drop_all}
 use Rattle.written.proofs.CallerLemmas.{written_none, written_more, written_all, breaks_off_there}
 use Rattle.levels.specs.declared.windows.LevelWindow.{LevelWindow}
 use Rattle.commands.specs.Texts.Query.{window_line, window_lines}
-use Rattle.commands.proofs.WritingLemmas.{on_err}
+use Rattle.written.proofs.WritingLemmas.{on_err}
 use Rattle.commands.proofs.query.write_windows.Goals as goal
 
-no_window : LevelWindow
+-- what a read past the end would give
+abbrev no_window : LevelWindow
 no_window = record { level = 0; low = 0; high = 0 }
 
 -- what is left begins with the piece of this window

@@ -5,7 +5,7 @@ use Rattle.written.specs.Writing.{Writes, BreaksOff}
 use Rattle.zorder.specs.Codes.{IsCode}
 use Rattle.boxes.specs.BoxAnswers.{codes_inside, is_inside}
 use Rattle.commands.specs.Texts.Regions.{box_line, point_line}
-use Rattle.commands.proofs.WritingLemmas.{on_err, ok_told, err_told, ok_behind, err_behind, head_written, head_broken}
+use Rattle.written.proofs.WritingLemmas.{on_err, ok_told, err_told, ok_behind, err_behind, head_written, head_broken}
 use Rattle.commands.proofs.regions.write_answer.Goals as goal
 
 pub returns-in_err-hand_over-clause-err : goal.returns-in_err-hand_over-clause-err

@@ -2,7 +2,7 @@ use Rattle.std.proofs.Common.{◌≡◌, ◌+◌, ◌<◌, [], ◌∷◌, ◌++�
 use Rattle.std.proofs.lemmas.List.{drop_all}
 use Rattle.written.proofs.CallerLemmas.{written_none, written_more, written_all, breaks_off_there}
 use Rattle.commands.specs.Texts.Regions.{point_line}
-use Rattle.commands.proofs.WritingLemmas.{on_err}
+use Rattle.written.proofs.WritingLemmas.{on_err}
 use Rattle.commands.proofs.regions.write_points.Goals as goal
 
 -- what is left begins with the piece of this code

@@ -32,5 +32,5 @@ made keys own cuts used bounds pieces m slack index same same_cuts points count 
 pub returns : goal.returns
 returns g c =
     let built = c.in_ok-index.ensures in
-    made c.args.sorted.keys.items _ c.in_ok-cuts.cuts.items c.deref.result.now (bounds_of c.args.bounds) c.args.pieces.count _ c.len.result c.in_ok-index.index c.of-keys.ensures
+    made c.args.indexing.sorted.keys.items _ c.in_ok-cuts.cuts.items c.deref.result.now (bounds_of c.args.indexing.bounds) c.args.pieces.count _ c.len.result c.in_ok-index.index c.of-keys.ensures
     c.deref.ensures.value c.point_count.ensures (omega (arith, c.len.ensures)) built.relaxed.of_keys built.relaxed.of_eps built.relaxed.of_eps_rec c.in_ok-cuts.ensures.places built.relaxed.levels built.within

@@ -23,10 +23,11 @@ told keys bounds pieces slack index questions answers made answered = record {
   told = λ i. tells_levels (made.of_keys i) index.levels (built_level (made.of_keys i) bounds (Some (made.count i)) index.levels) ++ answers;
 }
 
-pub returns-in-Ok : goal.returns-in-Ok
-returns-in-Ok g c =
-    let (answers, answered, written) = c.in-Ok.ensures.ok in (
+pub returns : goal.returns
+returns g c =
+    let (answers, answered, written) = c.in_ok-write_relaxed.ensures.ok in (
       _,
-      told c.args.sorted.keys.items (bounds_of c.args.bounds) c.args.pieces.count c.in_ok-index.slack c.in_ok-index.index c.args.questions.now answers c.in_ok-index.ensures answered,
+      told c.args.relaxing.indexing.sorted.keys.items (bounds_of c.args.relaxing.indexing.bounds) c.args.relaxing.pieces.count c.in_ok-index.slack c.in_ok-index.index c.args.relaxing.questions.items answers c.in_ok-index.ensures
+          (subst (λ (q : List ℕ). IsAnswered c.in_ok-index.index.keys (bounds_of c.args.relaxing.indexing.bounds) q false answers) c.as_slice-questions.ensures.value answered),
       written,
     )

@@ -6,7 +6,7 @@ use Rattle.levels.specs.Indexes.{PgmIndex}
 use Rattle.commands.specs.Tasks.{bounds_of}
 use Rattle.commands.specs.Texts.Query.{IsAnswered}
 use Rattle.commands.proofs.AnswerTexts.{some_answers}
-use Rattle.commands.proofs.WritingLemmas.{on_err, ok_told_behind, err_told_behind}
+use Rattle.written.proofs.WritingLemmas.{on_err, ok_told_behind, err_told_behind}
 use Rattle.commands.proofs.relax.write_relaxed.Goals as goal
 
 -- questions have answers, of which none was written

@@ -6,8 +6,8 @@ use Rattle.map_replay.proofs.MixLemmas.{plain_entries}
 use Rattle.pgm_script.specs.declared.script.ScriptKind.{ScriptKind}
 use Rattle.pgm_script.specs.declared.script.ScriptLine.{ScriptLine}
 use Rattle.pgm_script.specs.Scripts.{IsLineOf}
-use Rattle.commands.specs.PlainUpdates.{is_plain}
-use Rattle.commands.proofs.PlainLemmas.{all_plain}
+use Rattle.map_commands.specs.PlainUpdates.{is_plain}
+use Rattle.map_commands.proofs.PlainLemmas.{all_plain}
 use Rattle.program.specs.Inputs.{updates_in}
 use Rattle.program.proofs.ScriptUpdates.{plain_updates}
 use Rattle.program.proofs.history.mixing_in.Goals as goal

@@ -22,20 +22,18 @@ searched : (files : Files) (searching : Searching) (coords : List ℕ) (lines : 
 searched files searching coords lines regions points script is =
     (coords, points, (lines, script, ap (λ (r : List Region). Ok (box searching.dims coords r)) is))
 
--- what is read of a point file holds the points of a search
-pub invariant_of-search : goal.invariant_of-search
-invariant_of-search g c =
+-- what is read of a point file are points
+pub invariant_of-points : goal.invariant_of-points
+invariant_of-points g c =
     let d = c.args.searching.dims in
-    let coords = c.in_ok-coords.coords.items in
     let points = c.in_ok-coords.ensures.answer.ok.0 in
     let dimension : IsDimension d = (c.args.searching.some, c.args.searching.few) in
-    let count = count_is d coords dimension points in
+    let count = count_is d c.in_ok-coords.coords.items dimension points in
     record {
       dimension = dimension;
       whole = points.whole ∙ ap (λ (n : ℕ). d * n) (sym count);
       few_points = subst (λ (n : ℕ). n < 4294967296) (sym count) points.few;
       range = points.range;
-      each = c.in_ok-regions.ensures.each;
     }
 
 pub returns-clause-answer : goal.returns-clause-answer

@@ -3,9 +3,9 @@ use Rattle.pgm_script.specs.declared.script.ScriptKind.{ScriptKind}
 use Rattle.pgm_script.specs.declared.script.ScriptLine.{ScriptLine}
 use Rattle.command_line.specs.Requests.{replayed_of}
 use Rattle.command_line.specs.Requests.Request.{mix}
-use Rattle.commands.specs.declared.task.Mixing.{Mixing}
+use Rattle.map_commands.specs.declared.history.Mixing.{Mixing}
 use Rattle.commands.specs.declared.task.Task.TheVariants as declared_task
-use Rattle.commands.specs.Histories.{mix_of}
+use Rattle.commands.specs.Tasks.{mix_of}
 use Rattle.commands.specs.Tasks.{task_of}
 use Rattle.program.specs.Stops.{Answers}
 use Rattle.program.specs.Inputs.{reads, reads_script, reads_mixing}

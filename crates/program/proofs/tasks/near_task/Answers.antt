@@ -22,20 +22,18 @@ neighbours_of : (files : Files) (searching : Searching) (coords : List ℕ) (lin
 neighbours_of files searching coords lines centres points script is =
     (coords, points, (lines, script, ap (λ (cs : List Centre). Ok (neighbours searching.dims coords cs)) is))
 
--- what is read of a point file holds the points of a search of neighbours
-pub invariant_of-neighbours : goal.invariant_of-neighbours
-invariant_of-neighbours g c =
+-- what is read of a point file are points
+pub invariant_of-points : goal.invariant_of-points
+invariant_of-points g c =
     let d = c.args.searching.dims in
-    let coords = c.in_ok-coords.coords.items in
     let points = c.in_ok-coords.ensures.answer.ok.0 in
     let dimension : IsDimension d = (c.args.searching.some, c.args.searching.few) in
-    let count = count_is d coords dimension points in
+    let count = count_is d c.in_ok-coords.coords.items dimension points in
     record {
       dimension = dimension;
       whole = points.whole ∙ ap (λ (n : ℕ). d * n) (sym count);
       few_points = subst (λ (n : ℕ). n < 4294967296) (sym count) points.few;
       range = points.range;
-      each = c.in_ok-centres.ensures.each;
     }
 
 pub returns-clause-answer : goal.returns-clause-answer

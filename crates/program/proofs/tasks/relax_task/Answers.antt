@@ -25,7 +25,7 @@ returns-clause-answer g c =
     let building = built_of c.args.building in
     let name = c.args.script.now in
     let questions = c.in_ok-finds.finds.numbers.items in
-    let one = c.in_ok-keys.ensures in
+    let one = c.in_ok-sorted.ensures in
     let two = c.in_ok-finds.ensures in
     let quiet = two.answer.unfaulted ∙ one.answer.unfaulted in
     record {
@@ -46,10 +46,10 @@ returns-in_err-finds-clause-answer g c =
     let building = built_of c.args.building in
     let name = c.args.script.now in
     let stopped = c.in_err-finds.field-0.0 in
-    let one = c.in_ok-keys.ensures in
+    let one = c.in_ok-sorted.ensures in
     let two = subst (λ (f : Files). Answers {B = Finds} (reads_script ScriptKind.Find f name) (λ finds. map Find finds.numbers.items) middle after (Err stopped)) one.files c.in_err-finds.ensures.answer in
     (subst (Answers (reads files (relax building name c.args.pieces.count)) task_of before after)
     (sym (handed_on _ stopped c.from_residual-in_err-finds.ensures.1))
     (second_stops (reads_index files building) (λ keys. reads_script ScriptKind.Find files name)
     (λ keys lines. gives (tasks.Task.relax keys (bounds_in building) c.args.pieces.count (questions_in lines))) (λ sorted. sorted.keys.items)
-    (λ (finds : Finds). map Find finds.numbers.items) task_of before middle after c.in_ok-keys.keys stopped one.answer two))
+    (λ (finds : Finds). map Find finds.numbers.items) task_of before middle after c.in_ok-sorted.sorted stopped one.answer two))

@@ -1,17 +1,19 @@
+use Rattle.std.proofs.lemmas.Result.{err_from_is_err_and}
 use Rattle.sosd_reader.specs.NumberFiles.Kind.{of_points}
 use Rattle.sosd_reader.proofs.KindLemmas.{range-from}
 use Rattle.sosd_reader.proofs.Wherever.{read-wherever, fault-wherever}
 use Rattle.sosd_reader.proofs.points.read_points.Goals as goal
 
-pub returns-in-Ok-clause-wherever : goal.returns-in-Ok-clause-wherever
-returns-in-Ok-clause-wherever g c =
-    read-wherever (of_points c.args.d) (g.F.Shelf.rest c.args.shelf.now) _ (g.F.Shelf.faults c.args.shelf.now) (g.F.Shelf.faults c.read_file.new.shelf) c.in-Ok.ensures.read
+pub returns-clause-wherever : goal.returns-clause-wherever
+returns-clause-wherever g c =
+    read-wherever (of_points c.args.d) (g.F.Shelf.rest c.args.shelf.now) _ (g.F.Shelf.faults c.args.shelf.now) (g.F.Shelf.faults c.read_file.new.shelf) c.in_ok-read_file.ensures.read
 
-pub returns-in-Ok-clause-are_points : goal.returns-in-Ok-clause-are_points
-returns-in-Ok-clause-are_points g c =
-    let are = c.in-Ok.ensures.numbers in
+pub returns-clause-are_points : goal.returns-clause-are_points
+returns-clause-are_points g c =
+    let are = c.in_ok-read_file.ensures.numbers in
     record { count = are.0; few = are.1.few; whole = are.1.whole; range = range-from c.args.d _ are.1.all_follow }
 
-pub returns-in-Err-clause-wherever : goal.returns-in-Err-clause-wherever
-returns-in-Err-clause-wherever g c =
-    fault-wherever (of_points c.args.d) (g.F.Shelf.rest c.args.shelf.now) _ (g.F.Shelf.faults c.args.shelf.now) (g.F.Shelf.faults c.read_file.new.shelf) c.in-Err.ensures.fault c.in-Err.ensures.cause
+pub returns-in_err-read_file-clause-wherever : goal.returns-in_err-read_file-clause-wherever
+returns-in_err-read_file-clause-wherever g c =
+    let p = err_from_is_err_and c.from_residual.result c.from_residual.ensures.1 in
+    rw (p.1, p.2) (fault-wherever (of_points c.args.d) (g.F.Shelf.rest c.args.shelf.now) _ (g.F.Shelf.faults c.args.shelf.now) (g.F.Shelf.faults c.read_file.new.shelf) c.in_err-read_file.ensures.fault c.in_err-read_file.ensures.cause)

@@ -1,8 +1,0 @@
-use Rattle.std.proofs.Common.{drop, map}
-use Rattle.written.proofs.CallerLemmas.{HasWritten}
-use Rattle.commands.specs.Texts.Mix.{from_line}
-use Rattle.commands.proofs.mix.write_senders.Given as goal
-
--- the lines of the updates before this one were written
-abbrev pub invariant-loop-i : goal.invariant-loop-i
-invariant-loop-i g l = HasWritten g.S.Sink l.fn.out l.out (map from_line l.numbers) (map from_line (drop l.i l.numbers))

@@ -1,0 +1,4 @@
+pub mod PlainUpdates
+pub mod Replay
+pub mod Mix
+pub mod MapLines
