@@ -2,11 +2,7 @@
 ghost use Rattle.std.specs.Prelude.{◌≡◌, ◌<◌, ◌≤◌, ◌^◌, [], ℕ, List};
 ghost use Rattle.std.specs.Prelude.{OnOk, OnErr, IfOk, length, map, slice_index_or, sum};
 ghost use Rattle.std.specs.List.{All};
-ghost use Rattle.exact_cross.specs.declared.segment.Segment.{Segment};
-ghost use Rattle.key_points.specs.KeyPoints.{distinct_of};
 ghost use Rattle.window_search.specs.Searches.{lb};
-ghost use Rattle.exact_cross.specs.IndexLevels.{level_at};
-ghost use Rattle.levels.specs.Indexes.{IsIndex};
 ghost use Rattle.zorder.specs.Points.{ArePoints};
 ghost use Rattle.boxes.specs.PointCodes.{AreSortedCodes};
 ghost use Rattle.boxes.specs.BoxAnswers.{IsLooked, codes_inside};

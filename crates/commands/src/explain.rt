@@ -1,6 +1,6 @@
 // The command `explain`.
 ghost use Rattle.std.specs.Prelude.{◌≡◌, ◌∷◌, ◌<◌, ◌≤◌};
-ghost use Rattle.std.specs.Prelude.{◌^◌, ◌+◌, ◌++◌};
+ghost use Rattle.std.specs.Prelude.{◌+◌, ◌++◌};
 ghost use Rattle.std.specs.Prelude.{ℕ, List, length, drop, codes};
 ghost use Rattle.std.specs.Prelude.{decimal};
 ghost use Rattle.std.specs.Prelude.{OnOk, OnErr};

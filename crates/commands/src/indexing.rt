@@ -1,10 +1,9 @@
 // What the commands over an index share: building it, and its first text lines.
 ghost use Rattle.std.specs.Prelude.{◌≡◌, ◌∷◌, ◌++◌, ◌<◌, ◌≤◌, [], length, IfOk, OnOk, OnErr};
-ghost use Rattle.exact_cross.specs.IndexLevels.{level_at, eps_at};
-ghost use Rattle.levels.specs.Indexes.{IsIndexOf, xs_at};
+ghost use Rattle.levels.specs.Indexes.{IsIndexOf};
 ghost use Rattle.written.specs.Writing.{Writes, BreaksOff};
 ghost use Rattle.commands.specs.Tasks.{bounds_of};
-ghost use Rattle.commands.specs.Texts.Indexing.{keys_line, level_line, level_line_of};
+ghost use Rattle.commands.specs.Texts.Indexing.{keys_line, level_line_of};
 ghost use Rattle.commands.specs.Texts.Indexing.{slack_at, slack_ending};
 
 use crate::task::Indexing;

@@ -1,8 +1,8 @@
 // The positions of a list of questions, by threads.
-ghost use Rattle.std.specs.Prelude.{◌≡◌, ◌+◌, ◌*◌, ◌++◌, ◌<◌};
-ghost use Rattle.std.specs.Prelude.{◌≤◌, [], ℕ};
-ghost use Rattle.std.specs.Prelude.{All, drop, length, map};
-ghost use Rattle.std.specs.Prelude.{take, vec_capacity, vec_len, IfOk, OnOk};
+ghost use Rattle.std.specs.Prelude.{◌≡◌, ◌+◌, ◌++◌, ◌<◌};
+ghost use Rattle.std.specs.Prelude.{◌≤◌};
+ghost use Rattle.std.specs.Prelude.{All, length, map};
+ghost use Rattle.std.specs.Prelude.{vec_capacity, vec_len, IfOk, OnOk};
 ghost use Rattle.std.specs.List.{flat_map};
 ghost use Rattle.window_search.specs.Searches.{lb};
 ghost use Rattle.commands.specs.Finders.{keys_of};

@@ -1,5 +1,5 @@
 // The command `query`.
-ghost use Rattle.std.specs.Prelude.{◌≡◌, ◌∷◌, ◌≤◌, [], ℕ, Bool, List, Option, false};
+ghost use Rattle.std.specs.Prelude.{◌≡◌, ◌≤◌, ℕ, Bool, List, Option, false};
 ghost use Rattle.std.specs.Prelude.{is_some, length, map, IfSome, OnOk, OnErr};
 ghost use Rattle.std.specs.Prelude.{vec_capacity};
 ghost use Rattle.std.specs.List.Sorted.{IsNonDecreasing};

@@ -1,5 +1,5 @@
 // The command `box`.
-ghost use Rattle.std.specs.Prelude.{◌≡◌, ◌∷◌, ◌≤◌, [], ℕ, List, All};
+ghost use Rattle.std.specs.Prelude.{◌≡◌, ◌≤◌, ℕ, List, All};
 ghost use Rattle.std.specs.Prelude.{length, map, vec_capacity, OnOk, OnErr};
 ghost use Rattle.zorder.specs.Codes.{IsCode, IsDimension};
 ghost use Rattle.zorder.specs.declared.regions.Region.{Region as SearchedRegion};

@@ -1,15 +1,8 @@
 // The command `relax`.
-ghost use Rattle.std.specs.Prelude.{◌≡◌, ◌<◌, ◌++◌, ℕ, false, List, length, map, Some};
+ghost use Rattle.std.specs.Prelude.{◌≡◌, ◌<◌, ◌++◌, ℕ, false, List, map, Some};
 ghost use Rattle.std.specs.Prelude.{IfOk, OnOk, OnErr};
 ghost use Rattle.std.specs.List.Sorted.{IsNonDecreasing};
-ghost use Rattle.exact_cross.specs.Points.{points_of};
-ghost use Rattle.exact_cross.specs.Checked.{IsCoverWithin};
-ghost use Rattle.exact_cross.specs.Segments.{starts_of};
 ghost use Rattle.window_search.specs.Searches.{lb};
-ghost use Rattle.key_points.specs.KeyPoints.{xs_of, ys_of};
-ghost use Rattle.piece_join.specs.Cuttings.{AreCutsAt, even_place};
-ghost use Rattle.exact_cross.specs.IndexLevels.{level_at};
-ghost use Rattle.levels.specs.Indexes.{IsRelaxedIndex};
 ghost use Rattle.written.specs.Writing.{Writes, BreaksOff, WritesText};
 ghost use Rattle.commands.specs.Finders.{IsRelaxedOf};
 ghost use Rattle.commands.specs.Tasks.{Bounds as TaskBounds, bounds_of};

@@ -1,5 +1,4 @@
 // The command `mix`.
-ghost use Rattle.std.specs.Prelude.{◌≡◌};
 ghost use Rattle.written.specs.Writing.{WritesText};
 ghost use Rattle.map_commands.specs.Mix.{IsMixedText};
 
