@@ -383,7 +383,14 @@ fn index_numbers(asked: Building<'_>, more: u32, last: u32) -> [u32; 6] {
 
 /// Those of a plan, and one more.
 fn plan_numbers(plan: Plan, more: u32) -> [u32; 6] {
-    [plan.levels, plan.batch, plan.readers, plan.workers, more, 0]
+    [
+        plan.levels,
+        plan.batch,
+        plan.readers,
+        plan.workers.count,
+        more,
+        0,
+    ]
 }
 
 fn numbers_of(request: Request<'_>) -> [u32; 6] {
