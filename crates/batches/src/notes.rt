@@ -34,8 +34,9 @@ pub fn look_until<R: Wait>(rt: &R, reader: Reader) -> Look
     ensures own { result.origin ≡ reader.origin }
 {
     let mut reader = reader;
+    let mut refusals = 0;
     for _turn in rt.forever() {
-        match reader.look() {
+        match reader.look(&mut refusals) {
             Ok(look) => return look,
             Err(back) => reader = back,
         }

@@ -247,10 +247,10 @@ fn look_all<R: Clock>(rt: &R, reader: Reader, work: Work, timed: bool) -> Looked
     let (mut sum, mut refused, mut longest) = (0u64, 0u64, Duration::ZERO);
     for turn in 0..work.looks {
         let start = if timed { Instant::now(rt).ok() } else { None };
-        let (back, value) = look_at(reader, scattered(u64::from(turn), work.keys));
+        let key = scattered(u64::from(turn), work.keys);
+        let (back, value) = look_at(reader, key, &mut refused);
         reader = back;
-        sum = sum.wrapping_add(value.unwrap_or(0));
-        refused = refused.saturating_add(u64::from(value.is_none()));
+        sum = sum.wrapping_add(value);
         longest = longest.max(time_since(rt, start));
     }
     let looks = Looks {
@@ -261,15 +261,15 @@ fn look_all<R: Clock>(rt: &R, reader: Reader, work: Work, timed: bool) -> Looked
     Looked { reader, looks }
 }
 
-/// Looks at a key, and gives its value, or nothing where the look was refused.
+/// Looks at a key, and gives its value, or 0 where the look was refused, which it counts.
 #[inline(always)]
-fn look_at(reader: Reader, key: u64) -> (Reader, Option<u64>) {
-    match reader.look() {
+fn look_at(reader: Reader, key: u64, refused: &mut u64) -> (Reader, u64) {
+    match reader.look(refused) {
         Ok(look) => {
             let value = look.get(key).unwrap_or(0);
-            (look.leave(), Some(value))
+            (look.leave(), value)
         }
-        Err(back) => (back, None),
+        Err(back) => (back, 0),
     }
 }
 

@@ -28,9 +28,9 @@ pub use pairs::{is_flat, is_steep};
 /// Whether the three places are in order, below the list's length, and beyond every line by the
 /// side's inequality.
 ///
-/// `eps` is the error bound `ε`, in places. Over: the chord of `ε` below the outer two points passes
-/// more than `ε` above the middle one. Under: the chord of `ε` above them passes more than `ε` below
-/// it. The inequalities are exact.
+/// `eps` is the error bound `ε`, in places. Over: the chord of `ε` below the outer two points
+/// passes more than `ε` above the middle one. Under: the chord of `ε` above them passes more than
+/// `ε` below it. The inequalities are exact.
 pub fn holds(w: &Witness, points: PointList<'_>, eps: u32) -> bool
     requires bounded { eps ≤ MAX_EPSILON }
     ensures exact { IsTrue result ↔ IsWitness (points_in points.entry) eps w.now }

@@ -44,8 +44,8 @@ const FURTHEST: u64 = 1 << 62;
 /// - `Short` where the bytes end before the last level does, and have no fault before their end.
 /// - `Trailing` where a byte follows the last level.
 ///
-/// `ReadFault` at once where the shelf failed; then nothing is left. `NoMemory` where memory for the
-/// next runs wasn't found, and where the levels so far have more than 2^62 bytes.
+/// `ReadFault` at once where the shelf failed; then nothing is left. `NoMemory` where memory for
+/// the next runs wasn't found, and where the levels so far have more than 2^62 bytes.
 pub fn read_index<F: Shelf>(alloc: Global, shelf: &mut F) -> Result<Saved, IndexFault>
     // Where the shelf tells the bytes: they are the spelling of the index, or the fault is theirs,
     // unless the shelf failed or memory ran out.

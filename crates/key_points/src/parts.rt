@@ -18,8 +18,8 @@ pub struct Parts {
 
 /// The points of sorted keys, one group of equal keys after the other.
 ///
-/// Room is taken once: 12 bytes a point, for two points of each of the distinct keys, of which there
-/// are `count`, but no more than there are keys.
+/// Room is taken once: 12 bytes a point, for two points of each of the distinct keys, of which
+/// there are `count`, but no more than there are keys.
 ///
 /// # Errors
 ///

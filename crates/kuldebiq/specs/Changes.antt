@@ -6,6 +6,7 @@ use Rattle.log_levels.specs.Shapes.{Held, StandsFor}
 use Rattle.log_levels.specs.declared.fault.MapFault.{MapFault}
 use Rattle.log_levels.specs.declared.fault.MapFault.TheVariants.{Full, NoMemory}
 use Rattle.kuldebiq.specs.declared.answer.Answer.{Answer}
+use Rattle.kuldebiq.specs.declared.answer.TheConstants.{NO_MEMORY, FULL}
 use Rattle.kuldebiq.specs.Answers.{refuses}
 
 -- the handle holds an empty map with so many levels
@@ -27,5 +28,5 @@ one_if_some (Some value) = 1
 
 -- why an update was refused, as an answer
 abbrev pub fault_as : MapFault → Answer
-fault_as (Full accepted) = refuses 11 accepted
-fault_as NoMemory = refuses 1 0
+fault_as (Full accepted) = refuses FULL accepted
+fault_as NoMemory = refuses NO_MEMORY 0

@@ -5,6 +5,7 @@ use Rattle.std.specs.List.Sorted.{IsNonDecreasing}
 use Rattle.lines.specs.Lookups.{LeadsWithin}
 use Rattle.lines.specs.Leads.{HaveLeastLines}
 use Rattle.kuldebiq.specs.declared.answer.Answer.{Answer}
+use Rattle.kuldebiq.specs.declared.answer.TheConstants.{EPSILON_TOO_GREAT}
 use Rattle.kuldebiq.specs.Answers.{refuses}
 use Rattle.kuldebiq.specs.Building.{RefusesKeys}
 
@@ -16,7 +17,7 @@ pub record CanHaveLines (keys : List ℕ) (eps : ℕ) : Type 0 where
 
 -- an error bound that is too great, or else keys that are refused
 abbrev pub IsLinesRefusal : List ℕ → ℕ → Answer → Type 0
-IsLinesRefusal keys eps answer = ((answer ≡ refuses 6 eps) × (1048576 < eps)) ⊎ ((eps ≤ 1048576) × RefusesKeys keys answer)
+IsLinesRefusal keys eps answer = ((answer ≡ refuses EPSILON_TOO_GREAT eps) × (1048576 < eps)) ⊎ ((eps ≤ 1048576) × RefusesKeys keys answer)
 
 -- the words lead to within ε + 2 in the keys, and have as many lines as the least cover of the keys' points within ε has runs
 pub record AreLinesOf (keys : List ℕ) (eps : ℕ) (words : List ℕ) : Type 0 where

@@ -6,6 +6,7 @@ use Rattle.log_levels.specs.Accepted.{puts_of}
 use Rattle.log_levels.specs.Maps.{map_after, AreRising, IsFirstStall}
 use Rattle.log_levels.specs.Shapes.{Held, StandsFor}
 use Rattle.kuldebiq.specs.declared.answer.Answer.{Answer}
+use Rattle.kuldebiq.specs.declared.answer.TheConstants.{NO_MEMORY, UNSORTED, LEVELS_OUT_OF_RANGE, FULL}
 use Rattle.kuldebiq.specs.Answers.{refuses}
 
 -- how many entries a map with so many levels can accept
@@ -25,13 +26,13 @@ pub record CanBeLoaded (levels : ℕ) (pairs : List (ℕ × ℕ)) : Type 0 where
 
 -- no map has so many levels
 abbrev pub RefusesLevels : ℕ → Answer → Type 0
-RefusesLevels levels answer = (answer ≡ refuses 10 levels) × ((levels ≡ 0) ⊎ (26 < levels))
+RefusesLevels levels answer = (answer ≡ refuses LEVELS_OUT_OF_RANGE levels) × ((levels ≡ 0) ⊎ (26 < levels))
 
 -- the first place whose key isn't above the one before it, or else the pairs are too many
 abbrev pub RefusesPairs : ℕ → List (ℕ × ℕ) → Answer → Type 0
 RefusesPairs levels pairs answer =
-    ((place : ℕ) × (answer ≡ refuses 4 place) × IsFirstStall pairs place)
-    ⊎ (AreRising pairs × ((answer ≡ refuses 11 (capacity_with levels)) × (capacity_with levels < length pairs)))
+    ((place : ℕ) × (answer ≡ refuses UNSORTED place) × IsFirstStall pairs place)
+    ⊎ (AreRising pairs × ((answer ≡ refuses FULL (capacity_with levels)) × (capacity_with levels < length pairs)))
 
 -- a number of levels that no map has, or else pairs that are refused
 abbrev pub IsLoadRefusal : ℕ → List (ℕ × ℕ) → Answer → Type 0
@@ -56,4 +57,4 @@ HasCompacted levels was now = MatchOption was ⊥ (λ map. (updates : List Updat
 abbrev pub RefusesCompact : ℕ → Held → Answer → Type 0
 RefusesCompact levels map answer =
     RefusesLevels levels answer
-    ⊎ (IsLevelCount levels × (((answer ≡ refuses 11 (capacity_with levels)) × ((updates : List Update) → StandsFor map updates → capacity_with levels < length (map_after updates))) ⊎ (answer ≡ refuses 1 0)))
+    ⊎ (IsLevelCount levels × (((answer ≡ refuses FULL (capacity_with levels)) × ((updates : List Update) → StandsFor map updates → capacity_with levels < length (map_after updates))) ⊎ (answer ≡ refuses NO_MEMORY 0)))

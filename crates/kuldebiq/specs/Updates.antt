@@ -6,6 +6,7 @@ use Rattle.log_levels.specs.Accepted.{entries_of}
 use Rattle.log_levels.specs.Shapes.{Held, StandsFor, capacity_of}
 use Rattle.kuldebiq.specs.declared.updates.UpdateParts.{UpdateParts}
 use Rattle.kuldebiq.specs.declared.answer.Answer.{Answer}
+use Rattle.kuldebiq.specs.declared.answer.TheConstants.{NO_MEMORY, FULL, NO_SUCH_KIND}
 use Rattle.kuldebiq.specs.Answers.{refuses}
 
 -- kind 0 is a put, 1 a deletion and 2 a sweep
@@ -29,5 +30,5 @@ IsTooMuchFor held updates = (before : List Update) → StandsFor held before →
 -- why a map doesn't take updates: the first that is none, or else their entries don't fit, or memory isn't found
 abbrev pub RefusesUpdates : Held → List UpdateParts → Answer → Type 0
 RefusesUpdates held updates answer =
-    ((place : ℕ) × (answer ≡ refuses 13 place) × IsFirstOther updates place)
-    ⊎ (All IsUpdate updates × (((answer ≡ refuses 11 held.accepted) × IsTooMuchFor held updates) ⊎ (answer ≡ refuses 1 0)))
+    ((place : ℕ) × (answer ≡ refuses NO_SUCH_KIND place) × IsFirstOther updates place)
+    ⊎ (All IsUpdate updates × (((answer ≡ refuses FULL held.accepted) × IsTooMuchFor held updates) ⊎ (answer ≡ refuses NO_MEMORY 0)))

@@ -7,9 +7,9 @@
 //! number that says why.
 //!
 //! Main clauses: `bracket` and `found` of [`kuldebiq_find`], `done`, `judged` and `refused` of
-//! [`kuldebiq_index_build`], `answer` of [`kuldebiq_position`], `done` of [`kuldebiq_positions`] and
-//! of each call that updates a map, and `answer` of each that asks one. The words of the clauses are
-//! in `specs/`.
+//! [`kuldebiq_index_build`], `answer` of [`kuldebiq_position`], `done` of [`kuldebiq_positions`]
+//! and of each call that updates a map, and `answer` of each that asks one. The words of the
+//! clauses are in `specs/`.
 #![tactic(auto)]
 
 mod answer;

@@ -20,8 +20,8 @@ use budget::NoMemory;
 use log_levels::LogMap;
 use std::alloc::Global;
 
-/// Makes the map of pairs whose keys rise, with so many levels, 1 to 26, and has the handle hold it.
-/// The number is how many pairs there are: the map has accepted an entry for each.
+/// Makes the map of pairs whose keys rise, with so many levels, 1 to 26, and has the handle hold
+/// it. The number is how many pairs there are: the map has accepted an entry for each.
 ///
 /// What the handle held is let go. A refusal is `LEVELS_OUT_OF_RANGE`, `UNSORTED` with the first
 /// place whose key isn't above the one before it, `FULL` with how many entries the map could

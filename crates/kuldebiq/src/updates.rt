@@ -28,8 +28,8 @@ pub struct UpdateParts {
 
 /// Has a map take updates in order, all or none. The number is how many there are.
 ///
-/// A refusal is `NO_SUCH_KIND`, which is judged first, `FULL` or `NO_MEMORY`, and then the map is as
-/// it was.
+/// A refusal is `NO_SUCH_KIND`, which is judged first, `FULL` or `NO_MEMORY`, and then the map is
+/// as it was.
 pub(crate) fn apply(alloc: Global, held: &mut LogMap, parts: &[UpdateParts]) -> Answer
     ensures done { IsDone result → Adds (map update_of parts.now) held.old held.new }
     ensures number { IsDone result → result ≡ gives (length parts.now) }

@@ -8,8 +8,8 @@ const _: () = prove!(size_of::<Segment>() == 72);
 
 const _: () = prove!(size_of::<RunModel>() == 48);
 
-/// The segments of a level with the models of their runs, and above level 0 the x of its points: the
-/// first x of the runs below.
+/// The segments of a level with the models of their runs, and above level 0 the x of its points:
+/// the first x of the runs below.
 #[derive(Drop)]
 pub struct Level {
     pub segments: Vec<Segment>,

@@ -9,9 +9,9 @@
 //! keys fall, as 5, 1, 9, a lookup gives a place that brackets the question: the key before it is
 //! below the question, and the key there isn't.
 //!
-//! Main clauses: `bracket`, `found`, `worst` and `near` of [`lower_bound`], and `lead` and `least` of
-//! [`lines_of`], which makes the words. The words of the clauses are in `specs/`. No lookup takes
-//! memory, and none fails.
+//! Main clauses: `bracket`, `found`, `worst` and `near` of [`lower_bound`], and `lead` and `least`
+//! of [`lines_of`], which makes the words. The words of the clauses are in `specs/`. No lookup
+//! takes memory, and none fails.
 #![tactic(auto)]
 
 mod line_list;

@@ -46,9 +46,9 @@ impl LogMap {
     ///
     /// The levels are made by workers: long lists are merged in parts, and each level's index is
     /// built in pieces. The gate is passed at `PieceBegun` before each piece of an index and at
-    /// `PieceDone` after it, with the piece's number in that index. Worker threads are joined before
-    /// the call returns, which it does only if the gate does; where one can't be started the caller
-    /// does its work. The map is the same for all numbers of workers and gates.
+    /// `PieceDone` after it, with the piece's number in that index. Worker threads are joined
+    /// before the call returns, which it does only if the gate does; where one can't be started the
+    /// caller does its work. The map is the same for all numbers of workers and gates.
     ///
     /// # Errors
     ///

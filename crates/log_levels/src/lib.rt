@@ -10,8 +10,8 @@
 //! the map stands for these updates too, or is as it was, and when it is `Full` (`AreApplied`); the
 //! answers of [`LogMap::get`], [`LogMap::next`], [`LogMap::previous`], [`LogMap::count`] and
 //! [`LogMap::range`], by the map after the updates; `puts` and `pairs` of [`LogMap::of_sorted`];
-//! `puts` and `same` of [`LogMap::compacted`]; and the law [`one_map`]. The words of the clauses are
-//! in `specs/`.
+//! `puts` and `same` of [`LogMap::compacted`]; and the law [`one_map`]. The words of the clauses
+//! are in `specs/`.
 #![tactic(auto)]
 
 mod apply;

@@ -32,8 +32,8 @@ fn few_pass_a_filter_falsely(rt: HostRuntime) -> Result<(), Fail> {
     Ok(())
 }
 
-/// No contract says that a grid leads to a key, so each key is looked for where it leads, among keys
-/// of which one is in each 64 numbers.
+/// No contract says that a grid leads to a key, so each key is looked for where it leads, among
+/// keys of which one is in each 64 numbers.
 #[test]
 fn grids_lead_to_each_key(rt: HostRuntime) -> Result<(), Fail> {
     for count in [8, 9, 64, 100, 1000, 20_000] {

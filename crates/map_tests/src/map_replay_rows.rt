@@ -57,8 +57,8 @@ fn known_by(readings: &[Reading], reader: usize) -> Option<u64> {
     Some(readings.get(reader)?.sightings.first()?.known)
 }
 
-/// Each reader finds the note of the one batch in its own slot, and knows of it before it looks. The
-/// first one has taken its note when the second one comes.
+/// Each reader finds the note of the one batch in its own slot, and knows of it before it looks.
+/// The first one has taken its note when the second one comes.
 #[test]
 fn each_reader_learns_its_own_note(rt: HostRuntime) -> Result<(), Fail> {
     let updates = [Update::Put(1, 10), Update::Put(2, 20)];

@@ -40,8 +40,9 @@ fn push<R: Threads + Wait + Sync>(
 /// Looks until the reader is let in.
 fn look(reader: Reader) -> Option<Look> {
     let mut reader = reader;
+    let mut refusals = 0;
     for _turn in 0..TURNS {
-        match reader.look() {
+        match reader.look(&mut refusals) {
             Ok(look) => return Some(look),
             Err(back) => reader = back,
         }

@@ -84,10 +84,10 @@ fn published_example(rt: HostRuntime) -> Result<(), Fail> {
     let updates = [Update::Put(1, 10), Update::Put(2, 20)];
     let staged = writer.stage(&rt, rt.alloc(), &updates, Workers { count: 1 }, &OpenGate);
     let published = writer.publish(&rt);
-    let mut value = None;
+    let (mut value, mut refusals) = (None, 0);
     if let Some(mut reader) = readers.pop() {
         reader.learn(writer.tell());
-        if let Ok(look) = reader.look() {
+        if let Ok(look) = reader.look(&mut refusals) {
             value = look.get(1);
             let _reader = look.leave();
         }

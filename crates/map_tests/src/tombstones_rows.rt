@@ -138,8 +138,8 @@ fn merges(rt: HostRuntime) -> Result<(), Fail> {
     Ok(())
 }
 
-/// The newer list has the even keys, each sixth one deleted, and the older one those that 3 divides:
-/// of 12 keys 0, 2, 3, 4, 6, 8, 9 and 10, without 0 and 6 in the deepest list.
+/// The newer list has the even keys, each sixth one deleted, and the older one those that 3
+/// divides: of 12 keys 0, 2, 3, 4, 6, 8, 9 and 10, without 0 and 6 in the deepest list.
 #[test]
 fn merges_long_lists(rt: HostRuntime) -> Result<(), Fail> {
     let mut newer = Vec::new(rt.alloc());

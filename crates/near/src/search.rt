@@ -55,8 +55,8 @@ pub fn room_for(boxes: &Boxes, centre: &[u32; 4], k: u32) -> usize
     boxes.codes().len().min(k as usize)
 }
 
-/// Finds what [`nearest`] finds, in room made before: what was in the vector is dropped, and it gets
-/// the points. Gives the number of boxes.
+/// Finds what [`nearest`] finds, in room made before: what was in the vector is dropped, and it
+/// gets the points. Gives the number of boxes.
 ///
 /// The vector has room for as many as [`room_for`] says. The other condition is that of
 /// [`nearest`]. Cannot fail and takes no memory.

@@ -57,13 +57,7 @@ impl Door for PlainDoor {
     ghost enters = { λ _ _ _. ⊤ };
 
     fn enter(&mut self, inner: Inner) -> Result<Inside, Inner> {
-        match inner.look() {
-            Ok(inside) => Ok(inside),
-            Err(inner) => {
-                self.refusals = self.refusals.saturating_add(1);
-                Err(inner)
-            }
-        }
+        inner.look(&mut self.refusals)
     }
 }
 

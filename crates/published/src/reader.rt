@@ -1,5 +1,5 @@
 // Readers, looks and notes. None of their calls waits or takes memory.
-ghost use Rattle.std.specs.Prelude.{◌≡◌, ◌++◌, Some, OnOk, OnErr};
+ghost use Rattle.std.specs.Prelude.{◌≡◌, ◌≤◌, ◌++◌, Some, OnOk, OnErr};
 ghost use Rattle.std.specs.Prelude.{length, take, drop, min};
 ghost use mathlib.Core.List.{IsPrefix};
 ghost use Rattle.edge.specs.Risen.{HasRisen};
@@ -121,7 +121,8 @@ impl Reader {
         self.known.len()
     }
 
-    /// Looks at the map.
+    /// Looks at the map, and counts in `refusals` a look that is refused. The count stays at its
+    /// last value.
     ///
     /// The look shows a prefix of the history that ends a batch and begins with all that this
     /// reader saw and learned. It stays the same until the reader leaves. What the reader saw is
@@ -130,9 +131,13 @@ impl Reader {
     ///
     /// # Errors
     ///
-    /// The reader as it was, where nobody is let in, as once the writer is closed.
-    pub fn look(self) -> Result<Look, Reader>
-        ensures { IsLookOf self result }
+    /// The reader as it was, only where the count rose in this call, or stands at its last value.
+    /// That comes once the writer is closed.
+    pub fn look(self, refusals: &mut u64) -> Result<Look, Reader>
+        ensures look { IsLookOf self result }
+        ensures never_falls { refusals.old ≤ refusals.new }
+        ensures passed { OnOk result (refusals.new ≡ refusals.old) }
+        ensures refused { OnErr result (HasRisen refusals.old refusals.new) }
     {
         let Reader {
             place,
@@ -140,24 +145,22 @@ impl Reader {
             learned,
         } = self;
         // Event: look. The version is the one that is shown at this step.
-        match place.enter_as::<Sees>() {
+        let place = match place.enter_as::<Sees>() {
             Ok(reading) => {
                 if !learned || reading.get().prefix().begins_with(&known) {
                     return Ok(Look { reading });
                 }
                 // Never comes: a note is told once its version is shown.
-                Err(Reader {
-                    place: reading.leave(),
-                    known,
-                    learned,
-                })
+                reading.leave()
             }
-            Err(place) => Err(Reader {
-                place,
-                known,
-                learned,
-            }),
-        }
+            Err(place) => place,
+        };
+        *refusals = refusals.saturating_add(1);
+        Err(Reader {
+            place,
+            known,
+            learned,
+        })
     }
 
     /// Looks at the map through a door.

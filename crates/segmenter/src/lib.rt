@@ -5,8 +5,8 @@
 //! runs are `0..3`, on the line through 0 and 1, and `3..4`. Each run but the last keeps why it
 //! ends: no line fits the places 0, 1 and 3, since the key 10 lies under the line through 0 and 1.
 //!
-//! Main clauses: `least` of [`segment`], and `cost` of [`segment_counted`]: at most 12 steps a point.
-//! What a least segmentation is stands in `specs/Least.antt`, in the words of `exact_cross`.
+//! Main clauses: `least` of [`segment`], and `cost` of [`segment_counted`]: at most 12 steps a
+//! point. What a least segmentation is stands in `specs/Least.antt`, in the words of `exact_cross`.
 #![tactic(auto)]
 
 ghost use Rattle.std.specs.Prelude.{◌≡◌, ℕ, ◌+◌, ◌-◌, ◌*◌, ◌≤◌, List, length, IfOk};
@@ -36,9 +36,9 @@ use whole::whole_run;
 /// `eps` is the error bound `ε`, in places. Each segment has the steep pair of its run and that
 /// pair's line, which fits the run. Each but the last has a cut, three places that no line fits:
 /// those of the steep pair and the next run's start where this lies over all lines of the run, and
-/// those of the flat pair and it where it lies under them. No cover of the range has fewer runs, and
-/// the segments of a whole list show that by themselves. An empty range has no segment. It takes the
-/// steps of [`segment_counted`], and counts nothing.
+/// those of the flat pair and it where it lies under them. No cover of the range has fewer runs,
+/// and the segments of a whole list show that by themselves. An empty range has no segment. It
+/// takes the steps of [`segment_counted`], and counts nothing.
 ///
 /// # Errors
 ///

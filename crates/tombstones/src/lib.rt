@@ -14,8 +14,8 @@
 //!
 //! [`merge_in_pieces`] gives the same list by several workers.
 //!
-//! Main clause: that of [`merge`] and of [`merge_in_pieces`], `IsMerge`. The words of the clauses are
-//! in `specs/Entries.antt`.
+//! Main clause: that of [`merge`] and of [`merge_in_pieces`], `IsMerge`. The words of the clauses
+//! are in `specs/Entries.antt`.
 #![tactic(auto)]
 
 ghost use Rattle.std.specs.Prelude.{◌≡◌, ℕ, ◌+◌, ◌<◌, ◌≤◌, ◌++◌};
