@@ -41,6 +41,9 @@ class Runs:
         self.given = given
         self.pgmtool = os.environ.get("PGMTOOL", TOP / "crates/pgmtool/out/pgmtool")
         self.bench = os.environ.get("BENCH", TOP / "crates/bench/out/bench")
+        # Asked once, since the page changes with the first table.
+        self.commit = subprocess.run(["git", "-C", str(TOP), "describe", "--always", "--dirty"],
+                                     text=True, stdout=subprocess.PIPE).stdout.strip()
 
     def rounds(self):
         return range(self.given.rounds)
@@ -241,7 +244,7 @@ def lookups(runs):
         many, ("halving", "halving"), ("C++ PGM", "pgm_64"), ("`Index::positions`", "64 index"))
     write(runs, "lookups", ["ε 64", "`std::lower_bound`", "C++ PGM", "`Index`, one at a time",
                             "halving, 16", "C++ PGM, 16", "`Index::positions`, 16"], first,
-          f"{says}.")
+          f"{says}.", keys_and_questions(runs))
     says = SHARES + by_halving(
         many, ("C++ PGM", "pgm_16"), ("C++ PGM by buckets", "buckets_16"),
         ("RadixSpline", "spline_16"), ("RMI 2^16", "rmi_16"), ("RMI 2^20", "rmi_20"),
@@ -250,7 +253,8 @@ def lookups(runs):
         many, ("`Index`", "16 index"), ("`Buckets`", "16 buckets"))
     write(runs, "lookups by tables", ["ε 16", "C++ PGM", "C++ PGM by buckets", "RadixSpline",
                                       "RMI 2^16", "RMI 2^20", "`Index`", "`Buckets`",
-                                      "`Index`, 16", "`Buckets`, 16"], second, f"{says}.")
+                                      "`Index`, 16", "`Buckets`, 16"], second, f"{says}.",
+          keys_and_questions(runs))
 
     def part(way, base="lower_bound alone"):
         return f"{mean(parts(many, way, base)):.2f}"
@@ -308,7 +312,8 @@ def lines(runs):
     write(runs, "lines", ["nanoseconds", "`std::lower_bound`", "C++ PGM, ε 16", "ε 64",
                           "RadixSpline, ε 16", "`position`, ε 16", "ε 64",
                           "ε 64, words of other keys", "halving, 16", "C++ PGM, 16, ε 64",
-                          "`positions`, ε 16", "ε 64"], first, says_of_lines(made_kinds(by_kind)))
+                          "`positions`, ε 16", "ε 64"], first, says_of_lines(made_kinds(by_kind)),
+          keys_and_questions(runs))
     bytes_of, times_of = made_kinds(sizes_of), made_kinds(by_kind)
     sizes, builds = ({eps: parts(of, f"{eps} own{what}", f"pgm_{eps}{what}") for eps in (16, 64)}
                      for of, what in ((bytes_of, ""), (times_of, " build")))
@@ -441,7 +446,7 @@ def questions(runs):
                                           "C++, halving, 16"], rows,
           f"Of the C++ program's time `query` takes {between(one)} with one worker and "
           f"{between(four)} with four, {mean(one):.2f} and {mean(four):.2f} in geometric means "
-          "over the kinds but `numbers`.")
+          "over the kinds but `numbers`.", keys_and_questions(runs))
     seen(runs, "questions", f"`query` takes {mean(one):.2f} of the time of halving sixteen "
          f"together with one worker, {mean(four):.2f} with four")
 
@@ -519,7 +524,7 @@ def boxes(runs):
                           "`visit`"], rows,
           "In the geometric mean over the sets: " + ", ".join(
               f"`{way}` {mean(ratios):.2f} ({between(ratios)})" for way, ratios in ways.items())
-          + ".")
+          + ".", f"{runs.given.size // 10:,} points")
     seen(runs, "boxes", f"{mean(ways['count']):.2f} to {mean(ways['visit']):.2f} of its time in "
          "the mean")
 
@@ -547,7 +552,7 @@ def near(runs):
             for script in scripts)])
     said = [f"{between(values, 1)} at k = {k}" for k, values in ratios.items()]
     write(runs, "near", ["microseconds a centre", "k = 1", "k = 10", "k = 100"], rows,
-          f"Of the tree's time `nearest_into` takes {', '.join(said)}.")
+          f"Of the tree's time `nearest_into` takes {', '.join(said)}.", points_and_centres(runs))
     seen(runs, "near", f"the search takes {', '.join(said)} of the tree's time")
 
 
@@ -572,7 +577,8 @@ def nearest(runs):
             each = (times["near"] - times["none"]) * 1e6 / centres
             cells.append(f"{each:.2g}, {times['tree'] / 1e3:.2g}")
         rows.append(cells)
-    write(runs, "the nearest points", ["microseconds", "k = 1", "k = 10", "k = 100"], rows)
+    write(runs, "the nearest points", ["microseconds", "k = 1", "k = 10", "k = 100"], rows,
+          of=points_and_centres(runs))
 
 
 WORKS = (("put", "put"), ("hit", "get, a key that is there"), ("miss", "get, one that is not"),
@@ -604,7 +610,8 @@ def ordered_map(runs):
     for name, works in (("the map", WORKS), ("the map as a whole", WHOLES)):
         rows = [[meaning, f"{times[f'map {work}']:.0f}", f"{times[f'tree {work}']:.0f}", part(work)]
                 for work, meaning in works]
-        write(runs, name, [f"{size:,} keys", "`LogMap`", "`absl::btree_map`", "ratio"], rows)
+        write(runs, name, [f"{size:,} keys", "`LogMap`", "`absl::btree_map`", "ratio"], rows,
+              of=f"{size:,} keys")
     seen(runs, "map", f"puts {part('put')}, finds {part('hit')}, of keys that aren't there "
          f"{part('miss')}, `next` {part('next')} to {part('next3')}, ranges {part('range')} and "
          f"{part('range2')}, a walk {part('walk')} and {part('walk2')}, a load {part('load')}")
@@ -632,7 +639,8 @@ def readers(runs):
         rows.append(cells)
     write(runs, "readers beside a writer", ["millions of looks", "map, writer still",
                                             "map, publishing", "batches", "tree and lock, still",
-                                            "tree and lock, publishing", "batches"], rows)
+                                            "tree and lock, publishing", "batches"], rows,
+          of=f"{size:,} keys, {runs.given.questions:,} looks of each reader")
     map4, tree4 = best["map", "4", "true"], best["tree", "4", "true"]
     seen(runs, "readers", f"{map4['looks']} million looks a second of four readers beside "
          f"{map4['batches']} batches, where the tree has {tree4['looks']} beside "
@@ -661,7 +669,8 @@ def senders(runs):
                      *(rate(many, times[way], 2) for way in ("yield", "wait")),
                      rate(many, beyond, 1)])
     write(runs, "several senders", ["millions of updates a second", "deque, `yield`",
-                                    "deque, `wait`", "`mix` beyond `replay`"], rows)
+                                    "deque, `wait`", "`mix` beyond `replay`"], rows,
+          of=f"{many:,} puts")
     ours, theirs = ([row[at] for row in rows] for at in (3, 1))
     seen(runs, "senders", f"{', '.join(ours)} million updates a second by one, two and four "
          f"senders, where the deque has {', '.join(theirs)}")
@@ -703,24 +712,32 @@ def explain(runs):
     seen(runs, "explain", f"{part:.2f} of its processor time")
 
 
-def measured_on(runs):
-    """A line on the machine, the sources and the rounds."""
+def keys_and_questions(runs):
+    return f"{runs.given.size:,} keys, {runs.given.questions:,} questions"
+
+
+def points_and_centres(runs):
+    return (f"{runs.given.size // 10:,} points where they are made, "
+            f"{runs.given.questions // 100:,} centres")
+
+
+def measured_on(runs, of):
+    """A line on what was measured, the rounds, the machine and the sources."""
     with open("/proc/cpuinfo", encoding="utf-8") as file:
         model = re.search(r"model name\s*: (.*)", file.read())
-    commit = subprocess.run(["git", "-C", str(TOP), "describe", "--always", "--dirty"], text=True,
-                            stdout=subprocess.PIPE).stdout.strip()
     given, model = runs.given, model.group(1) if model else "an unknown processor"
-    return (f"{given.size:,} keys, {given.questions:,} questions, the least of {given.rounds} "
-            f"rounds in turn, seed {given.seed}; {model}, "
-            f"{os.cpu_count()} processors, load {os.getloadavg()[0]:.1f}; commit {commit}.")
+    of = of or f"{given.size:,} keys"
+    rounds = "one round" if given.rounds == 1 else f"the least of {given.rounds} rounds in turn"
+    return (f"{of}, {rounds}, seed {given.seed}; {model}, {os.cpu_count()} processors, "
+            f"load {os.getloadavg()[0]:.1f}; commit {runs.commit}.")
 
 
-def write(runs, name, head, rows, says=None):
-    """Writes a table, and what it shows, between its marks."""
+def write(runs, name, head, rows, says=None, of=None):
+    """Writes a table, and what it shows and was measured of, between its marks."""
     head = [f"{datetime.date.today()}, {head[0]}", *head[1:]]
     lines = ["| " + " | ".join(map(str, line)) + " |" for line in (head, *rows)]
     table = "\n".join([lines[0], "|---" * len(head) + "|", *lines[1:]])
-    below = [textwrap.fill(text, 100) for text in (says, measured_on(runs)) if text]
+    below = [textwrap.fill(text, 100) for text in (says, measured_on(runs, of)) if text]
     put(runs, name, "\n\n".join(["", table, *below])[1:] + "\n")
 
 
