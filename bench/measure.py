@@ -41,9 +41,7 @@ class Runs:
         self.given = given
         self.pgmtool = os.environ.get("PGMTOOL", TOP / "crates/pgmtool/out/pgmtool")
         self.bench = os.environ.get("BENCH", TOP / "crates/bench/out/bench")
-        # Asked once, since the page changes with the first table.
-        self.commit = subprocess.run(["git", "-C", str(TOP), "describe", "--always", "--dirty"],
-                                     text=True, stdout=subprocess.PIPE).stdout.strip()
+        self.commit = commit()
 
     def rounds(self):
         return range(self.given.rounds)
@@ -117,6 +115,16 @@ class Runs:
         names = {path.stem for path in (self.made / "data").glob("*.points")}
         made = [(kind, dims) for kind in ("uniform", "clustered") for dims in (2, 3)]
         return made + [(name, 2) for name in sorted(names) if "." not in name]
+
+
+def commit():
+    """The commit of what is measured, `-dirty` where programs or rivals have changed since."""
+    git = ["git", "-C", str(TOP)]
+    name = subprocess.run([*git, "rev-parse", "--short", "HEAD"], text=True,
+                          stdout=subprocess.PIPE).stdout.strip()
+    measured = "crates", "crates.txt", "bench/rivals"
+    changed = subprocess.run([*git, "diff", "--quiet", "HEAD", "--", *measured]).returncode
+    return f"{name}-dirty" if changed else name
 
 
 def agree(what, found):

@@ -15,15 +15,16 @@ using std::size_t;
 template <int D> using Point = std::array<u32, D>;
 template <int D> struct Box { Point<D> low, high; };
 
-template <int D> constexpr u64 mask(int d) {
-    u64 bits = 0;
-    for (int b = 0; b < 64 / D; ++b) bits |= u64(1) << (b * D);
-    return bits << d;
-}
+// The bits that each coordinate has in a code.
+template <int D> constexpr std::array<u64, D> MASKS = [] {
+    std::array<u64, D> masks{};
+    for (int b = 0; b < 64 / D * D; ++b) masks[b % D] |= u64(1) << b;
+    return masks;
+}();
 
 template <int D> static u64 encode(const Point<D> &point) {
     u64 code = 0;
-    for (int d = 0; d < D; ++d) code |= _pdep_u64(point[d], mask<D>(d));
+    for (int d = 0; d < D; ++d) code |= _pdep_u64(point[d], MASKS<D>[d]);
     return code;
 }
 
@@ -31,7 +32,7 @@ template <int D> static u64 encode(const Point<D> &point) {
 template <int D> static bool is_inside(u64 code, u64 low, u64 high) {
     bool inside = true;
     for (int d = 0; d < D; ++d) {
-        u64 bits = mask<D>(d), at = code & bits;
+        u64 bits = MASKS<D>[d], at = code & bits;
         inside &= (at >= (low & bits)) & (at <= (high & bits));
     }
     return inside;
@@ -41,7 +42,7 @@ template <int D> static bool is_inside(u64 code, u64 low, u64 high) {
 template <int D> static u64 next_inside(u64 code, u64 low, u64 high) {
     u64 best = high, differ = (code ^ low) | (code ^ high);
     for (int b = differ ? 63 - __builtin_clzll(differ) : -1; b >= 0; --b) {
-        u64 bit = u64(1) << b, below = mask<D>(b % D) & (bit - 1);
+        u64 bit = u64(1) << b, below = MASKS<D>[b % D] & (bit - 1);
         switch (((code >> b) & 1) << 2 | ((low >> b) & 1) << 1 | ((high >> b) & 1)) {
         case 1:
             best = (low | bit) & ~below;
@@ -87,7 +88,7 @@ template <int D> static void visit(const std::vector<u64> &codes, const Box<D> &
         u64 code = codes[i];
         if (is_inside<D>(code, low, high)) {
             ++found.points;
-            for (int d = 0; d < D; ++d) found.sum += _pext_u64(code, mask<D>(d)) * (2 * d + 1);
+            for (int d = 0; d < D; ++d) found.sum += _pext_u64(code, MASKS<D>[d]) * (2 * d + 1);
             passed = 0;
         } else if (++passed > PASSED) {
             passed = 0;
