@@ -24,8 +24,7 @@ draw map "The map" "nanoseconds an operation" 2 1
 draw readers "Readers beside a writer" "millions of looks a second" 1 2 4 5
 draw senders "Several senders" "millions of updates a second"
 draw saved "Saved indexes" "seconds" 1 2 3
-draw from_c "From C" "nanoseconds a question" 3 2 1 \
-  "5.2=std::lower_bound, chained" "5.1=C++ PGM-index, chained" "5.0=kuldebiq_position, chained" 4
+draw from_c "From C" "nanoseconds a question of one thread"
 
 # The plot wants the tables of lines and of memory too.
 if python3 dev/plot.py bench/README.md > docs/pictures/bytes.new; then

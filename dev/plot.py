@@ -44,6 +44,19 @@ def stroke(x, y, to_x, to_y, colour, wide):
     return f'<line x1="{x:.1f}" y1="{y:.1f}" x2="{to_x:.1f}" y2="{to_y:.1f}" stroke="{colour}" stroke-width="{wide}"/>'
 
 
+def free_side(x, y, wide, taken):
+    """Where words of this width stand beside a point without lying over others, and at which end they are held."""
+    for x_of, y_of, anchor, left in ((x, y - 8, "middle", x - wide / 2), (x, y + 16, "middle", x - wide / 2),
+                                     (x + 8, y + 3, "start", x + 8), (x - 8, y + 3, "end", x - 8 - wide),
+                                     (x, y - 20, "middle", x - wide / 2), (x, y + 28, "middle", x - wide / 2)):
+        if left > 0 and left + wide < WIDTH and all(
+                left >= at + long or left + wide <= at or y_of - 9 >= top + tall or y_of + 2 <= top
+                for at, top, long, tall in taken):
+            break
+    taken.append((left, y_of - 9, wide, 11))
+    return x_of, y_of, anchor
+
+
 def picture(indexes, halving, kinds):
     """The picture of indexes, each a name and its points: nanoseconds, bytes and a name."""
     spots = [spot for _, points in indexes for spot in points]
@@ -68,13 +81,15 @@ def picture(indexes, halving, kinds):
     made += [text((LEFT + WIDTH - RIGHT) / 2, TALL - 10, "bytes beyond the keys"),
              stroke(LEFT, down(halving), WIDTH - RIGHT, down(halving), "#9aa5b1", 1.5),
              text(WIDTH - RIGHT, down(halving) - 5, f"std::lower_bound, {halving:.0f}", "end")]
-    for at, (colour, (name, points)) in enumerate(zip(COLOURS, indexes)):
+    taken = [(across(size) - 5, down(nanoseconds) - 5, 10, 10) for nanoseconds, size, _ in spots]
+    for colour, (name, points) in zip(COLOURS, indexes):
         for one, next_one in zip(points, points[1:]):
             made.append(stroke(across(one[1]), down(one[0]), across(next_one[1]), down(next_one[0]), colour, 1.5))
         for nanoseconds, size, bound in points:
-            made += [f'<circle cx="{across(size):.1f}" cy="{down(nanoseconds):.1f}" r="4" fill="{colour}"/>',
-                     text(across(size), down(nanoseconds) + (16 if at % 2 else -8), f"{name}, {bound}", "middle",
-                          colour)]
+            x, y, words = across(size), down(nanoseconds), f"{name}, {bound}"
+            x_of, y_of, anchor = free_side(x, y, 5.5 * len(words), taken)
+            made += [f'<circle cx="{x:.1f}" cy="{y:.1f}" r="4" fill="{colour}"/>',
+                     text(x_of, y_of, words, anchor, colour)]
     return "\n".join([f'<svg xmlns="http://www.w3.org/2000/svg" width="{WIDTH}" height="{TALL}" '
                       f'viewBox="0 0 {WIDTH} {TALL}" font-family="sans-serif" font-size="10">',
                       f'<rect width="{WIDTH}" height="{TALL}" fill="#ffffff"/>', *made, "</svg>"])
@@ -91,7 +106,8 @@ def main():
     missing = wanted - set(tables)
     if missing:
         sys.exit(f"plot.py: no table {', '.join(sorted(missing))} in {sys.argv[1]}")
-    kinds = set.intersection(*(set(tables[name]) for name in wanted))
+    # Consecutive numbers stand in no mean of the page.
+    kinds = set.intersection(*(set(tables[name]) for name in wanted)) - {"numbers"}
 
     def over_kinds(name, column):
         return mean([tables[name][kind][column] for kind in sorted(kinds)])
