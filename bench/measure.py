@@ -735,7 +735,7 @@ def measured_on(runs, of):
         model = re.search(r"model name\s*: (.*)", file.read())
     given, model = runs.given, model.group(1) if model else "an unknown processor"
     of = of or f"{given.size:,} keys"
-    rounds = "one round" if given.rounds == 1 else f"the least of {given.rounds} rounds in turn"
+    rounds = "one round" if given.rounds == 1 else f"the best of {given.rounds} rounds in turn"
     return (f"{of}, {rounds}, seed {given.seed}; {model}, {os.cpu_count()} processors, "
             f"load {os.getloadavg()[0]:.1f}; commit {runs.commit}.")
 
