@@ -11,6 +11,7 @@ use bucketed::Buckets;
 use budget::NoMemory;
 use key_search::{positions_among, positions_grouped};
 use levels::Index;
+use options::Table;
 use std::alloc::Global;
 
 /// So many questions are grouped by where they fall among the sorted keys: fewer gain little by it.
@@ -28,17 +29,15 @@ pub enum Finder<'a> {
 }
 
 impl<'a> Finder<'a> {
-    /// A finder over an index: by a table that goes by so many bits of a key, at most 20, or where
-    /// they are 0 by the levels.
-    pub fn of(alloc: Global, index: &'a Index, bits: u32) -> Result<Finder<'a>, NoMemory>
-        requires few { bits ≤ 20 }
+    /// A finder over an index: by a table, or where it goes by no bits of a key by the levels.
+    pub fn of(alloc: Global, index: &'a Index, table: Table) -> Result<Finder<'a>, NoMemory>
         ensures keys { IfOk result (λ finder. keys_of finder ≡ index.now.keys) }
-        ensures way { IfOk result (FindsBy bits) }
+        ensures way { IfOk result (FindsBy table.bits) }
     {
-        if bits == 0 {
+        if table.bits == 0 {
             Ok(Finder::Levels(index))
         } else {
-            Ok(Finder::Table(Buckets::build(alloc, index, bits)?))
+            Ok(Finder::Table(Buckets::build(alloc, index, table.bits)?))
         }
     }
 

@@ -54,8 +54,9 @@ pub use task::{
 };
 use written::Unfinished;
 
-/// Writes the text of the task. An index is built by workers, which pass the gate before and after
-/// each piece. Readers of a map pass it before each question, and their writer after each batch.
+/// Writes the text of the task. An index and a map's levels are built by workers, which pass the
+/// gate before and after each piece. Readers of a map pass it before each question, their writer
+/// after each batch, and senders before each update's first try.
 pub fn write<R: Threads + Wait + Sync, S: Sink, G: Gate>(
     rt: &R,
     alloc: Global,

@@ -50,7 +50,7 @@ pub fn write<R: Threads + Sync, S: Sink, G: Gate>(
     }
     let (bounds, workers) = (indexing.bounds, indexing.workers);
     let index = index_of(rt, alloc, indexing, gate)?;
-    let finder = Finder::of(alloc, &index, table.bits)?;
+    let finder = Finder::of(alloc, &index, table)?;
     let questions = questions.as_slice();
     let positions = positions_of(rt, alloc, &finder, workers, questions)?;
     let told = if windows { Some(&index) } else { None };

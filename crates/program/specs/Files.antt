@@ -1,6 +1,6 @@
 -- Files by their names, where a shelf tells them.
-use Rattle.std.specs.Prelude.{◌≡◌, ◌≢◌, ℕ, ◌<◌, ◌^◌, List, length, Option, Some, None, IfSome}
-use Rattle.std.specs.List.Sorted.{IsNonDecreasing}
+use Rattle.std.specs.Prelude.{◌≡◌, ◌≢◌, ℕ, List, Option, Some, None, IfSome}
+use Rattle.key_points.specs.Falls.{AreKeys}
 use Rattle.zorder.specs.Points.{ArePoints}
 use Rattle.sosd_reader.specs.declared.fault.KeyFault.{KeyFault}
 use Rattle.sosd_reader.specs.declared.fault.KeyFault.TheVariants.{Unsorted, Wide}
@@ -23,11 +23,6 @@ IsMissing files name = (contents : List ℕ → Option (List ℕ)) × (files ≡
 abbrev pub IsFirstMissing : Files → Option (List ℕ) → Type 0
 IsFirstMissing files None = ⊥
 IsFirstMissing files (Some name) = IsMissing files name
-
--- keys that never fall, fewer than 2^32
-pub record AreKeys (keys : List ℕ) : Type 0 where
-  pub never_falls : IsNonDecreasing keys
-  pub few : length keys < 2 ^ 32
 
 -- what is read of a file of this kind, told or not
 abbrev pub IsReadable : Kind → List ℕ → Type 0

@@ -61,8 +61,8 @@ use written::Unfinished;
 ///
 /// `words` begins with the program's name. All reading is done before anything is written. Each
 /// text line is handed to the sink as one piece, and what it left of it again. Returns the status
-/// that the program ends with. Threads that build an index pass the gate, and so do the readers of
-/// a map and their writer.
+/// that the program ends with. Threads that build an index or a map's level pass the gate, and so
+/// do a map's readers, its writer and its senders.
 pub fn run<R: AllocGlobal + Threads + Wait + Sync, F: Shelf, S: Sink, G: Gate>(
     rt: &R,
     words: &[String],
