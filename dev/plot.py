@@ -1,9 +1,9 @@
 #!/usr/bin/env python3
-"""Draws how long a lookup takes beside how many bytes an index takes, in SVG: plot.py PAGE
+"""Draws what part of a binary search's time a lookup takes beside how many bytes an index takes, in SVG: plot.py PAGE
 
-Both are read from the tables of the page bench/README.md: nanoseconds of an independent question from `lookups`, `lookups by tables` and `lines`,
-bytes beyond the keys from `memory` and `words of lines`. Each is the geometric mean over the kinds of keys that all these tables have; a scale of
-bytes is by powers of ten. The points of one index at several error bounds are joined. `draw_bars.sh` draws docs/pictures/bytes.svg.
+Both are read from the tables of the page bench/README.md: what part of the time of std::lower_bound in the same run an independent question takes
+from `lookups`, `lookups by tables` and `lines`, bytes beyond the keys from `memory` and `words of lines`. Each is the geometric mean over the kinds
+of keys that all these tables have, but for consecutive numbers; a scale of bytes is by powers of ten. The points of one index at several error bounds are joined. `draw_bars.sh` draws docs/pictures/bytes.svg.
 """
 import math
 import re
@@ -13,6 +13,8 @@ from html import escape
 WIDTH, TALL, LEFT, RIGHT, TOP, BOTTOM = 760, 420, 56, 24, 34, 44
 COLOURS = ("#1b6ca8", "#2e8b57", "#d9a441", "#8e6bb0", "#c0392b", "#6fc3c9")
 # Of each index its points: a name beside the point, where the nanoseconds and where the bytes are, by table and column.
+# Column 1 of the tables in BASE has the nanoseconds of std::lower_bound in the same run.
+BASE = {"lookups": "lookups", "lookups by tables": "lookups", "lines": "lines"}
 INDEXES = (
     ("Index", ("ε 16", "lookups by tables", 6, "memory", 3), ("ε 64", "lookups", 3, "memory", 4)),
     ("lines", ("ε 16", "lines", 5, "words of lines", 4), ("ε 64", "lines", 6, "words of lines", 5)),
@@ -48,7 +50,8 @@ def free_side(x, y, wide, taken):
     """Where words of this width stand beside a point without lying over others, and at which end they are held."""
     for x_of, y_of, anchor, left in ((x, y - 8, "middle", x - wide / 2), (x, y + 16, "middle", x - wide / 2),
                                      (x + 8, y + 3, "start", x + 8), (x - 8, y + 3, "end", x - 8 - wide),
-                                     (x, y - 20, "middle", x - wide / 2), (x, y + 28, "middle", x - wide / 2)):
+                                     (x, y - 20, "middle", x - wide / 2), (x, y + 28, "middle", x - wide / 2),
+                                     (x, y - 32, "middle", x - wide / 2), (x, y + 40, "middle", x - wide / 2)):
         if left > 0 and left + wide < WIDTH and all(
                 left >= at + long or left + wide <= at or y_of - 9 >= top + tall or y_of + 2 <= top
                 for at, top, long, tall in taken):
@@ -57,12 +60,12 @@ def free_side(x, y, wide, taken):
     return x_of, y_of, anchor
 
 
-def picture(indexes, halving, kinds):
-    """The picture of indexes, each a name and its points: nanoseconds, bytes and a name."""
+def picture(indexes, kinds):
+    """The picture of indexes, each a name and its points: percents of halving's time, bytes and a name."""
     spots = [spot for _, points in indexes for spot in points]
     first = math.floor(math.log10(min(spot[1] for spot in spots)))
     last = math.ceil(math.log10(max(spot[1] for spot in spots)))
-    most = 100 * math.ceil(max(halving, *(spot[0] for spot in spots)) / 100)
+    most = 20 * math.ceil(max(100, *(spot[0] for spot in spots)) / 20)
 
     def across(number):
         return LEFT + (math.log10(number) - first) / (last - first) * (WIDTH - LEFT - RIGHT)
@@ -70,23 +73,22 @@ def picture(indexes, halving, kinds):
     def down(number):
         return TALL - BOTTOM - number / most * (TALL - TOP - BOTTOM)
 
-    made = [text(LEFT, 16, f"nanoseconds of an independent question, in the mean of {kinds} kinds of keys", "start")]
+    made = [text(LEFT, 16, f"percent of the time of std::lower_bound in the same run, in the mean of {kinds} kinds of keys", "start")]
     for power in range(first, last + 1):
         made += [stroke(across(10 ** power), TOP, across(10 ** power), TALL - BOTTOM, "#e4e7eb", 1),
                  text(across(10 ** power), TALL - BOTTOM + 14, f"{10 ** power:,}",
                       "end" if power == last else "middle")]
-    for height in range(0, most + 1, 100):
+    for height in range(0, most + 1, 20):
         made += [stroke(LEFT, down(height), WIDTH - RIGHT, down(height), "#e4e7eb", 1),
                  text(LEFT - 6, down(height) + 3, str(height), "end")]
     made += [text((LEFT + WIDTH - RIGHT) / 2, TALL - 10, "bytes beyond the keys"),
-             stroke(LEFT, down(halving), WIDTH - RIGHT, down(halving), "#9aa5b1", 1.5),
-             text(WIDTH - RIGHT, down(halving) - 5, f"std::lower_bound, {halving:.0f}", "end")]
-    taken = [(across(size) - 5, down(nanoseconds) - 5, 10, 10) for nanoseconds, size, _ in spots]
+             stroke(LEFT, down(100), WIDTH - RIGHT, down(100), "#9aa5b1", 1.5)]
+    taken = [(across(size) - 5, down(part) - 5, 10, 10) for part, size, _ in spots]
     for colour, (name, points) in zip(COLOURS, indexes):
         for one, next_one in zip(points, points[1:]):
             made.append(stroke(across(one[1]), down(one[0]), across(next_one[1]), down(next_one[0]), colour, 1.5))
-        for nanoseconds, size, bound in points:
-            x, y, words = across(size), down(nanoseconds), f"{name}, {bound}"
+        for part, size, bound in points:
+            x, y, words = across(size), down(part), f"{name}, {bound}"
             x_of, y_of, anchor = free_side(x, y, 5.5 * len(words), taken)
             made += [f'<circle cx="{x:.1f}" cy="{y:.1f}" r="4" fill="{colour}"/>',
                      text(x_of, y_of, words, anchor, colour)]
@@ -112,9 +114,12 @@ def main():
     def over_kinds(name, column):
         return mean([tables[name][kind][column] for kind in sorted(kinds)])
 
-    indexes = [(name, [(over_kinds(times, at), over_kinds(sizes, of), bound) for bound, times, at, sizes, of in points])
+    def part(times, at):
+        return 100 * over_kinds(times, at) / over_kinds(BASE[times], 1)
+
+    indexes = [(name, [(part(times, at), over_kinds(sizes, of), bound) for bound, times, at, sizes, of in points])
                for name, *points in INDEXES]
-    print(picture(indexes, over_kinds("lookups", 1), len(kinds)))
+    print(picture(indexes, len(kinds)))
 
 
 if __name__ == "__main__":
