@@ -27,7 +27,7 @@ use Rattle.clap.specs.declared.parser.matches.SubCommand.{SubCommand}
 use Rattle.exact_cross.specs.declared.TheConstants.{MAX_EPSILON}
 use Rattle.options.specs.declared.drawing.TheConstants.{MAX_DRAWN}
 use Rattle.options.specs.declared.index.TheConstants.{MAX_BITS, MAX_PIECES, MAX_WORKERS}
-use Rattle.options.specs.declared.map.TheConstants.{MAX_READERS, MAX_SENDERS}
+use Rattle.options.specs.declared.map.TheConstants.{MAX_LEVELS, MAX_READERS, MAX_SENDERS}
 use Rattle.command_line.specs.declared.definition.TheConstants.{GREATEST_SEED}
 use Rattle.command_line.specs.declared.request.TheConstants.{MAX_BATCH}
 use Rattle.command_line.specs.Commands.{Command, application, commands, request_for}
@@ -182,11 +182,11 @@ index_options rules rows eps eps_rec workers narrow passed = record {
 }
 
 -- of rules that let these numbers through
-replay_options : (rules : List Rule) (rows : List Row) → (list_all (takes_numbers 1 26 (codes "levels")) rules ≡ true) →
+replay_options : (rules : List Rule) (rows : List Row) → (list_all (takes_numbers 1 MAX_LEVELS (codes "levels")) rules ≡ true) →
     (list_all (takes_numbers 1 MAX_BATCH (codes "batch")) rules ≡ true) → (list_all (takes_numbers 0 MAX_READERS (codes "readers")) rules ≡ true) →
     (list_all (takes_numbers 1 MAX_WORKERS (codes "workers")) rules ≡ true) → ArePassed rules rows → AreReplayOptions rows
 replay_options rules rows levels batch readers workers passed = record {
-  levels = number_reads rules 1 26 (codes "levels") rows levels passed;
+  levels = number_reads rules 1 MAX_LEVELS (codes "levels") rows levels passed;
   batch = number_reads rules 1 MAX_BATCH (codes "batch") rows batch passed;
   readers = number_reads rules 0 MAX_READERS (codes "readers") rows readers passed;
   workers = number_reads rules 1 MAX_WORKERS (codes "workers") rows workers passed;

@@ -7,7 +7,7 @@ use Rattle.clap.specs.declared.builder.value_parser.ValueParser.TheVariants as p
 use Rattle.exact_cross.specs.declared.TheConstants.{MAX_EPSILON}
 use Rattle.options.specs.declared.drawing.TheConstants.{MAX_DRAWN}
 use Rattle.options.specs.declared.index.TheConstants.{MAX_BITS, MAX_PIECES, MAX_WORKERS}
-use Rattle.options.specs.declared.map.TheConstants.{MAX_READERS, MAX_SENDERS}
+use Rattle.options.specs.declared.map.TheConstants.{MAX_LEVELS, MAX_READERS, MAX_SENDERS}
 use Rattle.command_line.specs.declared.definition.TheConstants.{GREATEST_SEED}
 use Rattle.command_line.specs.declared.request.TheConstants.{MAX_BATCH}
 
@@ -72,7 +72,7 @@ points_rules = positional (codes "FILE") ∷ positional (codes "SCRIPT") ∷ num
 
 -- a script of updates and questions, how many levels the map has that they are made to and asked of, and how many updates a batch has
 abbrev pub batch_rules : List Rule
-batch_rules = positional (codes "SCRIPT") ∷ number (codes "levels") 1 26 (codes "20") ∷ number (codes "batch") 1 MAX_BATCH (codes "16") ∷ []
+batch_rules = positional (codes "SCRIPT") ∷ number (codes "levels") 1 MAX_LEVELS (codes "20") ∷ number (codes "batch") 1 MAX_BATCH (codes "16") ∷ []
 
 -- and how many readers ask beside the writer
 abbrev pub replay_rules : List Rule

@@ -6,7 +6,7 @@ use Rattle.clap.specs.Takes.{values_pass}
 use Rattle.exact_cross.specs.declared.TheConstants.{MAX_EPSILON}
 use Rattle.options.specs.declared.drawing.TheConstants.{MAX_DRAWN}
 use Rattle.options.specs.declared.index.TheConstants.{MAX_BITS, MAX_PIECES, MAX_WORKERS}
-use Rattle.options.specs.declared.map.TheConstants.{MAX_READERS, MAX_SENDERS}
+use Rattle.options.specs.declared.map.TheConstants.{MAX_LEVELS, MAX_READERS, MAX_SENDERS}
 use Rattle.command_line.specs.declared.definition.TheConstants.{GREATEST_SEED}
 use Rattle.command_line.specs.declared.request.TheConstants.{MAX_BATCH}
 
@@ -59,7 +59,7 @@ pub record AreLineOptions (rows : List Row) : Type 0 where
 
 -- what the options of a replay hold
 pub record AreReplayOptions (rows : List Row) : Type 0 where
-  pub levels : IsNumberIn 1 26 (codes "levels") rows
+  pub levels : IsNumberIn 1 MAX_LEVELS (codes "levels") rows
   pub batch : IsNumberIn 1 MAX_BATCH (codes "batch") rows
   pub readers : IsNumberIn 0 MAX_READERS (codes "readers") rows
   pub workers : IsNumberIn 1 MAX_WORKERS (codes "workers") rows

@@ -2,7 +2,8 @@
 use Rattle.std.specs.Prelude.{ℕ, Bool, false, List, Option, Some, None, codes, bytes_eq, unwrap_or}
 use Rattle.std.specs.Option.{option_map_or}
 use Rattle.std.specs.Str.Parse.{digits_value, without_leading_plus}
-use Rattle.clap.specs.Words.{Text, Row, first_of, one_of}
+use Rattle.clap.specs.declared.parser.matches.ArgMatches.{ArgMatches}
+use Rattle.clap.specs.Words.{Text, Row, first_of, found_of, one_of, rows_of}
 use Rattle.options.specs.declared.index.TheConstants.{EPS, EPS_REC}
 use Rattle.command_line.specs.declared.request.Building as declared_building
 use Rattle.command_line.specs.declared.request.Searching as declared_searching
@@ -13,6 +14,10 @@ use Rattle.command_line.specs.declared.request.Lining as declared_lining
 use Rattle.command_line.specs.declared.request.Finding as declared_finding
 use Rattle.command_line.specs.declared.request.Request as declared
 use Rattle.command_line.specs.declared.request.Request.TheVariants as variant
+
+-- what `clap` found, argument by argument
+abbrev pub rows_in : ArgMatches → List Row
+rows_in found = rows_of (found_of found)
 
 -- a key file, and how its index is built; the number of workers isn't told, since no answer depends on it
 pub record Building : Type 0 where

@@ -18,7 +18,7 @@ ghost use Rattle.exact_cross.specs.declared.TheConstants.{MAX_EPSILON};
 use crate::request::MAX_BATCH;
 use clap::{Arg, ArgAction, Command, value_parser};
 use exact_cross::MAX_EPSILON;
-use options::{MAX_BITS, MAX_DRAWN, MAX_PIECES, MAX_READERS, MAX_SENDERS, MAX_WORKERS};
+use options::{MAX_BITS, MAX_DRAWN, MAX_LEVELS, MAX_PIECES, MAX_READERS, MAX_SENDERS, MAX_WORKERS};
 use std::alloc::{AllocError, Global};
 
 /// The greatest seed of a drill.
@@ -162,7 +162,7 @@ fn batch_command<'a>(alloc: Global, name: &'a str) -> Result<Command<'a>, AllocE
 {
     Command::new(alloc, name)
         .arg(positional(alloc, "SCRIPT"))?
-        .arg(number(alloc, "levels", 1, 26, "20"))?
+        .arg(number(alloc, "levels", 1, MAX_LEVELS, "20"))?
         .arg(number(alloc, "batch", 1, MAX_BATCH, "16"))
 }
 

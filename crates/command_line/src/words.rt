@@ -2,7 +2,7 @@
 ghost use Rattle.std.specs.Prelude.{◌≡◌, ◌<◌, ◌≤◌, ◌^◌, ℕ, List, map, Some, IfOk, Err};
 ghost use Rattle.std.specs.Prelude.{codes, option_map, option_and_then, IsSome};
 ghost use Rattle.std.specs.String.{string_bytes};
-ghost use Rattle.clap.specs.Words.{Text, found_of, rows_of, subcommand_of, subcommand_rows_of};
+ghost use Rattle.clap.specs.Words.{Text, subcommand_of, subcommand_rows_of};
 ghost use Rattle.exact_cross.specs.declared.TheConstants.{MAX_EPSILON};
 ghost use Rattle.options.specs.declared.index.TheConstants.{EPS, EPS_REC, MAX_WORKERS};
 ghost use Rattle.command_line.specs.declared.request.TheConstants.{MAX_BATCH};
@@ -10,7 +10,7 @@ ghost use Rattle.command_line.specs.Commands.{application, request_for};
 ghost use Rattle.command_line.specs.Requests.{asked_of, building_of, built_of, is_given, name_in};
 ghost use Rattle.command_line.specs.Requests.{number_in, query_of, relax_of};
 ghost use Rattle.command_line.specs.Requests.{searched_of, searching_of, replayed_of};
-ghost use Rattle.command_line.specs.Requests.{mix_of, replaying_of};
+ghost use Rattle.command_line.specs.Requests.{mix_of, replaying_of, rows_in};
 ghost use Rattle.command_line.specs.Words.{AreRefused, AreTaken, AskFor, request_of};
 ghost use Rattle.command_line.specs.Passed.{AreIndexOptions, AreQueryOptions, AreReplayOptions};
 ghost use Rattle.command_line.specs.Passed.{IsDimensionOption, IsFlag, IsNumberIn};
@@ -120,9 +120,9 @@ fn request_in<'a>(matches: &ArgMatches<'a>) -> Option<Request<'a>>
 }
 
 fn query_in<'a>(found: &ArgMatches<'a>) -> Request<'a>
-    requires index { AreIndexOptions (rows_of (found_of found.now)) }
-    requires options { AreQueryOptions (rows_of (found_of found.now)) }
-    ensures { asked_of result ≡ query_of (rows_of (found_of found.now)) }
+    requires index { AreIndexOptions (rows_in found.now) }
+    requires options { AreQueryOptions (rows_in found.now) }
+    ensures { asked_of result ≡ query_of (rows_in found.now) }
 {
     Request::Query {
         building: building_in(found),
@@ -133,9 +133,9 @@ fn query_in<'a>(found: &ArgMatches<'a>) -> Request<'a>
 }
 
 fn relax_in<'a>(found: &ArgMatches<'a>) -> Request<'a>
-    requires index { AreIndexOptions (rows_of (found_of found.now)) }
-    requires pieces { IsPiecesOption (rows_of (found_of found.now)) }
-    ensures { asked_of result ≡ relax_of (rows_of (found_of found.now)) }
+    requires index { AreIndexOptions (rows_in found.now) }
+    requires pieces { IsPiecesOption (rows_in found.now) }
+    ensures { asked_of result ≡ relax_of (rows_in found.now) }
 {
     Request::Relax {
         building: building_in(found),
@@ -145,8 +145,8 @@ fn relax_in<'a>(found: &ArgMatches<'a>) -> Request<'a>
 }
 
 fn pieces_in(found: &ArgMatches<'_>) -> Pieces
-    requires { IsPiecesOption (rows_of (found_of found.now)) }
-    ensures { result.count ≡ number_in (codes "pieces") 4 (rows_of (found_of found.now)) }
+    requires { IsPiecesOption (rows_in found.now) }
+    ensures { result.count ≡ number_in (codes "pieces") 4 (rows_in found.now) }
 {
     Pieces {
         count: number_in(found, "pieces", 4),
@@ -154,7 +154,7 @@ fn pieces_in(found: &ArgMatches<'_>) -> Pieces
 }
 
 fn table_in(found: &ArgMatches<'_>) -> Table
-    requires { AreQueryOptions (rows_of (found_of found.now)) }
+    requires { AreQueryOptions (rows_in found.now) }
 {
     Table {
         bits: number_in(found, "buckets", 0),
@@ -162,8 +162,8 @@ fn table_in(found: &ArgMatches<'_>) -> Table
 }
 
 fn building_in<'a>(found: &ArgMatches<'a>) -> Building<'a>
-    requires { AreIndexOptions (rows_of (found_of found.now)) }
-    ensures { built_of result ≡ building_of (rows_of (found_of found.now)) }
+    requires { AreIndexOptions (rows_in found.now) }
+    ensures { built_of result ≡ building_of (rows_in found.now) }
 {
     Building {
         file: name_in(found, "FILE"),
@@ -174,8 +174,8 @@ fn building_in<'a>(found: &ArgMatches<'a>) -> Building<'a>
 }
 
 fn searching_in<'a>(found: &ArgMatches<'a>) -> Searching<'a>
-    requires { IsDimensionOption (rows_of (found_of found.now)) }
-    ensures { searched_of result ≡ searching_of (rows_of (found_of found.now)) }
+    requires { IsDimensionOption (rows_in found.now) }
+    ensures { searched_of result ≡ searching_of (rows_in found.now) }
 {
     Searching {
         file: name_in(found, "FILE"),
@@ -185,8 +185,8 @@ fn searching_in<'a>(found: &ArgMatches<'a>) -> Searching<'a>
 }
 
 fn replaying_in<'a>(found: &ArgMatches<'a>) -> Replaying<'a>
-    requires { AreReplayOptions (rows_of (found_of found.now)) }
-    ensures { replayed_of result ≡ replaying_of (rows_of (found_of found.now)) }
+    requires { AreReplayOptions (rows_in found.now) }
+    ensures { replayed_of result ≡ replaying_of (rows_in found.now) }
 {
     Replaying {
         script: name_in(found, "SCRIPT"),
@@ -195,9 +195,9 @@ fn replaying_in<'a>(found: &ArgMatches<'a>) -> Replaying<'a>
 }
 
 fn mix_in<'a>(found: &ArgMatches<'a>) -> Request<'a>
-    requires replay { AreReplayOptions (rows_of (found_of found.now)) }
-    requires senders { IsSendersOption (rows_of (found_of found.now)) }
-    ensures { asked_of result ≡ mix_of (rows_of (found_of found.now)) }
+    requires replay { AreReplayOptions (rows_in found.now) }
+    requires senders { IsSendersOption (rows_in found.now) }
+    ensures { asked_of result ≡ mix_of (rows_in found.now) }
 {
     Request::Mix {
         replaying: replaying_in(found),
@@ -206,8 +206,8 @@ fn mix_in<'a>(found: &ArgMatches<'a>) -> Request<'a>
 }
 
 fn senders_in(found: &ArgMatches<'_>) -> Senders
-    requires { IsSendersOption (rows_of (found_of found.now)) }
-    ensures { result.count ≡ number_in (codes "senders") 2 (rows_of (found_of found.now)) }
+    requires { IsSendersOption (rows_in found.now) }
+    ensures { result.count ≡ number_in (codes "senders") 2 (rows_in found.now) }
 {
     Senders {
         count: number_in(found, "senders", 2),
@@ -215,8 +215,8 @@ fn senders_in(found: &ArgMatches<'_>) -> Senders
 }
 
 fn lining_in<'a>(found: &ArgMatches<'a>) -> Lining<'a>
-    requires { AreLineOptions (rows_of (found_of found.now)) }
-    ensures { lined_of result ≡ lining_of (rows_of (found_of found.now)) }
+    requires { AreLineOptions (rows_in found.now) }
+    ensures { lined_of result ≡ lining_of (rows_in found.now) }
 {
     Lining {
         file: name_in(found, "FILE"),
@@ -226,8 +226,8 @@ fn lining_in<'a>(found: &ArgMatches<'a>) -> Lining<'a>
 }
 
 fn finding_in<'a>(found: &ArgMatches<'a>) -> Finding<'a>
-    requires { IsNarrowOption (rows_of (found_of found.now)) }
-    ensures { found_by result ≡ finding_of (rows_of (found_of found.now)) }
+    requires { IsNarrowOption (rows_in found.now) }
+    ensures { found_by result ≡ finding_of (rows_in found.now) }
 {
     Finding {
         file: name_in(found, "FILE"),
@@ -238,8 +238,8 @@ fn finding_in<'a>(found: &ArgMatches<'a>) -> Finding<'a>
 }
 
 fn drilling_in(found: &ArgMatches<'_>) -> Drilling
-    requires { AreDrillOptions (rows_of (found_of found.now)) }
-    ensures { drilled_of result ≡ drilling_of (rows_of (found_of found.now)) }
+    requires { AreDrillOptions (rows_in found.now) }
+    ensures { drilled_of result ≡ drilling_of (rows_in found.now) }
 {
     Drilling {
         drill: drill_in(found),
@@ -249,8 +249,8 @@ fn drilling_in(found: &ArgMatches<'_>) -> Drilling
 }
 
 fn checking_in<'a>(found: &ArgMatches<'a>) -> Checking<'a>
-    requires { IsNarrowOption (rows_of (found_of found.now)) }
-    ensures { checked_of result ≡ checking_of (rows_of (found_of found.now)) }
+    requires { IsNarrowOption (rows_in found.now) }
+    ensures { checked_of result ≡ checking_of (rows_in found.now) }
 {
     Checking {
         file: name_in(found, "FILE"),
@@ -260,10 +260,10 @@ fn checking_in<'a>(found: &ArgMatches<'a>) -> Checking<'a>
 }
 
 fn bounds_in(found: &ArgMatches<'_>) -> Bounds
-    requires eps { IsNumberIn 0 MAX_EPSILON (codes "eps") (rows_of (found_of found.now)) }
-    requires eps_rec { IsNumberIn 0 MAX_EPSILON (codes "rec") (rows_of (found_of found.now)) }
-    ensures eps { result.eps ≡ number_in (codes "eps") EPS (rows_of (found_of found.now)) }
-    ensures eps_rec { result.eps_rec ≡ number_in (codes "rec") EPS_REC (rows_of (found_of found.now)) }
+    requires eps { IsNumberIn 0 MAX_EPSILON (codes "eps") (rows_in found.now) }
+    requires eps_rec { IsNumberIn 0 MAX_EPSILON (codes "rec") (rows_in found.now) }
+    ensures eps { result.eps ≡ number_in (codes "eps") EPS (rows_in found.now) }
+    ensures eps_rec { result.eps_rec ≡ number_in (codes "rec") EPS_REC (rows_in found.now) }
 {
     Bounds {
         eps: number_in(found, "eps", EPS),
@@ -272,7 +272,7 @@ fn bounds_in(found: &ArgMatches<'_>) -> Bounds
 }
 
 fn workers_in(found: &ArgMatches<'_>) -> Workers
-    requires { IsNumberIn 1 MAX_WORKERS (codes "workers") (rows_of (found_of found.now)) }
+    requires { IsNumberIn 1 MAX_WORKERS (codes "workers") (rows_in found.now) }
 {
     Workers {
         count: number_in(found, "workers", 4),
@@ -280,11 +280,11 @@ fn workers_in(found: &ArgMatches<'_>) -> Workers
 }
 
 fn plan_in(found: &ArgMatches<'_>) -> Plan
-    requires { AreReplayOptions (rows_of (found_of found.now)) }
-    ensures levels { result.levels ≡ number_in (codes "levels") 20 (rows_of (found_of found.now)) }
-    ensures batch { result.batch ≡ number_in (codes "batch") 16 (rows_of (found_of found.now)) }
+    requires { AreReplayOptions (rows_in found.now) }
+    ensures levels { result.levels ≡ number_in (codes "levels") 20 (rows_in found.now) }
+    ensures batch { result.batch ≡ number_in (codes "batch") 16 (rows_in found.now) }
     ensures readers { result.readers
-        ≡ number_in (codes "readers") 0 (rows_of (found_of found.now)) }
+        ≡ number_in (codes "readers") 0 (rows_in found.now) }
     ensures few_updates { result.batch ≤ MAX_BATCH }
 {
     Plan {
@@ -296,9 +296,9 @@ fn plan_in(found: &ArgMatches<'_>) -> Plan
 }
 
 fn drill_in(found: &ArgMatches<'_>) -> Drill
-    requires { AreDrillOptions (rows_of (found_of found.now)) }
-    ensures number { result.number ≡ number_in (codes "N") 1 (rows_of (found_of found.now)) }
-    ensures seed { result.seed ≡ number_in (codes "SEED") 0 (rows_of (found_of found.now)) }
+    requires { AreDrillOptions (rows_in found.now) }
+    ensures number { result.number ≡ number_in (codes "N") 1 (rows_in found.now) }
+    ensures seed { result.seed ≡ number_in (codes "SEED") 0 (rows_in found.now) }
 {
     Drill {
         number: number_in(found, "N", 1),
@@ -308,7 +308,7 @@ fn drill_in(found: &ArgMatches<'_>) -> Drill
 
 /// The name that was given.
 fn name_in<'a>(found: &ArgMatches<'a>, id: &str) -> &'a str
-    ensures { result.now ≡ name_in id.now (rows_of (found_of found.now)) }
+    ensures { result.now ≡ name_in id.now (rows_in found.now) }
 {
     found.get_str(id).unwrap_or("")
 }
@@ -316,10 +316,10 @@ fn name_in<'a>(found: &ArgMatches<'a>, id: &str) -> &'a str
 /// The number of an option, or else its default.
 fn number_in(found: &ArgMatches<'_>, id: &str, default: u32) -> u32
     requires { (least most : ℕ) × (most < 2 ^ 32)
-        × IsNumberIn least most id.now (rows_of (found_of found.now)) }
-    ensures value { result ≡ number_in id.now default (rows_of (found_of found.now)) }
+        × IsNumberIn least most id.now (rows_in found.now) }
+    ensures value { result ≡ number_in id.now default (rows_in found.now) }
     ensures range { (least most : ℕ) → most < 2 ^ 32 → least ≤ default → default ≤ most
-        → IsNumberIn least most id.now (rows_of (found_of found.now))
+        → IsNumberIn least most id.now (rows_in found.now)
         → (least ≤ result) × (result ≤ most) }
 {
     found.get_one::<u32>(id).unwrap_or(default)
@@ -327,8 +327,8 @@ fn number_in(found: &ArgMatches<'_>, id: &str, default: u32) -> u32
 
 /// Whether a flag is given.
 fn is_given(found: &ArgMatches<'_>, id: &str) -> bool
-    requires { IsFlag id.now (rows_of (found_of found.now)) }
-    ensures { result ≡ is_given id.now (rows_of (found_of found.now)) }
+    requires { IsFlag id.now (rows_in found.now) }
+    ensures { result ≡ is_given id.now (rows_in found.now) }
 {
     found.get_flag(id)
 }

@@ -1,22 +1,19 @@
 -- Which pairs can be loaded into a map, how others are refused, and what a map holds that was made of pairs.
-use Rattle.std.specs.Prelude.{◌≡◌, ◌⊎◌, ℕ, ◌-◌, ◌*◌, ◌^◌, ◌<◌, ◌≤◌, List, length, Option}
+use Rattle.std.specs.Prelude.{◌≡◌, ◌⊎◌, ℕ, ◌<◌, ◌≤◌, List, length, Option}
 use Rattle.std.specs.Option.{MatchOption}
 use Rattle.log_levels.specs.declared.update.Update.{Update}
 use Rattle.log_levels.specs.Accepted.{puts_of}
 use Rattle.log_levels.specs.Maps.{map_after, AreRising, IsFirstStall}
-use Rattle.log_levels.specs.Shapes.{Held, StandsFor}
+use Rattle.log_levels.specs.Shapes.{Held, StandsFor, capacity_with}
+use Rattle.options.specs.declared.map.TheConstants.{MAX_LEVELS}
 use Rattle.kuldebiq.specs.declared.answer.Answer.{Answer}
 use Rattle.kuldebiq.specs.declared.answer.TheConstants.{NO_MEMORY, UNSORTED, LEVELS_OUT_OF_RANGE, FULL}
 use Rattle.kuldebiq.specs.Answers.{refuses}
 
--- how many entries a map with so many levels can accept
-abbrev pub capacity_with : ℕ → ℕ
-capacity_with levels = 64 * 2 ^ levels - 1
-
 -- a map has as many levels
 pub record IsLevelCount (levels : ℕ) : Type 0 where
   pub some : 1 ≤ levels
-  pub few : levels ≤ 26
+  pub few : levels ≤ MAX_LEVELS
 
 -- pairs that a map with so many levels takes: their keys rise, and they aren't too many
 pub record CanBeLoaded (levels : ℕ) (pairs : List (ℕ × ℕ)) : Type 0 where
@@ -26,7 +23,7 @@ pub record CanBeLoaded (levels : ℕ) (pairs : List (ℕ × ℕ)) : Type 0 where
 
 -- no map has so many levels
 abbrev pub RefusesLevels : ℕ → Answer → Type 0
-RefusesLevels levels answer = (answer ≡ refuses LEVELS_OUT_OF_RANGE levels) × ((levels ≡ 0) ⊎ (26 < levels))
+RefusesLevels levels answer = (answer ≡ refuses LEVELS_OUT_OF_RANGE levels) × ((levels ≡ 0) ⊎ (MAX_LEVELS < levels))
 
 -- the first place whose key isn't above the one before it, or else the pairs are too many
 abbrev pub RefusesPairs : ℕ → List (ℕ × ℕ) → Answer → Type 0

@@ -4,9 +4,9 @@ ghost use Rattle.std.specs.Prelude.{List, length, IfOk, IfErr, IfSome, IsNone};
 ghost use Rattle.std.specs.declared.option.Option.TheVariants.{None, Some};
 ghost use Rattle.log_levels.specs.declared.update.Update.{Update};
 ghost use Rattle.log_levels.specs.Maps.{map_after, AreRising, IsFirstStall};
-ghost use Rattle.log_levels.specs.Shapes.{Held, StandsFor};
+ghost use Rattle.log_levels.specs.Shapes.{Held, StandsFor, capacity_with};
 ghost use Rattle.kuldebiq.specs.Answers.{gives, refuses, IsDone};
-ghost use Rattle.kuldebiq.specs.Loading.{capacity_with, CanBeLoaded, IsLevelCount};
+ghost use Rattle.kuldebiq.specs.Loading.{CanBeLoaded, IsLevelCount};
 ghost use Rattle.kuldebiq.specs.Loading.{IsMapOf, HoldsMapOf, HasCompacted};
 ghost use Rattle.kuldebiq.specs.Loading.{IsLoadRefusal, RefusesPairs, RefusesCompact};
 ghost use Rattle.kuldebiq.specs.Pairs.{tuples_of};
@@ -18,6 +18,7 @@ use crate::map_calls::Pair;
 use crate::map_handle::MapHandle;
 use budget::NoMemory;
 use log_levels::LogMap;
+use options::MAX_LEVELS;
 use std::alloc::Global;
 
 /// Makes the map of pairs whose keys rise, with so many levels, 1 to 26, and has the handle hold
@@ -94,7 +95,7 @@ fn loaded(alloc: Global, levels: u32, pairs: &[Pair]) -> Result<Box<LogMap>, Ans
         IsLoadRefusal levels (tuples_of pairs.now) answer ⊎
         (CanBeLoaded levels (tuples_of pairs.now) × (answer ≡ refuses NO_MEMORY 0))) }
 {
-    if levels == 0 || levels > 26 {
+    if levels == 0 || levels > MAX_LEVELS {
         return Err(refused(LEVELS_OUT_OF_RANGE, u64::from(levels)));
     }
     match refused_pairs(levels, pairs) {
@@ -197,7 +198,7 @@ fn compacted(alloc: Global, map: &LogMap, levels: u32) -> Result<Box<LogMap>, An
         (answer ≡ refuses NO_MEMORY 0)) }
     ensures refused { IfErr result (λ answer. RefusesCompact levels map.now answer) }
 {
-    if levels == 0 || levels > 26 {
+    if levels == 0 || levels > MAX_LEVELS {
         return Err(refused(LEVELS_OUT_OF_RANGE, u64::from(levels)));
     }
     match map.compacted(alloc, levels) {

@@ -8,6 +8,7 @@ ghost use Rattle.log_levels.specs.declared.update.Update.TheVariants.{Put, Del, 
 ghost use Rattle.log_levels.specs.Accepted.{entries_of};
 ghost use Rattle.log_levels.specs.Maps.{map_after, value_at, next_from, count_between};
 ghost use Rattle.log_levels.specs.Shapes.{Held, StandsFor, capacity_of};
+ghost use Rattle.options.specs.declared.map.TheConstants.{MAX_LEVELS};
 ghost use Rattle.kuldebiq.specs.Answers.{gives, refuses, found, IsDone};
 ghost use Rattle.kuldebiq.specs.Changes.{HoldsEmpty, HasAdded, one_if_some};
 ghost use Rattle.kuldebiq.specs.Loading.{IsLevelCount};
@@ -21,6 +22,7 @@ use crate::answer::{
 use crate::map_handle::MapHandle;
 use crate::updates::{UpdateParts, apply};
 use log_levels::LogMap;
+use options::MAX_LEVELS;
 use std::alloc::Global;
 
 /// A key with its value.
@@ -43,12 +45,12 @@ pub extern "C" fn kuldebiq_map_new(alloc: Global, handle: &mut MapHandle, levels
     ensures done { IsDone result → HoldsEmpty levels handle.new.map }
     ensures number { (map : Held) → handle.new.map ≡ Some map → IsDone result →
         result.number ≡ capacity_of map }
-    ensures outside { (levels ≡ 0) ⊎ (26 < levels) → result ≡ refuses LEVELS_OUT_OF_RANGE levels }
-    ensures inside { 1 ≤ levels → levels ≤ 26 →
+    ensures outside { (levels ≡ 0) ⊎ (MAX_LEVELS < levels) → result ≡ refuses LEVELS_OUT_OF_RANGE levels }
+    ensures inside { 1 ≤ levels → levels ≤ MAX_LEVELS →
         IsDone result ⊎ (result ≡ refuses NO_MEMORY 0) }
     ensures unchanged { result.status ≢ 0 → handle.new.map ≡ handle.old.map }
 {
-    if levels == 0 || levels > 26 {
+    if levels == 0 || levels > MAX_LEVELS {
         return refused(LEVELS_OUT_OF_RANGE, u64::from(levels));
     }
     match boxed_map(alloc, levels) {

@@ -18,8 +18,10 @@ pub const HEAD_WORDS: usize = 6;
 /// memory.
 ///
 /// ```text
-/// word 0       1  2      3      4      5        6 .. 6 + table     three each
-///      format  ε  lines  table  shift  first x  [lines begun ..]  [first x, slope, height and shift] ..
+/// word 0       1  2      3      4      5        6 .. 6 + table    three each
+///      format  ε  lines  table  shift  first x  [lines begun ..]  [first x, slope, last word] ..
+///
+/// last word: the height at the first x, times 128, plus the shift of the slope
 /// ```
 pub fn told(words: &[u64], n: usize, q: u64) -> usize
     ensures place { IsTold words.now n q result }

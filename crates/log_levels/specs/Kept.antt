@@ -6,6 +6,7 @@ use Rattle.std.specs.Int.{bit_at}
 use Rattle.std.specs.Option.{option_map}
 use Rattle.std.specs.declared.sync.Arc.{Arc}
 use Rattle.std.specs.Arc.{arc_value}
+use Rattle.options.specs.declared.map.TheConstants.{MAX_LEVELS}
 use Rattle.tombstones.specs.declared.entry.Entry.{Entry}
 use Rattle.tombstones.specs.Entries.{IsAscending, entry_at, kept}
 use Rattle.log_levels.specs.declared.heads.First.{First}
@@ -33,7 +34,7 @@ pub record IsKept (held : Held) (room : ℕ) : Type 0 where
   pub cut : (entries : List Entry) × IsCutOf held entries
   pub roomy : 64 ≤ room
   pub some : 1 ≤ length held.levels
-  pub few : length held.levels ≤ 26
+  pub few : length held.levels ≤ MAX_LEVELS
 
 -- the levels below level i, the buffer and the new entries behind them, merged: what comes behind the blocks from bit i on. Where no bit from bit i on is left, deletions are left out
 pub record IsMergedTo (entries : List Entry) (f i : ℕ) (new merged : List Entry) : Type 0 where
@@ -72,7 +73,7 @@ pub record IsAbsent (held : Held) (key : ℕ) : Type 0 where
 
 -- the places of a key in the levels: how many keys are below it
 pub record ArePlaces (held : Held) (places : List ℕ) (key : ℕ) : Type 0 where
-  pub count : length places ≡ 26
+  pub count : length places ≡ MAX_LEVELS
   pub each : (i : ℕ) (level : List Entry) → i < length held.levels → level_of held i ≡ Some level → slice_index places i ≡ lb (level_keys level) key
 
 -- what a level has at a key, if it is occupied
@@ -137,7 +138,7 @@ pub record IsUpcoming (buffer : List Entry) (low : ℕ) (upcoming : Upcoming) : 
 
 -- each place is that of a key up to a bound, so what a level has from the bound on lies behind it
 pub record AreBehind (held : Held) (places : List ℕ) (low : ℕ) : Type 0 where
-  pub count : length places ≡ 26
+  pub count : length places ≡ MAX_LEVELS
   pub each : (i : ℕ) (level : List Entry) → i < length held.levels → level_of held i ≡ Some level → (from : ℕ) × ((from ≤ low) × (slice_index places i ≡ lb (level_keys level) from))
 
 -- a level has this key at its place
@@ -155,7 +156,7 @@ pub record IsFirst (heads : List (ℕ × ℕ)) (first : First) : Type 0 where
 
 -- the heads of the levels whose bit in `rest` is 0, by rising level: the keys at their places. Up to the head of a level it has no key behind the place
 pub record AreHeads (held : Held) (places : List ℕ) (rest : ℕ) (heads : List (ℕ × ℕ)) : Type 0 where
-  pub low : length held.levels ≤ 26
+  pub low : length held.levels ≤ MAX_LEVELS
   pub few : (j : ℕ) → bit_at rest j ≡ 1 → length heads ≤ j
   pub below : (k j : ℕ) (d : ℕ × ℕ) → k < length heads → bit_at rest j ≡ 1 → (slice_index_or heads k d).1 < j
   pub rise : (j k : ℕ) (d : ℕ × ℕ) → j < k → k < length heads → (slice_index_or heads j d).1 < (slice_index_or heads k d).1

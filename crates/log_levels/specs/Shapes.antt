@@ -13,9 +13,13 @@ pub record Held : Type 0 where
   pub buffer : List Entry
   pub levels : List (Option (List Entry))
 
--- how many entries can be accepted
+-- how many entries a map with so many levels can accept
+abbrev pub capacity_with : ℕ → ℕ
+capacity_with levels = 64 * 2 ^ levels - 1
+
+-- how many entries a map can accept
 abbrev pub capacity_of : Held → ℕ
-capacity_of held = 64 * 2 ^ length held.levels - 1
+capacity_of held = capacity_with (length held.levels)
 
 -- a level, if it is occupied
 abbrev pub level_of : Held → ℕ → Option (List Entry)

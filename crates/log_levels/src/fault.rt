@@ -12,7 +12,8 @@ pub enum MapFault {
     /// The entries would be more than the map can accept.
     #[error("the map has no room behind {accepted} entries")]
     Full {
-        /// How many entries it has accepted.
+        /// How many entries it has accepted; of [`LogMap::compacted`], how many the new map can
+        /// accept.
         accepted: u64,
     },
     /// Memory wasn't found.

@@ -7,6 +7,7 @@ ghost use Rattle.std.specs.Prelude.{slice_index_or};
 ghost use Rattle.std.specs.Prelude.{None, Some, IfOk, OnOk, OnErr, IsTrue, IsSome, All};
 ghost use Rattle.std.specs.Int.{bit_at};
 ghost use Rattle.std.specs.Arc.{arc_value};
+ghost use Rattle.options.specs.declared.map.TheConstants.{MAX_LEVELS};
 ghost use Rattle.tombstones.specs.declared.entry.Entry.{Entry};
 ghost use Rattle.tombstones.specs.Entries.{IsAscending, entry_at, kept};
 ghost use Rattle.map_level.specs.Levels.{IsLastOfEach};
@@ -216,7 +217,7 @@ impl LogMap {
         requires { self.now.accepted + more ≤ capacity_of self.now }
         ensures blocks { result ≡ (self.now.accepted + more) / BLOCK }
         ensures few { result < 2 ^ length self.now.levels }
-        ensures levels { length self.now.levels ≤ 26 }
+        ensures levels { length self.now.levels ≤ MAX_LEVELS }
         ensures stands { (entries : List Entry) × IsCutOf self.now entries }
     {
         (self.accepted + more as u64) / BLOCK

@@ -3,11 +3,15 @@ ghost use Rattle.std.specs.Prelude.{◌≡◌, ◌<◌, [], length, slice_set, I
 ghost use Rattle.log_levels.specs.Kept.{IsFirst};
 
 use arrayvec::ArrayVec;
+use options::MAX_LEVELS;
+
+/// How many levels a map has at most, as a length.
+pub(crate) const LEVELS: usize = MAX_LEVELS as usize;
 
 /// Keys, each with its level, by rising level. They aren't in the order of the keys: in a trial it
 /// took longer to keep them so than to look at all, since the processor can't foresee where a key
 /// goes.
-pub type Heads = ArrayVec<(u64, usize), 26>;
+pub type Heads = ArrayVec<(u64, usize), LEVELS>;
 
 /// A head: its place among the others, its key and its level.
 #[derive(Clone, Copy)]

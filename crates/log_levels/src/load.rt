@@ -1,12 +1,13 @@
 // Maps of pairs, made at once.
-ghost use Rattle.std.specs.Prelude.{◌≡◌, ◌+◌, ◌-◌, ◌*◌, ◌/◌, ◌<◌, ◌≤◌, ◌^◌, ◌⊎◌, ◌++◌};
+ghost use Rattle.std.specs.Prelude.{◌≡◌, ◌+◌, ◌*◌, ◌/◌, ◌<◌, ◌≤◌, ◌^◌, ◌⊎◌, ◌++◌};
 ghost use Rattle.std.specs.Prelude.{ℕ, List, length, map, IfOk, OnOk, Err, IfSome, IsNone};
 ghost use Rattle.std.specs.Prelude.{vec_len, vec_capacity};
+ghost use Rattle.options.specs.declared.map.TheConstants.{MAX_LEVELS};
 ghost use Rattle.tombstones.specs.declared.entry.Entry.{Entry};
 ghost use Rattle.log_levels.specs.declared.update.Update.{Update};
 ghost use Rattle.log_levels.specs.declared.fault.MapFault.TheVariants.{Full};
 ghost use Rattle.log_levels.specs.declared.fault.LoadFault.TheVariants.{Unsorted};
-ghost use Rattle.log_levels.specs.Shapes.{IsCutOf, IsLevelFor, StandsFor};
+ghost use Rattle.log_levels.specs.Shapes.{IsCutOf, IsLevelFor, StandsFor, capacity_with};
 ghost use Rattle.log_levels.specs.Maps.{map_after, AreRising, IsFirstStall};
 ghost use Rattle.log_levels.specs.Accepted.{puts_of};
 ghost use Rattle.log_levels.specs.Kept.{entries_put, shared_of};
@@ -35,7 +36,7 @@ impl LogMap {
     /// - `NoMemory` where memory wasn't found.
     pub fn of_sorted(alloc: Global, levels: u32, pairs: &[(u64, u64)]) -> Result<LogMap, LoadFault>
         requires some { 1 ≤ levels }
-        requires few { levels ≤ 26 }
+        requires few { levels ≤ MAX_LEVELS }
         ensures puts { IfOk result (λ map. StandsFor map (puts_of pairs.now)) }
         ensures pairs { OnOk result (map_after (puts_of pairs.now) ≡ pairs.now) }
         ensures accepted { IfOk result (λ map. map.accepted ≡ length pairs.now) }
@@ -45,10 +46,10 @@ impl LogMap {
         ensures unsorted_only { (place : ℕ) → result ≡ Err (Unsorted place) →
             IsFirstStall pairs.now place }
         ensures full { ((place : ℕ) → IsFirstStall pairs.now place → ⊥) →
-            64 * 2 ^ levels - 1 < length pairs.now →
-            result ≡ Err (LoadFault.Full (64 * 2 ^ levels - 1)) }
+            capacity_with levels < length pairs.now →
+            result ≡ Err (LoadFault.Full (capacity_with levels)) }
         ensures full_only { (accepted : ℕ) → result ≡ Err (LoadFault.Full accepted) →
-            (accepted ≡ 64 * 2 ^ levels - 1) × (accepted < length pairs.now) }
+            (accepted ≡ capacity_with levels) × (accepted < length pairs.now) }
     {
         if let Some(place) = first_stall(pairs) {
             return Err(LoadFault::Unsorted {
@@ -72,7 +73,7 @@ impl LogMap {
     /// - `NoMemory` where memory wasn't found.
     pub fn compacted(&self, alloc: Global, levels: u32) -> Result<LogMap, MapFault>
         requires some { 1 ≤ levels }
-        requires few { levels ≤ 26 }
+        requires few { levels ≤ MAX_LEVELS }
         ensures puts { IfOk result (λ map. (updates : List Update) → StandsFor self.now updates →
             StandsFor map (puts_of (map_after updates))) }
         ensures same { (updates : List Update) →
@@ -81,10 +82,10 @@ impl LogMap {
             StandsFor self.now updates → map.accepted ≡ length (map_after updates)) }
         ensures levels { IfOk result (λ map. length map.levels ≡ levels) }
         ensures full { (updates : List Update) → StandsFor self.now updates →
-            64 * 2 ^ levels - 1 < length (map_after updates) →
-            (result ≡ Err (Full (64 * 2 ^ levels - 1))) ⊎ (result ≡ Err MapFault.NoMemory) }
+            capacity_with levels < length (map_after updates) →
+            (result ≡ Err (Full (capacity_with levels))) ⊎ (result ≡ Err MapFault.NoMemory) }
         ensures full_only { (accepted : ℕ) → result ≡ Err (Full accepted) →
-            (accepted ≡ 64 * 2 ^ levels - 1) × ((updates : List Update) →
+            (accepted ≡ capacity_with levels) × ((updates : List Update) →
             StandsFor self.now updates → accepted < length (map_after updates)) }
     {
         let _ = self.accepted();
@@ -130,7 +131,7 @@ fn first_stall(pairs: &[(u64, u64)]) -> Option<usize>
 /// The map of rising pairs, which fit it: each level's entries are made of its part of the pairs.
 fn map_put(alloc: Global, levels: u32, pairs: &[(u64, u64)]) -> Result<LogMap, NoMemory>
     requires some { 1 ≤ levels }
-    requires few { levels ≤ 26 }
+    requires few { levels ≤ MAX_LEVELS }
     requires rising { AreRising pairs.now }
     requires fit { length pairs.now < 64 * 2 ^ levels }
     ensures cut { IfOk result (λ map. IsCutOf map (entries_put pairs.now)) }
@@ -152,7 +153,7 @@ fn map_put(alloc: Global, levels: u32, pairs: &[(u64, u64)]) -> Result<LogMap, N
 
 /// Level `i` of the map of rising pairs, if it is occupied.
 fn level_put(alloc: Global, pairs: &[(u64, u64)], i: usize) -> Result<Option<Arc<Level>>, NoMemory>
-    requires low { i < 26 }
+    requires low { i < MAX_LEVELS }
     requires rising { AreRising pairs.now }
     requires few { length pairs.now < 2 ^ 32 }
     ensures { IfOk result (λ level.

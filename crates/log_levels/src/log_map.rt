@@ -4,6 +4,7 @@ ghost use Rattle.std.specs.Prelude.{◌^◌, ◌<◌, ◌≤◌, ◌↔◌, ℕ}
 ghost use Rattle.std.specs.Prelude.{List, [], length, Option, Some, None, IsSome, IsNone, IfOk};
 ghost use Rattle.std.specs.Option.{option_map, option_copied};
 ghost use Rattle.std.specs.Int.{bit_at};
+ghost use Rattle.options.specs.declared.map.TheConstants.{MAX_LEVELS};
 ghost use Rattle.tombstones.specs.declared.entry.Entry.{Entry};
 ghost use Rattle.tombstones.specs.Entries.{IsAscending};
 ghost use Rattle.levels.specs.Indexes.{IsIndex};
@@ -68,7 +69,7 @@ impl LogMap {
     /// `NoMemory` alone.
     pub fn new(alloc: Global, levels: u32) -> Result<LogMap, NoMemory>
         requires some { 1 ≤ levels }
-        requires few { levels ≤ 26 }
+        requires few { levels ≤ MAX_LEVELS }
         ensures empty { IfOk result (λ map. StandsFor map []) }
         ensures levels { IfOk result (λ map. length map.levels ≡ levels) }
     {
@@ -177,7 +178,7 @@ impl LogMap {
     pub(crate) fn occupied(&self) -> u64
         ensures bits { result ≡ self.now.accepted / BLOCK }
         ensures within { result < 2 ^ length self.now.levels }
-        ensures few { length self.now.levels ≤ 26 }
+        ensures few { length self.now.levels ≤ MAX_LEVELS }
         ensures free { (i : ℕ) → i < length self.now.levels → bit_at result i ≡ 0 →
             level_of self.now i ≡ None }
         ensures taken { (i : ℕ) → bit_at result i ≡ 1 → IsSome (level_of self.now i) }

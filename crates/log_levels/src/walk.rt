@@ -4,6 +4,7 @@ ghost use Rattle.std.specs.Prelude.{◌++◌, ◌∷◌, [], ℕ, List, length, 
 ghost use Rattle.std.specs.Prelude.{Some, None, IfSome, IsNone};
 ghost use Rattle.std.specs.Bool.{OnFalse};
 ghost use Rattle.std.specs.Option.{option_copied};
+ghost use Rattle.options.specs.declared.map.TheConstants.{MAX_LEVELS};
 ghost use Rattle.tombstones.specs.declared.entry.Entry.{Entry};
 ghost use Rattle.map_level.specs.Levels.{last_at, level_keys, IsBelow, IsAbove};
 ghost use Rattle.std.specs.Int.{bit_at};
@@ -15,14 +16,14 @@ ghost use Rattle.log_levels.specs.Kept.{ArePlaces, AreBehind, AreHeads, IsFirst,
 ghost use Rattle.log_levels.specs.Kept.{IsAbsent, IsNextLive, first_key};
 ghost use Rattle.log_levels.specs.Kept.{left_of, value_of};
 
-use crate::heads::{First, Heads, first_head, put_head};
+use crate::heads::{First, Heads, LEVELS, first_head, put_head};
 use crate::log_map::{LogMap, lowest_and_rest};
 use crate::upcoming::Upcoming;
 use arrayvec::ArrayVec;
 use tombstones::Entry;
 
-/// A place in each level, 26 at most.
-pub type Places = [usize; 26];
+/// A place in each level.
+pub type Places = [usize; LEVELS];
 
 /// What a walk has not passed: what it has left of the buffer, and what lies behind a place in each
 /// level.
@@ -70,8 +71,8 @@ impl LogMap {
     /// Puts the key at the place of level `i` behind those of lower levels, if there is one.
     #[inline(always)]
     fn push_head(&self, heads: &mut Heads, places: &Places, i: usize)
-        requires low { i < 26 }
-        requires room { array_vec_len heads.old < 26 }
+        requires low { i < MAX_LEVELS }
+        requires room { array_vec_len heads.old < MAX_LEVELS }
         ensures { (rest : ℕ) → from_bit i rest ≡ rest → bit_at rest i ≡ 1 →
             AreHeads self.now places.now rest heads.old.items →
             AreHeads self.now places.now (from_bit (i + 1) rest) heads.new.items }
@@ -140,7 +141,7 @@ impl LogMap {
     fn take_from_level(&self, walk: &mut Walk, first: First) -> Entry
         requires first { IsFirst walk.old.heads.items first }
         requires heads { AreHeads self.now walk.old.places 0 walk.old.heads.items }
-        requires count { length walk.old.places ≡ 26 }
+        requires count { length walk.old.places ≡ MAX_LEVELS }
         ensures key { result.key ≡ first.key }
         ensures entry { (level : List Entry) → level_of self.now first.level ≡ Some level →
             entry_at level first.key ≡ Some result }
@@ -174,7 +175,7 @@ impl LogMap {
     pub(crate) fn places(&self, key: u64) -> Places
         ensures { ArePlaces self.now result key }
     {
-        let mut places = [0; 26];
+        let mut places = [0; LEVELS];
         self.put_starts(&mut places, key);
         let mut rest = self.occupied();
         while rest != 0 {

@@ -1,9 +1,9 @@
 // Updates and questions that were read.
-ghost use Rattle.std.specs.Prelude.{◌≡◌, ◌-◌, ◌*◌, ◌≤◌, ◌^◌, All, List, Some, length, true};
+ghost use Rattle.std.specs.Prelude.{◌≡◌, ◌≤◌, All, List, Some, length, true};
 ghost use Rattle.log_levels.specs.declared.update.Update.{Update};
 ghost use Rattle.log_levels.specs.Accepted.{entries_of};
 ghost use Rattle.log_levels.specs.Maps.{map_after};
-ghost use Rattle.log_levels.specs.Shapes.{Held, StandsFor};
+ghost use Rattle.log_levels.specs.Shapes.{Held, StandsFor, capacity_with};
 ghost use Rattle.map_commands.specs.PlainUpdates.{is_plain};
 
 use log_levels::{LogMap, Update};
@@ -20,7 +20,7 @@ pub struct History {
     pub questions: Vec<Question>,
     /// The map after the updates, where it is there already.
     pub map: Option<LogMap>,
-    pub ghost fits: { length (entries_of updates.items) ≤ 64 * 2 ^ plan.levels - 1 },
+    pub ghost fits: { length (entries_of updates.items) ≤ capacity_with plan.levels },
     pub ghost after: { (held : Held) (others : List Update) → map ≡ Some held →
         StandsFor held others → map_after others ≡ map_after updates.items },
 }

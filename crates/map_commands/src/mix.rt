@@ -31,7 +31,7 @@ pub fn write_mix<R: Threads + Wait + Sync, S: Sink, G: Gate>(
 {
     let Mixing { history, senders } = mixing;
     let dealing = Dealing {
-        senders: senders.count,
+        senders,
         room: QUEUE_ROOM,
     };
     let (updates, questions) = (&history.updates, &history.questions);

@@ -53,11 +53,11 @@ module _ (origin : Origin) (senders : ℕ) (updates : List Update) where
       ∙ (ap (λ (us : List Update). progress.sender.sent ++ us) (sym (turn_none senders number progress.place updates past)) ∙ here.share)
 
 -- where all senders are done and what was taken of each is what it sent, it is an order in which the updates may come
-pub is_mixed : (origin : Origin) (assignment : Assignment) (done : List Sending) (taken : List (ℕ × Update)) → 0 < assignment.dealing.senders →
-    length done ≡ assignment.dealing.senders → AreDone origin assignment done → All (λ (item : ℕ × Update). item.0 < assignment.dealing.senders) taken →
-    All (λ (sender : Sending). of_sender sender.number taken ≡ sender.sent) done → IsMixed assignment.dealing.senders assignment.updates.now taken
+pub is_mixed : (origin : Origin) (assignment : Assignment) (done : List Sending) (taken : List (ℕ × Update)) → 0 < assignment.dealing.senders.count →
+    length done ≡ assignment.dealing.senders.count → AreDone origin assignment done → All (λ (item : ℕ × Update). item.0 < assignment.dealing.senders.count) taken →
+    All (λ (sender : Sending). of_sender sender.number taken ≡ sender.sent) done → IsMixed assignment.dealing.senders.count assignment.updates.now taken
 is_mixed origin assignment done taken some count all known whole number =
-    let senders = assignment.dealing.senders in
+    let senders = assignment.dealing.senders.count in
     let other = fresh_sender origin 0 in
     ⊎_elim
     (λ below.

@@ -73,7 +73,7 @@ pub record CanPublish (origin : Book) (workload : Workload) (writer : Written) :
 -- the updates are published: in turn, in batches of this size, of which the last may be shorter; or as they came of senders, in batches of no more
 abbrev pub ArePublishedFrom : Source → (size : ℕ) → List Update → (numbers : List ℕ) (mixed : List Update) → List (List Update) → Type 0
 ArePublishedFrom InTurn size updates numbers mixed history = (updates_of history ≡ updates) × AreBatches size history
-ArePublishedFrom (Assigned dealing) size updates numbers mixed history = AreCut size mixed history × IsMix dealing.senders updates numbers mixed
+ArePublishedFrom (Assigned dealing) size updates numbers mixed history = AreCut size mixed history × IsMix dealing.senders.count updates numbers mixed
 
 -- the workload's updates are published, these of them as they came of senders
 abbrev pub ArePublished : Workload → (numbers : List ℕ) (mixed : List Update) → List (List Update) → Type 0

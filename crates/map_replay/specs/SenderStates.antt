@@ -24,9 +24,9 @@ Keeps senders updates before after = (origin : Origin) (number : ℕ) → IsOnIt
 -- a sender that was started as such a one
 abbrev pub IsStarted : Origin → Assignment → (number : ℕ) → StartedSender → Type 0
 IsStarted origin assignment number (Running handle) =
-    (handle.promise.assignment.dealing.senders ≡ assignment.dealing.senders) × (handle.promise.assignment.updates.now ≡ assignment.updates.now)
-    × IsOnItsWay origin assignment.dealing.senders assignment.updates.now number handle.promise.progress.value
-IsStarted origin assignment number (Served progress) = IsOnItsWay origin assignment.dealing.senders assignment.updates.now number progress
+    (handle.promise.assignment.dealing.senders.count ≡ assignment.dealing.senders.count) × (handle.promise.assignment.updates.now ≡ assignment.updates.now)
+    × IsOnItsWay origin assignment.dealing.senders.count assignment.updates.now number handle.promise.progress.value
+IsStarted origin assignment number (Served progress) = IsOnItsWay origin assignment.dealing.senders.count assignment.updates.now number progress
 
 -- each of these is what the one at its place has to be
 abbrev pub AreAt : {T : Type 0} → (ℕ → T → Type 0) → List T → Type 0
@@ -34,7 +34,7 @@ AreAt {T} Is items = (place : ℕ) (other : T) → place < length items → Is p
 
 -- the sender at this place of those that are started, of which the last sender is the first
 abbrev pub IsStartedAt : Origin → Assignment → (place : ℕ) → StartedSender → Type 0
-IsStartedAt origin assignment place = IsStarted origin assignment (assignment.dealing.senders - (place + 1))
+IsStartedAt origin assignment place = IsStarted origin assignment (assignment.dealing.senders.count - (place + 1))
 
 -- the last senders are started, the first of them last
 abbrev pub AreStarted : Origin → Assignment → List StartedSender → Type 0
@@ -44,7 +44,7 @@ AreStarted origin assignment = AreAt (IsStartedAt origin assignment)
 pub record IsDone (origin : Origin) (assignment : Assignment) (number : ℕ) (sender : Sending) : Type 0 where
   pub own : sender.origin ≡ origin
   pub numbered : sender.number ≡ number
-  pub whole : sender.sent ≡ of_sender number (dealt assignment.dealing.senders assignment.updates.now)
+  pub whole : sender.sent ≡ of_sender number (dealt assignment.dealing.senders.count assignment.updates.now)
 
 -- the first senders, in the order of their numbers
 abbrev pub AreDone : Origin → Assignment → List Sending → Type 0

@@ -80,7 +80,7 @@ fn plain<R: Wait>(rt: &R, update: Update) -> Update
     for _turn in rt.forever() {
         match update {
             Update::Put(..) | Update::Del(_) => return update,
-            // Never comes: nobody promise a sweep.
+            // Never comes: nobody promises a sweep.
             Update::Sweep(..) => {}
         }
     }

@@ -1,5 +1,6 @@
 // The readers before they start, with all room that they need.
 ghost use Rattle.std.specs.Prelude.{◌≡◌, ◌≤◌, All, IfOk, vec_len};
+ghost use Rattle.options.specs.declared.map.TheConstants.{MAX_READERS};
 ghost use Rattle.map_replay.specs.ReaderStates.{ArePrepared, HasRoom};
 
 use crate::reader_states::{PreparedReaders, WaitingReader};
@@ -15,7 +16,7 @@ pub fn prepare<M: MapName>(
     questions: usize,
 ) -> Result<PreparedReaders<M>, AllocError>
     requires some { 1 ≤ vec_len readers }
-    requires few { vec_len readers ≤ 16 }
+    requires few { vec_len readers ≤ MAX_READERS }
     requires own { All (λ reader. reader.origin ≡ M.origin) readers.items }
     ensures count { IfOk result (λ prepared. vec_len prepared.waiting ≡ vec_len readers) }
     ensures room { IfOk result (ArePrepared questions (vec_len readers)) }
@@ -34,7 +35,7 @@ fn waiting_readers<M: MapName>(
     mut readers: Vec<Reader>,
     questions: usize,
 ) -> Result<Vec<WaitingReader<M>>, AllocError>
-    requires few { vec_len readers ≤ 16 }
+    requires few { vec_len readers ≤ MAX_READERS }
     requires own { All (λ reader. reader.origin ≡ M.origin) readers.items }
     ensures count { IfOk result (λ waiting. vec_len waiting ≡ vec_len readers) }
     ensures room { IfOk result (λ waiting. All (HasRoom questions) waiting.items) }

@@ -1,6 +1,8 @@
 // Updates in batches beside readers, and what is left of it.
-ghost use Rattle.std.specs.Prelude.{◌≡◌, ◌*◌, ◌-◌, ◌^◌, ◌≤◌, All, length, IfOk, vec_len};
+ghost use Rattle.std.specs.Prelude.{◌≡◌, ◌≤◌, All, length, IfOk, vec_len};
 ghost use Rattle.log_levels.specs.Accepted.{IsPlain, entries_of};
+ghost use Rattle.log_levels.specs.Shapes.{capacity_with};
+ghost use Rattle.options.specs.declared.map.TheConstants.{MAX_READERS};
 ghost use Rattle.map_replay.specs.Readings.{AreCut, IsWholeMixedReading, IsWholeReading};
 ghost use Rattle.map_replay.specs.Mixes.{IsMix};
 ghost use Rattle.map_replay.specs.ReaderStates.{AreForSource, CanPublish, IsOutcome, IsReplayed};
@@ -70,7 +72,7 @@ pub fn replay<R: Threads + Wait + Sync, G: Gate>(
     plan: Plan,
     gate: &G,
 ) -> Result<Replayed, NoMemory>
-    requires fits { length (entries_of updates.now) ≤ 64 * 2 ^ plan.levels - 1 }
+    requires fits { length (entries_of updates.now) ≤ capacity_with plan.levels }
     ensures whole { IfOk result (λ outcome. outcome.updates ≡ updates.now) }
     ensures count { IfOk result (λ outcome. length outcome.readings ≡ plan.readers) }
     ensures each { IfOk result (λ outcome.
@@ -108,10 +110,10 @@ pub fn mix<R: Threads + Wait + Sync, G: Gate>(
     gate: &G,
 ) -> Result<Replayed, NoMemory>
     requires plain { All IsPlain assignment.updates.now }
-    requires fits { length (entries_of assignment.updates.now) ≤ 64 * 2 ^ plan.levels - 1 }
+    requires fits { length (entries_of assignment.updates.now) ≤ capacity_with plan.levels }
     ensures whole { IfOk result (λ outcome. outcome.updates ≡ outcome.mixed) }
     ensures batches { IfOk result (λ outcome. AreCut plan.batch outcome.mixed outcome.batches) }
-    ensures mixed { IfOk result (λ outcome. IsMix assignment.entry.dealing.senders
+    ensures mixed { IfOk result (λ outcome. IsMix assignment.entry.dealing.senders.count
         assignment.entry.updates.now outcome.numbers outcome.mixed) }
     ensures count { IfOk result (λ outcome. length outcome.readings ≡ plan.readers) }
     ensures each { IfOk result (λ outcome.
@@ -136,7 +138,7 @@ fn replay_workload<R: Threads + Wait + Sync, G: Gate>(
     gate: &G,
 ) -> Result<Replayed, NoMemory>
     requires plain { AreForSource workload.source workload.updates.now }
-    requires fits { length (entries_of workload.updates.now) ≤ 64 * 2 ^ workload.plan.levels - 1 }
+    requires fits { length (entries_of workload.updates.now) ≤ capacity_with workload.plan.levels }
     ensures { IfOk result (IsOutcome workload.entry workload.entry.plan.readers) }
 {
     let plan = workload.plan;
@@ -213,7 +215,7 @@ fn replay_on<M: MapName + Send + Sync, R: Threads + Wait + Sync, G: Gate>(
 ) -> Result<Replayed, NoMemory>
     requires ready { CanPublish M.origin workload writer }
     requires some { 1 ≤ vec_len readers }
-    requires few { vec_len readers ≤ 16 }
+    requires few { vec_len readers ≤ MAX_READERS }
     requires readers { All (λ reader. reader.origin ≡ M.origin) readers.items }
     ensures { IfOk result (IsOutcome workload.entry (vec_len readers)) }
 {
@@ -245,7 +247,7 @@ fn replay_prepared<M: MapName + Send + Sync, R: Threads + Wait + Sync, G: Gate>(
 ) -> Result<ReplayResult, NoMemory>
     requires ready { CanPublish M.origin workload writer.old }
     requires some { 1 ≤ vec_len readers }
-    requires few { vec_len readers ≤ 16 }
+    requires few { vec_len readers ≤ MAX_READERS }
     requires readers { All (λ reader. reader.origin ≡ M.origin) readers.items }
     ensures { IfOk result (IsReplayed workload.entry (vec_len readers)) }
 {

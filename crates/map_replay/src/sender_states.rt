@@ -25,7 +25,7 @@ pub struct SenderPromise<'a> {
 impl<'a> Promise<SenderProgress> for SenderPromise<'a> {
     ghost use Rattle.map_replay.specs.SenderStates.{Keeps};
 
-    ghost kept_by = { λ promise progress. Keeps promise.assignment.dealing.senders
+    ghost kept_by = { λ promise progress. Keeps promise.assignment.dealing.senders.count
         promise.assignment.updates.now promise.progress.value progress };
 }
 

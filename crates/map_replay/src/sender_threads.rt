@@ -49,18 +49,14 @@ pub fn publish_arrivals<
 ) -> Result<Arrivals, NoMemory>
     requires ready { IsEmptyWriter M.origin (length assignment.updates.now) writer.old }
     ensures own { writer.new.origin ≡ writer.old.origin }
-    ensures mixed { IfOk result (λ arrivals. IsMix assignment.entry.dealing.senders
+    ensures mixed { IfOk result (λ arrivals. IsMix assignment.entry.dealing.senders.count
         assignment.entry.updates.now arrivals.numbers.items arrivals.updates.items) }
     ensures published { IfOk result (λ arrivals.
         AreCut plan.batch arrivals.updates.items writer.new.history) }
 {
     let (alloc, total) = (context.alloc, assignment.updates.len());
-    let Dealing {
-        senders: count,
-        room,
-        ..
-    } = assignment.dealing;
-    let (inbox, senders) = start_senders(alloc, count, room)?;
+    let Dealing { senders, room, .. } = assignment.dealing;
+    let (inbox, senders) = start_senders(alloc, senders, room)?;
     let arrivals = Arrivals {
         numbers: Vec::with_capacity(alloc, total)?,
         updates: Vec::with_capacity(alloc, total)?,
@@ -91,12 +87,12 @@ fn start_sender_threads<
     refused: &'s AtomicU32,
     started: &mut Vec<StartedSender<'s>>,
 )
-    requires count { vec_len senders ≡ assignment.dealing.senders }
+    requires count { vec_len senders ≡ assignment.dealing.senders.count }
     requires none { started.old.items ≡ [] }
-    requires room { assignment.dealing.senders ≤ vec_capacity started.old }
-    ensures count { vec_len started.new ≡ assignment.entry.dealing.senders }
+    requires room { assignment.dealing.senders.count ≤ vec_capacity started.old }
+    ensures count { vec_len started.new ≡ assignment.entry.dealing.senders.count }
     ensures started { (origin : Origin) →
-        AreFresh origin assignment.entry.dealing.senders senders.items →
+        AreFresh origin assignment.entry.dealing.senders.count senders.items →
         AreStarted origin assignment.entry started.new.items }
 {
     while let Some(sender) = senders.pop() {
@@ -118,9 +114,9 @@ fn start_sender<'s, E, M: MapName + Send + Sync + 's, R: Threads + Wait + Sync +
     assignment: Assignment<'s>,
     refused: &'s AtomicU32,
 ) -> StartedSender<'s>
-    requires { progress.place < assignment.dealing.senders }
+    requires { progress.place < assignment.dealing.senders.count }
     ensures { (origin : Origin) →
-        IsOnItsWay origin assignment.entry.dealing.senders assignment.entry.updates.now
+        IsOnItsWay origin assignment.entry.dealing.senders.count assignment.entry.updates.now
         progress.place progress → IsStarted origin assignment.entry progress.place result }
 {
     let promise = SenderPromise {
@@ -132,7 +128,7 @@ fn start_sender<'s, E, M: MapName + Send + Sync + 's, R: Threads + Wait + Sync +
     // A closure comes back where its thread is refused. Called here it hands the sender back.
     let word = progress.place as u32 + 1;
     let going = move || -> SenderProgress
-        ensures { Keeps dealing.senders updates.entry.now progress result }
+        ensures { Keeps dealing.senders.count updates.entry.now progress result }
     {
         if refused.load(Ordering::SeqCst) == word {
             progress
@@ -198,10 +194,10 @@ fn join_senders<M: MapName, R: Threads + Wait, G: Gate>(
     assignment: Assignment<'_>,
     done: &mut Vec<Sender>,
 )
-    requires count { vec_len started ≡ assignment.dealing.senders }
+    requires count { vec_len started ≡ assignment.dealing.senders.count }
     requires none { done.old.items ≡ [] }
-    requires room { assignment.dealing.senders ≤ vec_capacity done.old }
-    ensures count { vec_len done.new ≡ assignment.entry.dealing.senders }
+    requires room { assignment.dealing.senders.count ≤ vec_capacity done.old }
+    ensures count { vec_len done.new ≡ assignment.entry.dealing.senders.count }
     ensures done { (origin : Origin) → AreStarted origin assignment.entry started.entry.items →
         AreDone origin assignment.entry done.new.items }
 {
@@ -238,11 +234,11 @@ fn close_inbox<R: Wait>(
     assignment: Assignment<'_>,
 ) -> Arrivals
     requires count { vec_len done ≡ intake.inbox.origin.senders }
-    requires senders { assignment.dealing.senders ≡ intake.inbox.origin.senders }
+    requires senders { assignment.dealing.senders.count ≡ intake.inbox.origin.senders }
     requires intake { IsIntake (length assignment.updates.now) intake }
     requires all { length intake.arrivals.updates.items ≡ length assignment.updates.now }
     requires done { AreDone intake.inbox.origin assignment done.items }
-    ensures mix { IsMix assignment.entry.dealing.senders assignment.entry.updates.now
+    ensures mix { IsMix assignment.entry.dealing.senders.count assignment.entry.updates.now
         result.numbers.items result.updates.items }
     ensures same { result.updates.items ≡ intake.arrivals.updates.items }
 {

@@ -18,13 +18,13 @@ pub fn send_next<R: Wait, G: Gate>(
     assignment: Assignment<'_>,
     gate: &G,
 ) -> bool
-    ensures { Keeps assignment.entry.dealing.senders assignment.entry.updates.now
+    ensures { Keeps assignment.entry.dealing.senders.count assignment.entry.updates.now
         progress.old progress.new }
 {
     let Some(update) = assignment.updates.get(progress.place) else {
         return false;
     };
-    let senders = assignment.dealing.senders;
+    let senders = assignment.dealing.senders.count;
     pass_gate(progress, senders, gate);
     if progress.sender.send(rt, *update).is_err() {
         return false;
@@ -57,12 +57,12 @@ pub fn send_all<R: Wait, G: Gate>(
     assignment: Assignment<'_>,
     gate: &G,
 ) -> SenderProgress
-    ensures keeps { Keeps assignment.entry.dealing.senders assignment.entry.updates.now
+    ensures keeps { Keeps assignment.entry.dealing.senders.count assignment.entry.updates.now
         progress result }
     ensures whole { (origin : Origin) (number : ℕ) →
-        IsOnItsWay origin assignment.entry.dealing.senders assignment.entry.updates.now number
+        IsOnItsWay origin assignment.entry.dealing.senders.count assignment.entry.updates.now number
         progress → result.sender.sent
-        ≡ of_sender number (dealt assignment.entry.dealing.senders assignment.entry.updates.now) }
+        ≡ of_sender number (dealt assignment.entry.dealing.senders.count assignment.entry.updates.now) }
 {
     for _turn in rt.forever() {
         if assignment.updates.len() <= progress.place {

@@ -1,22 +1,22 @@
 // What is published, from where it comes, and what comes of it.
 ghost use Rattle.std.specs.Prelude.{◌≤◌};
+ghost use Rattle.options.specs.declared.map.TheConstants.{MAX_ROOM};
 
 use crate::Question;
 use crate::reader_states::FinalReadings;
 use log_levels::Update;
-use options::Plan;
+use options::{Plan, Senders};
 
 /// How updates are dealt out to senders.
 #[derive(Clone, Copy, Debug)]
 pub struct Dealing {
-    /// How many senders there are, from 1 to 16.
-    pub senders: u32,
-    /// For how many updates the queue between them and the writer has room, from 1 to 65,536.
+    /// How many senders there are.
+    pub senders: Senders,
+    /// For how many updates the queue between them and the writer has room, from 1 to
+    /// [`options::MAX_ROOM`].
     pub room: u32,
-    pub ghost some_senders: { 1 ≤ senders },
-    pub ghost few_senders: { senders ≤ 16 },
     pub ghost some_room: { 1 ≤ room },
-    pub ghost small_room: { room ≤ 65536 },
+    pub ghost small_room: { room ≤ MAX_ROOM },
 }
 
 /// Updates that are dealt out to senders in turn: the first one to the first sender, the next to

@@ -4,6 +4,7 @@ ghost use Rattle.senders.specs.Senders.{Origin, Sending};
 
 use budget::NoMemory;
 use log_levels::Update;
+use options::Senders;
 use senders::{Inbox, Sender, start_senders};
 use std::alloc::Global;
 use std::collections::VecDeque;
@@ -18,7 +19,7 @@ const TURNS: u64 = 20_000_000;
 
 #[test]
 fn one_sender_and_room_for_one(rt: HostRuntime) -> Result<(), Fail> {
-    let (mut inbox, mut senders) = start_senders(rt.alloc(), 1, 1)?;
+    let (mut inbox, mut senders) = start_senders(rt.alloc(), Senders { count: 1 }, 1)?;
     assert_eq!(rt; inbox.take(&rt), None);
     let Some(mut sender) = senders.pop() else {
         unreachable!()
@@ -72,7 +73,7 @@ impl Pair {
         requires some { 1 ≤ room }
         requires small { room ≤ 65536 }
     {
-        let (inbox, mut senders) = start_senders(alloc, 2, room)?;
+        let (inbox, mut senders) = start_senders(alloc, Senders { count: 2 }, room)?;
         let Some(second) = senders.pop() else {
             unreachable!()
         };
@@ -286,7 +287,7 @@ fn beside_each_other<R: Threads + Wait + Sync>(
     requires some { 1 ≤ room }
     requires small { room ≤ 65536 }
 {
-    let (inbox, senders) = start_senders(alloc, count, room)?;
+    let (inbox, senders) = start_senders(alloc, Senders { count }, room)?;
     let jobs = jobs_of(alloc, senders)?;
     let all = count as usize * each as usize;
     let each = u64::from(each);

@@ -5,9 +5,8 @@
 //! missing.
 //!
 //! Main clauses: `script`, `fault` and `wherever` of [`parse`] and [`parse_as`], and `text` of
-//! [`read_text`]. The
-//! words of the clauses are in `specs/`: lines and words in `Words.antt`, the table of commands in
-//! `Commands.antt`, readings in `Scripts.antt`.
+//! [`read_text`]. The words of the clauses are in `specs/`: lines and words in `Words.antt`, the
+//! table of commands in `Commands.antt`, readings in `Scripts.antt`.
 #![tactic(auto)]
 
 mod fault;

@@ -26,7 +26,7 @@ use std::sync::ledger::{Blank, Ledger};
 /// # Errors
 ///
 /// `NoMemory` alone, where the list or the two hulls find none. Then the left list is given up. The
-/// hulls ask for 64 bytes for each place of `0..to`, and touch as much as the longest hulls of a
+/// hulls ask for 32 bytes for each place of `0..to`, and touch as much as the longest hulls of a
 /// run take.
 pub fn join(
     alloc: Global,

@@ -1,5 +1,5 @@
 -- What the files define for a request: its task, or the refusal that the first bad input gives.
-use Rattle.std.specs.Prelude.{◌≡◌, ◌⊎◌, ℕ, ◌*◌, ◌-◌, ◌^◌, ◌<◌, ◌≤◌, Bool, not, List, length, filter_map, All, Option, Result, Ok, Err, None, Some, ⊤}
+use Rattle.std.specs.Prelude.{◌≡◌, ◌⊎◌, ℕ, ◌<◌, ◌≤◌, Bool, not, List, length, filter_map, All, Option, Result, Ok, Err, None, Some, ⊤}
 use Rattle.sosd_reader.specs.declared.fault.KeyFault.{KeyFault}
 use Rattle.sosd_reader.specs.FileFaults.{ReadsAsFile}
 use Rattle.sosd_reader.specs.KeyFiles.{key_width}
@@ -12,6 +12,7 @@ use Rattle.pgm_script.specs.declared.script.ScriptLine.{ScriptLine}
 use Rattle.pgm_script.specs.Scripts.{IsLineOf, ReadsAs as ReadsScript}
 use Rattle.log_levels.specs.declared.update.Update.{Update}
 use Rattle.log_levels.specs.Accepted.{entries_of}
+use Rattle.log_levels.specs.Shapes.{capacity_with}
 use Rattle.command_line.specs.Requests.{Building, Drilling, Replaying, Request}
 use Rattle.command_line.specs.Requests.Request.{build, explain, query, relax, box, near, replay, drill, save, check, mix}
 use Rattle.program.specs.declared.refusal.Refusal.{Refusal}
@@ -110,10 +111,6 @@ map_question_in line = None
 abbrev pub map_questions_in : List ScriptLine → List Question
 map_questions_in lines = filter_map map_question_in lines
 
--- how many entries a map of so many levels can accept
-abbrev pub room_of : ℕ → ℕ
-room_of levels = 64 * 2 ^ levels - 1
-
 -- a task, where there is room for so many
 abbrev pub reads_within : (count room : ℕ) → tasks.Task → Reading tasks.Task
 reads_within count room task (Ok read) = (count ≤ room) × (read ≡ task)
@@ -122,12 +119,12 @@ reads_within count room task (Err refusal) = ⊥
 
 -- what a script asks for, where a map of so many levels has room for the entries of all its updates
 abbrev pub reads_history : Replaying → List ScriptLine → Reading tasks.Task
-reads_history replaying lines = reads_within (length (entries_of (updates_in lines))) (room_of replaying.levels)
+reads_history replaying lines = reads_within (length (entries_of (updates_in lines))) (capacity_with replaying.levels)
     (tasks.Task.replay (updates_in lines) (map_questions_in lines) replaying.batch replaying.readers)
 
 -- the same where senders send the updates, of which none is a sweep, and the map has room for all of them
 abbrev pub reads_mixing : Replaying → (senders : ℕ) → List ScriptLine → Reading tasks.Task
-reads_mixing replaying senders lines = reads_within (length (updates_in lines)) (room_of replaying.levels)
+reads_mixing replaying senders lines = reads_within (length (updates_in lines)) (capacity_with replaying.levels)
     (tasks.Task.mix (updates_in lines) (map_questions_in lines) replaying.readers senders)
 
 -- the saved index of the file of this name, or why it has none: it isn't there, or its bytes have a fault

@@ -6,11 +6,12 @@ ghost use Rattle.command_line.specs.Requests.{replayed_of};
 ghost use Rattle.log_levels.specs.declared.update.Update.{Update};
 ghost use Rattle.log_levels.specs.Accepted.{IsPlain, entries_of};
 ghost use Rattle.log_levels.specs.Maps.{map_after};
-ghost use Rattle.log_levels.specs.Shapes.{Held, StandsFor};
+ghost use Rattle.log_levels.specs.Shapes.{Held, StandsFor, capacity_with};
+ghost use Rattle.options.specs.declared.map.TheConstants.{MAX_LEVELS};
 ghost use Rattle.commands.specs.Tasks.{mix_of, replay_of};
 ghost use Rattle.program.specs.declared.inputs.TheConstants.{SCRIPT_LIMIT};
 ghost use Rattle.program.specs.Inputs.{map_questions_in, reads_history, reads_mixing};
-ghost use Rattle.program.specs.Inputs.{room_of, updates_in};
+ghost use Rattle.program.specs.Inputs.{updates_in};
 ghost use Rattle.program.specs.Stops.{Answers};
 ghost use Rattle.pgm_script.specs.declared.script.ScriptKind.{ScriptKind};
 ghost use Rattle.pgm_script.specs.Scripts.{IsLineOf};
@@ -19,12 +20,9 @@ use crate::refusal::{Refusal, Stopped};
 use command_line::Replaying;
 use commands::{History, Mixing, Question};
 use log_levels::{LogMap, MapFault, Update, one_map};
-use options::Senders;
+use options::{MAX_LEVELS, Senders};
 use pgm_script::ScriptLine;
 use std::alloc::{AllocError, Global};
-
-/// The greatest map, which judges how many entries the updates of a script have.
-const MOST_LEVELS: u32 = 26;
 
 /// The updates and the questions of a script, which has no more lines than bytes.
 ///
@@ -44,7 +42,7 @@ pub fn history_in(
     let updates = updates_in(alloc, lines)?;
     let questions = map_questions_in(alloc, lines)?;
     let (asked, map) = counted(alloc, &updates)?;
-    let room = room_of(replaying.plan.levels);
+    let room = capacity_with(replaying.plan.levels);
     if room < asked {
         return Err(Stopped::Refused(Refusal::Full { asked, room }));
     }
@@ -75,7 +73,7 @@ pub fn mixing_in(
     let updates = updates_in(alloc, lines)?;
     let questions = map_questions_in(alloc, lines)?;
     let count = updates.len() as u64;
-    let room = room_of(replaying.plan.levels);
+    let room = capacity_with(replaying.plan.levels);
     if room < count {
         return Err(Stopped::Refused(Refusal::Full { asked: count, room }));
     }
@@ -91,9 +89,9 @@ pub fn mixing_in(
 }
 
 /// How many entries a map of so many levels can accept.
-fn room_of(levels: u32) -> u64
-    requires { levels ≤ 26 }
-    ensures { result ≡ room_of levels }
+fn capacity_with(levels: u32) -> u64
+    requires { levels ≤ MAX_LEVELS }
+    ensures { result ≡ capacity_with levels }
 {
     (64 << levels) - 1
 }
@@ -160,7 +158,7 @@ fn counted(alloc: Global, updates: &[Update]) -> Result<(u64, Option<LogMap>), A
     if are_plain(updates) {
         return Ok((updates.len() as u64, None));
     }
-    let mut map = LogMap::new(alloc, MOST_LEVELS)?;
+    let mut map = LogMap::new(alloc, MAX_LEVELS)?;
     match map.apply_here(alloc, updates) {
         Ok(()) => {}
         Err(MapFault::Full { .. }) => unreachable!(),

@@ -26,7 +26,7 @@
 //! | look | `Reader::look` | the copy that is shown is entered |
 //! | tell, learn | `Writer::tell`, `Reader::learn` | none: a note is a prefix that is copied |
 //!
-//! Main clauses: `published` of [`Writer::publish`], `shown` of [`Reader::look`], `told` of
+//! Main clauses: `published` of [`Writer::publish`], `look` of [`Reader::look`], `told` of
 //! [`Reader::learn`], and those of [`Look::get`], [`Look::next`] and [`Look::count`]. The words of
 //! the clauses are in `specs/Histories.antt` and `specs/Writers.antt`.
 //!

@@ -169,7 +169,8 @@ impl Reader {
     ///
     /// # Errors
     ///
-    /// The reader as it was, only where the door's count of refusals rose in this call.
+    /// The reader as it was, only where the door's count of refusals rose in this call, or stands
+    /// at its last value.
     pub fn look_through<D: Door>(self, door: &mut D) -> Result<Look, Reader>
         ensures look { IsLookOf self result }
         ensures call { D.enters door.old result door.new }

@@ -1,9 +1,11 @@
 // The writer.
-ghost use Rattle.std.specs.Prelude.{◌≡◌, ◌+◌, ◌-◌, ◌*◌, ◌^◌};
+ghost use Rattle.std.specs.Prelude.{◌≡◌, ◌+◌};
 ghost use Rattle.std.specs.Prelude.{◌<◌, ◌≤◌};
 ghost use Rattle.std.specs.Prelude.{◌++◌, [], length, All, Some};
 ghost use Rattle.std.specs.Prelude.{IfOk, OnOk, OnErr, Err, vec_len, vec_capacity};
 ghost use Rattle.left_right.specs.Sides.{view};
+ghost use Rattle.log_levels.specs.Shapes.{capacity_with};
+ghost use Rattle.options.specs.declared.map.TheConstants.{MAX_LEVELS, MAX_READERS};
 ghost use Rattle.published.specs.Histories.{count_of, published};
 ghost use Rattle.published.specs.Writers.{IsSameMap, Refuses};
 
@@ -75,11 +77,11 @@ pub fn start_map<R: Wait>(
     readers: u32,
 ) -> Result<(Writer, Vec<Reader>), NoMemory>
     requires some { 1 ≤ levels }
-    requires few { levels ≤ 26 }
-    requires few_readers { readers ≤ 16 }
+    requires few { levels ≤ MAX_LEVELS }
+    requires few_readers { readers ≤ MAX_READERS }
     ensures history { IfOk result (λ made. made.0.history ≡ []) }
     ensures batch { IfOk result (λ made. made.0.batch ≡ []) }
-    ensures capacity { IfOk result (λ made. made.0.capacity ≡ 64 * 2 ^ levels - 1) }
+    ensures capacity { IfOk result (λ made. made.0.capacity ≡ capacity_with levels) }
     ensures readers { IfOk result (λ made. length made.1.items ≡ readers) }
     ensures fresh { IfOk result (λ made. All (λ reader.
         (reader.origin ≡ made.0.origin) × (reader.batches ≡ [])) made.1.items) }

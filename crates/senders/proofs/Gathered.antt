@@ -10,6 +10,7 @@ use Rattle.senders.specs.declared.views.View.{View}
 use Rattle.senders.specs.Senders.{Origin, Sending, of_sender, IsDelivered}
 use Rattle.senders.specs.Views.{hand_of, sending, sent_by, taking, joined, Settles}
 use Rattle.senders.proofs.Orders.{of_sender-append}
+use Rattle.options.specs.declared.map.TheConstants.{MAX_ROOM}
 
 -- a sender as the rule knows it
 abbrev pub hand_of_sender : Sending → Hand
@@ -92,7 +93,7 @@ sum_hands (sender ∷ senders) = omega (
 
 -- what the pass of all knows of the queue, said of the senders
 pub settled : (taken items : List (ℕ × Update)) (senders : List Sending) (v : View) → v.taken ≡ taken → v.hands ≡ map hand_of_sender senders → Settles v items
-    → (length items ≤ 65536) × All (IsDelivered taken items) senders × (length items + length taken ≡ sum_by (λ sender. length sender.sent) senders)
+    → (length items ≤ MAX_ROOM) × All (IsDelivered taken items) senders × (length items + length taken ≡ sum_by (λ sender. length sender.sent) senders)
 settled taken items senders v same hands knows =
     let sent : All (IsSent (taken ++ items)) v.hands = subst (λ (l : List (ℕ × Update)). All (IsSent (l ++ items)) v.hands) same knows.hands in (
       knows.small,

@@ -16,6 +16,7 @@ use Rattle.senders.specs.declared.views.View.{View}
 use Rattle.senders.specs.Senders.{of_sender, MayWait}
 use Rattle.senders.specs.Views.{Core, IsHand, IsInbox, Fits, IsInOrder, Delivers, sent_count, hand_of, sending, taking, spent, one_fewer, one_made, one_apart, joined, sent_by, sends, Took, Knows, Awaits, Settles}
 use Rattle.senders.proofs.Orders.{more-own, more-other, none_sent, moved, of_sender-append}
+use Rattle.options.specs.declared.map.TheConstants.{MAX_ROOM, MAX_SENDERS}
 
 -- ---- lists of views
 
@@ -44,7 +45,7 @@ no_hands core items pass = All-nil (IsHand core items pass)
 one_hand : (core : Core) (items : List (ℕ × Update)) (pass : ℕ) (hand : Hand) → IsHand core items pass hand → All (IsHand core items pass) (hand ∷ [])
 one_hand core items pass hand is = All-cons (IsHand core items pass) hand [] is (no_hands core items pass)
 
-spent_fits : (core : Core) (items : List (ℕ × Update)) (pass : ℕ) → core.count ≤ 16 → Fits core items pass spent
+spent_fits : (core : Core) (items : List (ℕ × Update)) (pass : ℕ) → core.count ≤ MAX_SENDERS → Fits core items pass spent
 spent_fits core items pass few = record { count = few; hands = no_hands core items pass; inbox = λ h. absurd (true≢false (sym h)) }
 
 -- the end of a list, of which all holds
@@ -55,9 +56,9 @@ rest P (x ∷ xs) ys all = rest P xs ys (All-tail P x (xs ++ ys) all)
 -- ---- make
 
 abbrev opening : Core
-opening = record { made = 0; count = 16; seat = λ p. 0; reader = 0; taken = [] }
+opening = record { made = 0; count = MAX_SENDERS; seat = λ p. 0; reader = 0; taken = [] }
 
-pub begins : Delivers [] (taking 16 0 [] [] [] ∷ [])
+pub begins : Delivers [] (taking MAX_SENDERS 0 [] [] [] ∷ [])
 begins = (
   opening,
   record {
@@ -71,15 +72,15 @@ begins = (
   },
 )
   where
-    first : Fits opening [] 0 (taking 16 0 [] [] [])
+    first : Fits opening [] 0 (taking MAX_SENDERS 0 [] [] [])
     first = record {
       count = omega arith;
       hands = no_hands opening [] 0;
       inbox = λ h. record { reader = refl; made = refl; count = refl; taken = refl; waiting = ([], refl) };
     }
 
-    each : (pass : ℕ) (v : View) → get_elem? (taking 16 0 [] [] [] ∷ []) pass ≡ some v → Fits opening [] pass v
-    each zero v e = subst (Fits opening [] 0) (some-injective (taking 16 0 [] [] []) v e) first
+    each : (pass : ℕ) (v : View) → get_elem? (taking MAX_SENDERS 0 [] [] [] ∷ []) pass ≡ some v → Fits opening [] pass v
+    each zero v e = subst (Fits opening [] 0) (some-injective (taking MAX_SENDERS 0 [] [] []) v e) first
     each (suc pass) v e = absurd (cc e)
 
 -- ---- give up
@@ -173,7 +174,7 @@ makes_one pass v takes more items views (core, rule) at =
 
 -- ---- send
 
-pub sends_in_order : (n pass senders number : ℕ) (sent : List Update) (update : Update) → n ≤ 65536
+pub sends_in_order : (n pass senders number : ℕ) (sent : List Update) (update : Update) → n ≤ MAX_ROOM
     → Pushes Delivers n pass (sending senders number sent) (number, update) (sends (sending senders number sent) (number, update))
 sends_in_order n pass senders number sent update small items views room (core, rule) at =
     let v = sending senders number sent in
@@ -373,7 +374,7 @@ settles pass v takes made all items views (core, rule) at =
 
 -- ---- of any view that is a sender's
 
-pub send_keeps : (n pass : ℕ) (v : View) (number : ℕ) (update : Update) → n ≤ 65536 → v ≡ sending v.senders number (sent_by v.hands)
+pub send_keeps : (n pass : ℕ) (v : View) (number : ℕ) (update : Update) → n ≤ MAX_ROOM → v ≡ sending v.senders number (sent_by v.hands)
     → Pushes Delivers n pass v (number, update) (sends v (number, update)) × Learns Delivers pass v (Knows v)
 send_keeps n pass v number update small is =
     subst (λ (u : View). Pushes Delivers n pass u (number, update) (sends u (number, update)) × Learns Delivers pass u (Knows u)) (sym is)

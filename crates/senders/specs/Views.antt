@@ -10,6 +10,7 @@ use Rattle.crossbeam_queue.specs.Passes.{ruled_capacity}
 use Rattle.crossbeam_queue.specs.declared.array_queue.Doing.{Doing}
 use Rattle.crossbeam_queue.specs.declared.array_queue.Slotted.{Slotted}
 use Rattle.senders.specs.Senders.{Origin, of_sender, MayWait}
+use Rattle.options.specs.declared.map.TheConstants.{MAX_ROOM, MAX_SENDERS}
 
 -- how many senders were made and can be, at which pass each of them and the inbox stand, and what the inbox took
 pub record Core : Type 0 where
@@ -45,8 +46,8 @@ sent_count v = sum_by (λ hand. length hand.sent) v.hands
 -- Each sender stands at one pass, and so does the inbox. All that was sent was taken or is queued, and of each sender in its order
 pub record IsInOrder (core : Core) (items : List (ℕ × Update)) (views : List View) : Type 0 where
   pub seated : core.made ≤ core.count
-  pub few : core.count ≤ 16
-  pub small : length items ≤ 65536
+  pub few : core.count ≤ MAX_SENDERS
+  pub small : length items ≤ MAX_ROOM
   pub numbers : All (λ item. item.0 < core.made) (core.taken ++ items)
   pub hands : sum_by (λ v. length v.hands) views ≡ core.made
   pub total : sum_by sent_count views ≡ length core.taken + length items
@@ -68,7 +69,7 @@ taking senders made hands taken waiting = record { senders = senders; made = mad
 
 -- what is left of a pass that another took in
 abbrev pub spent : View
-spent = record { senders = 16; made = 0; hands = []; takes = false; taken = []; waiting = [] }
+spent = record { senders = MAX_SENDERS; made = 0; hands = []; takes = false; taken = []; waiting = [] }
 
 -- the inbox of this queue
 abbrev pub origin_of : {Q A : Type 0} → Slotted (Option (ℕ × Update)) (Doing (ℕ × Update) View) Q A → ℕ → Origin
@@ -118,6 +119,6 @@ Awaits v items = IsPrefix v.waiting items
 
 -- what a pass that stands for the inbox and all senders knows of the queue
 pub record Settles (v : View) (items : List (ℕ × Update)) : Type 0 where
-  pub small : length items ≤ 65536
+  pub small : length items ≤ MAX_ROOM
   pub total : sent_count v ≡ length v.taken + length items
   pub hands : All (λ hand. of_sender hand.number (v.taken ++ items) ≡ hand.sent) v.hands

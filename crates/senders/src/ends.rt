@@ -2,18 +2,17 @@
 ghost use Rattle.std.specs.Prelude.{◌≡◌, ◌+◌, ◌≤◌, [], All, IfOk, OnOk, vec_capacity};
 ghost use Rattle.std.specs.Arc.{arc_value};
 ghost use Rattle.crossbeam_queue.specs.Passes.{view, IsPassOf, IsSamePass, ruled_capacity};
+ghost use Rattle.options.specs.declared.map.TheConstants.{MAX_ROOM, MAX_SENDERS};
 ghost use Rattle.senders.specs.Senders.{AreFresh};
 ghost use Rattle.senders.specs.Views.{taking, origin_of};
 
 use crate::views::{Closes, Item, Line, OneApart, OneFewer, Right, Sends, Takes, Together};
 use budget::NoMemory;
 use log_levels::Update;
+use options::{MAX_SENDERS, Senders};
 use std::alloc::Global;
 use std::marker::Model;
 use std::sync::{Arc, Wait};
-
-/// How many senders there can be.
-const MOST_SENDERS: u32 = 16;
 
 /// A sender, seen as its number and the updates that it sent, in order.
 ///
@@ -30,6 +29,7 @@ impl Model for Sender {
     ghost use Rattle.std.specs.Prelude.{◌≡◌, ◌≤◌, length};
     ghost use Rattle.std.specs.Arc.{arc_value};
     ghost use Rattle.crossbeam_queue.specs.Passes.{IsPassOf, ruled_capacity};
+    ghost use Rattle.options.specs.declared.map.TheConstants.{MAX_ROOM};
     ghost use Rattle.senders.specs.Senders.{Sending};
     ghost use Rattle.senders.specs.Views.{sending, sent_by};
 
@@ -49,7 +49,7 @@ impl Model for Sender {
         × (s.right.me.0.client
         ≡ sending s.right.me.0.client.senders s.number (sent_by s.right.me.0.client.hands))
         × (s.sent ≡ length (sent_by s.right.me.0.client.hands))
-        × (ruled_capacity (arc_value s.line) ≤ 65536) };
+        × (ruled_capacity (arc_value s.line) ≤ MAX_ROOM) };
 }
 
 /// An inbox, seen as the updates that it took, in order, each behind its sender's number, and those
@@ -65,6 +65,7 @@ impl Model for Inbox {
     ghost use Rattle.std.specs.Prelude.{◌≡◌, ◌≤◌, [], length};
     ghost use Rattle.std.specs.Arc.{arc_value};
     ghost use Rattle.crossbeam_queue.specs.Passes.{IsPassOf, ruled_capacity};
+    ghost use Rattle.options.specs.declared.map.TheConstants.{MAX_ROOM, MAX_SENDERS};
     ghost use Rattle.senders.specs.Senders.{Taking};
     ghost use Rattle.senders.specs.Views.{taking};
 
@@ -85,51 +86,54 @@ impl Model for Inbox {
         inbox.right.me.0.client.senders [] inbox.right.me.0.client.taken
         inbox.right.me.0.client.waiting)
         × (inbox.taken ≡ length inbox.right.me.0.client.taken)
-        × (inbox.right.me.0.client.senders ≤ 16)
-        × (ruled_capacity (arc_value inbox.line) ≤ 65536) };
+        × (inbox.right.me.0.client.senders ≤ MAX_SENDERS)
+        × (ruled_capacity (arc_value inbox.line) ≤ MAX_ROOM) };
 }
 
-/// An inbox with `count` senders, 1 to 16, and room for `room` updates, 1 to 65,536, in the queue
-/// between them. The senders' numbers are their places in the list.
+/// An inbox with so many senders, and room for `room` updates, 1 to [`options::MAX_ROOM`], in the
+/// queue between them. The senders' numbers are their places in the list.
 ///
 /// # Errors
 ///
 /// `NoMemory` alone. The memory is that of the queue and of the list.
-pub fn start_senders(alloc: Global, count: u32, room: u32) -> Result<(Inbox, Vec<Sender>), NoMemory>
-    requires staffed { 1 ≤ count }
-    requires few { count ≤ 16 }
+pub fn start_senders(
+    alloc: Global,
+    senders: Senders,
+    room: u32,
+) -> Result<(Inbox, Vec<Sender>), NoMemory>
     requires some { 1 ≤ room }
-    requires small { room ≤ 65536 }
-    ensures senders { IfOk result (λ made. made.0.origin.senders ≡ count) }
+    requires small { room ≤ MAX_ROOM }
+    ensures senders { IfOk result (λ made. made.0.origin.senders ≡ senders.count) }
     ensures room { IfOk result (λ made. made.0.origin.room ≡ room) }
     ensures taken { IfOk result (λ made. made.0.taken ≡ []) }
-    ensures fresh { IfOk result (λ made. AreFresh made.0.origin count made.1.items) }
+    ensures fresh { IfOk result (λ made. AreFresh made.0.origin senders.count made.1.items) }
     ensures own { IfOk result (λ made.
         All (λ sender. sender.origin ≡ made.0.origin) made.1.items) }
 {
-    // Event: make. The first pass is the inbox's, and none of 16 numbers has a sender yet.
+    // Event: make. The first pass is the inbox's, and none of the numbers has a sender yet.
+    let count = senders.count;
     let (line, mut right) = Line::ruled(alloc, room as usize)?;
     give_up_numbers(&line, &mut right, count);
     let line = Arc::new(alloc, line)?;
-    let mut senders = Vec::with_capacity(alloc, count as usize)?;
-    make_senders(&line, &mut right, count, &mut senders)?;
+    let mut made = Vec::with_capacity(alloc, count as usize)?;
+    make_senders(&line, &mut right, count, &mut made)?;
     let inbox = Inbox {
         line,
         right,
         taken: 0,
     };
-    Ok((inbox, senders))
+    Ok((inbox, made))
 }
 
 /// Gives up the numbers that no sender gets.
 fn give_up_numbers(line: &Line, right: &mut Right, count: u32)
     requires own { IsPassOf line.now right.old }
-    requires few { count ≤ 16 }
-    requires first { view right.old ≡ taking 16 0 [] [] [] }
+    requires few { count ≤ MAX_SENDERS }
+    requires first { view right.old ≡ taking MAX_SENDERS 0 [] [] [] }
     ensures own { IsSamePass right.old right.new }
     ensures left { view right.new ≡ taking count 0 [] [] [] }
 {
-    for _number in count..MOST_SENDERS {
+    for _number in count..MAX_SENDERS {
         // Event: give up. The last number gets no sender, and the pass that would have been its is
         // let go.
         drop(line.another::<OneFewer>(right));
@@ -144,7 +148,7 @@ fn make_senders(
     senders: &mut Vec<Sender>,
 ) -> Result<(), NoMemory>
     requires own { IsPassOf (arc_value line.now) right.old }
-    requires room { ruled_capacity (arc_value line.now) ≤ 65536 }
+    requires room { ruled_capacity (arc_value line.now) ≤ MAX_ROOM }
     requires none { senders.old.items ≡ [] }
     requires first { view right.old ≡ taking count 0 [] [] [] }
     requires kept { count ≤ vec_capacity senders.old }

@@ -42,11 +42,12 @@ pub struct EachInOrder;
 
 impl Protocol<Item, View> for EachInOrder {
     ghost use Rattle.std.specs.Prelude.{[]};
+    ghost use Rattle.options.specs.declared.map.TheConstants.{MAX_SENDERS};
     ghost use Rattle.senders.specs.Views.{Delivers, taking};
 
     ghost holds = { Delivers };
 
-    ghost first = { taking 16 0 [] [] [] };
+    ghost first = { taking MAX_SENDERS 0 [] [] [] };
 }
 
 /// The step by which the last number gets no sender.

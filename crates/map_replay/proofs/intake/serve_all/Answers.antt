@@ -8,7 +8,7 @@ use Rattle.map_replay.proofs.intake.serve_all.Goals as goal
 
 pub loop-place-preserved : goal.loop-place-preserved
 loop-place-preserved g c =
-    let senders = c.args.assignment.dealing.senders in
+    let senders = c.args.assignment.dealing.senders.count in
     let updates = c.args.assignment.updates.now in
     let inv = c.loop-place.invariant in
     let place = c.loop-place.place in

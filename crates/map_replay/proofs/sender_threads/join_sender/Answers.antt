@@ -17,7 +17,7 @@ kept origin senders dealt_to updates all number before after same alike keeps is
 
 pub returns : goal.returns
 returns g c = λ origin number is.
-    let senders = c.args.assignment.dealing.senders in
+    let senders = c.args.assignment.dealing.senders.count in
     let updates = c.args.assignment.updates.now in
     let progress = c.match-started.progress in
     let here : IsOnItsWay origin senders updates number progress = elim c.match-started.branch [
@@ -25,7 +25,7 @@ returns g c = λ origin number is.
           let is_one = subst (λ (s : StartedSender). IsStarted origin c.args.assignment number s) w.in-Running.is is in
           let promise = w.in-Running.handle.promise in
           subst (λ (p : SenderProgress). IsOnItsWay origin senders updates number p) (sym w.progress-is)
-          (kept origin senders promise.assignment.dealing.senders updates promise.assignment.updates.now number promise.progress.value w.join-progress.result is_one.0 is_one.1 w.join-progress.ensures is_one.2)
+          (kept origin senders promise.assignment.dealing.senders.count updates promise.assignment.updates.now number promise.progress.value w.join-progress.result is_one.0 is_one.1 w.join-progress.ensures is_one.2)
       | in-Served w ↦
           subst (λ (p : SenderProgress). IsOnItsWay origin senders updates number p) (sym w.progress-is)
           (subst (λ (s : StartedSender). IsStarted origin c.args.assignment number s) w.in-Served.is is)

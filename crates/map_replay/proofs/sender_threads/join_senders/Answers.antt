@@ -6,7 +6,7 @@ use Rattle.map_replay.proofs.sender_threads.join_senders.Goals as goal
 
 pub loop-one-init : goal.loop-one-init
 loop-one-init g c =
-    let senders = c.args.assignment.dealing.senders in
+    let senders = c.args.assignment.dealing.senders.count in
     let updates = c.args.assignment.updates.now in
     record {
       count = omega (arith, c.requires.count, c.args.done.now.ok.0, ap (λ l. length l) c.requires.none);
@@ -17,7 +17,7 @@ loop-one-init g c =
 
 pub loop-one-preserved : goal.loop-one-preserved
 loop-one-preserved g c =
-    let senders = c.args.assignment.dealing.senders in
+    let senders = c.args.assignment.dealing.senders.count in
     let updates = c.args.assignment.updates.now in
     let inv = c.loop-one.invariant in
     let one = c.in-Some.one in

@@ -6,8 +6,8 @@ use Rattle.map_replay.proofs.sender_threads.join_senders.Given as goal
 
 abbrev pub invariant-loop-one : goal.invariant-loop-one
 invariant-loop-one g l = record {
-  count : vec_len l.done + vec_len l.started ≡ l.assignment.dealing.senders;
-  room : l.assignment.dealing.senders ≤ vec_capacity l.done;
+  count : vec_len l.done + vec_len l.started ≡ l.assignment.dealing.senders.count;
+  room : l.assignment.dealing.senders.count ≤ vec_capacity l.done;
   started : (origin : Origin) → AreStarted origin l.assignment l.fn.started.items → AreStarted origin l.assignment l.started.items;
   done : (origin : Origin) → AreStarted origin l.assignment l.fn.started.items → AreDone origin l.assignment l.done.items;
 }

@@ -10,7 +10,7 @@ use Rattle.map_replay.proofs.sender_threads.start_sender_threads.Goals as goal
 
 pub loop-sender-init : goal.loop-sender-init
 loop-sender-init g c =
-    let senders = c.args.assignment.dealing.senders in
+    let senders = c.args.assignment.dealing.senders.count in
     let updates = c.args.assignment.updates.now in
     record {
       count = omega (arith, c.requires.count, c.args.started.now.ok.0, ap (λ l. length l) c.requires.none);
@@ -22,7 +22,7 @@ loop-sender-init g c =
 
 pub loop-sender-preserved : goal.loop-sender-preserved
 loop-sender-preserved g c =
-    let senders = c.args.assignment.dealing.senders in
+    let senders = c.args.assignment.dealing.senders.count in
     let updates = c.args.assignment.updates.now in
     let inv = c.loop-sender.invariant in
     let sender = c.in-Some.sender in

@@ -6,10 +6,10 @@ use Rattle.map_replay.proofs.sender_threads.start_sender_threads.Given as goal
 
 abbrev pub invariant-loop-sender : goal.invariant-loop-sender
 invariant-loop-sender g l = record {
-  count : vec_len l.started + vec_len l.senders ≡ l.assignment.dealing.senders;
-  room : l.assignment.dealing.senders ≤ vec_capacity l.started;
-  fresh : (origin : Origin) → AreFresh origin l.assignment.dealing.senders l.fn.senders.items → AreAt (λ place sender. sender ≡ fresh_sender origin place) l.senders.items;
-  started : (origin : Origin) → AreFresh origin l.assignment.dealing.senders l.fn.senders.items → AreStarted origin l.assignment l.started.items;
+  count : vec_len l.started + vec_len l.senders ≡ l.assignment.dealing.senders.count;
+  room : l.assignment.dealing.senders.count ≤ vec_capacity l.started;
+  fresh : (origin : Origin) → AreFresh origin l.assignment.dealing.senders.count l.fn.senders.items → AreAt (λ place sender. sender ≡ fresh_sender origin place) l.senders.items;
+  started : (origin : Origin) → AreFresh origin l.assignment.dealing.senders.count l.fn.senders.items → AreStarted origin l.assignment l.started.items;
 }
 
 abbrev pub decreases-loop-sender : goal.decreases-loop-sender

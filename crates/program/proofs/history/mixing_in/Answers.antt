@@ -20,7 +20,7 @@ invariant_of-result c =
     let updates = c.in_ok-updates.updates.items in
     let entries = plain_entries updates (all_plain updates (plain updates c.args.lines.now c.in_ok-updates.ensures c.requires)) in
     record {
-      fits = omega (arith, entries, c.if-room-count.false, c.room_of-room.ensures, c.in_ok-updates.updates.ok.0);
+      fits = omega (arith, entries, c.if-room-count.false, c.capacity_with-room.ensures, c.in_ok-updates.updates.ok.0);
       after = λ held others is. absurd (cc is);
     }
 

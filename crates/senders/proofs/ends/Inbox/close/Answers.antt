@@ -10,6 +10,7 @@ use Rattle.senders.specs.Views.{Settles, hand_of, sending}
 use Rattle.senders.proofs.Steps.{join_keeps, settles}
 use Rattle.senders.proofs.Gathered.{hand_of_sender, one_more, joined_hands, joined_known, sum_popped, own_popped, all_hands, sum_left, settled, all_begin, all_whole}
 use Rattle.senders.proofs.ends.Inbox.close.Goals as goal
+use Rattle.options.specs.declared.map.TheConstants.{MAX_ROOM}
 
 pub absorb-requires-clause-queue : goal.absorb-requires-clause-queue
 absorb-requires-clause-queue c =
@@ -53,7 +54,7 @@ learn_as-requires-clause-rule c =
     (ap (λ (hs : List Hand). length hs) hands ∙ (length-map c.args.senders.items hand_of_sender ∙ (c.requires.all ∙ sym senders)))
 
 -- what all know, said of the senders
-all_known : (c : goal.After-drop-senders) → (items : List (ℕ × Update)) × (length items ≤ 65536) × All (IsDelivered c.args.self.taken items) c.args.senders.items
+all_known : (c : goal.After-drop-senders) → (items : List (ℕ × Update)) × (length items ≤ MAX_ROOM) × All (IsDelivered c.args.self.taken items) c.args.senders.items
     × (length items + length c.args.self.taken ≡ sum_by (λ (sender : Sending). length sender.sent) c.args.senders.items)
 all_known c =
     let learned = c.learn_as.ensures.rule in
