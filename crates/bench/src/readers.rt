@@ -1,5 +1,6 @@
 // Times readers of a map beside its writer: `bench read KEYS LOOKS`.
 ghost use Rattle.std.specs.Prelude.{◌≤◌};
+ghost use Rattle.options.specs.declared.map.TheConstants.{MAX_READERS};
 
 use crate::shared::number;
 use anyhow::{Result, bail, ensure};
@@ -73,7 +74,7 @@ fn with_readers<R: AllocGlobal + Print + Clock + Threads + Wait + Sync>(
     readers: u32,
     work: Work,
 ) -> Result<()>
-    requires { readers ≤ 16 }
+    requires { readers ≤ MAX_READERS }
 {
     let (mut writer, seats) = start_map(rt, rt.alloc(), LEVELS, readers)?;
     let done = measure(rt, &mut writer, seats, work);

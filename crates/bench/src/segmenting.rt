@@ -1,6 +1,7 @@
 // Times segmenting: `bench segment KEYS EPS [WORKERS]`.
 ghost use Rattle.std.specs.Prelude.{◌≡◌, ◌^◌, ◌<◌, ◌≤◌, IsTrue, length};
 ghost use Rattle.std.specs.List.Sorted.{IsStrictlyIncreasing, IsNonDecreasing};
+ghost use Rattle.exact_cross.specs.declared.TheConstants.{MAX_EPSILON};
 
 use crate::shared::{ROUNDS, error_bound, keys_of, least_of, number};
 use anyhow::{Result, bail, ensure};
@@ -25,7 +26,7 @@ struct Job {
     ghost rising: { IsStrictlyIncreasing xs.items },
     ghost never_falls: { IsNonDecreasing ys.items },
     ghost few: { length xs.items < 2 ^ 32 },
-    ghost bounded: { eps ≤ 1048576 },
+    ghost bounded: { eps ≤ MAX_EPSILON },
 }
 
 /// Times `segment` on the points of a key file, or `segment_in_pieces` by so many workers.

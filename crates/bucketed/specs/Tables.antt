@@ -3,6 +3,7 @@
 use Rattle.std.specs.Prelude.{◌≡◌, ℕ, ◌+◌, ◌-◌, ◌*◌, ◌/◌, ◌^◌, ◌≤◌, List, length, map, slice_index}
 use Rattle.window_search.specs.Searches.{lb}
 use Rattle.levels.specs.Indexes.{PgmIndex, xs_at}
+use Rattle.options.specs.declared.index.TheConstants.{MAX_BITS}
 
 -- an index, and how many top bits of a number tell its bucket
 pub record Bucketed : Type 0 where
@@ -37,5 +38,5 @@ pub record IsTable (index : PgmIndex) (bits : ℕ) (table : List ℕ) : Type 0 w
 -- what a table over an index is
 pub record AreBuckets (index : PgmIndex) (bits : ℕ) (table : List ℕ) : Type 0 where
   pub some : 1 ≤ bits
-  pub few : bits ≤ 20
+  pub few : bits ≤ MAX_BITS
   pub entries : IsTable index bits table

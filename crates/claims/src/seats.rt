@@ -57,20 +57,22 @@ impl Model for Seat {
 
 impl Claims {
     ghost use Rattle.std.specs.Prelude.{◌≡◌, ℕ, ◌+◌, ◌≤◌, All, IfOk, length, sum_by, min};
+    ghost use Rattle.options.specs.declared.index.TheConstants.{MAX_PIECES, MAX_WORKERS};
     ghost use Rattle.claims.specs.Claims.{IsFresh, times, once_below, ended_count};
 
     /// Claims on the numbers below `pieces`, and a seat for each of `workers` workers.
     ///
-    /// `pieces` is from 1 to 65,536 and `workers` from 1 to 64.
+    /// `pieces` is from 1 to `MAX_PIECES` of `options`, 65,536, and `workers` from 1 to `MAX_WORKERS`,
+    /// 64.
     ///
     /// # Errors
     ///
     /// `NoMemory` alone, where the word or the list of seats finds none.
     pub fn new(alloc: Global, pieces: u32, workers: u32) -> Result<(Claims, Vec<Seat>), NoMemory>
         requires some { 1 ≤ pieces }
-        requires few { pieces ≤ 65536 }
+        requires few { pieces ≤ MAX_PIECES }
         requires staffed { 1 ≤ workers }
-        requires small { workers ≤ 64 }
+        requires small { workers ≤ MAX_WORKERS }
         ensures pieces { IfOk result (λ made. made.0.origin.pieces ≡ pieces) }
         ensures workers { IfOk result (λ made. made.0.workers ≡ workers) }
         ensures seats { IfOk result (λ made. length made.1.items ≡ workers) }

@@ -25,10 +25,9 @@ use Rattle.clap.specs.declared.parser.matches.ArgMatches.{ArgMatches}
 use Rattle.clap.specs.declared.parser.matches.ArgMatches.TheViews.{out-ArgMatches, out-SubCommand}
 use Rattle.clap.specs.declared.parser.matches.SubCommand.{SubCommand}
 use Rattle.exact_cross.specs.declared.TheConstants.{MAX_EPSILON}
-use Rattle.options.specs.declared.drawing.TheConstants.{MAX_DRAWN}
+use Rattle.options.specs.declared.drawing.TheConstants.{MAX_DRAWN, MAX_SEED}
 use Rattle.options.specs.declared.index.TheConstants.{MAX_BITS, MAX_PIECES, MAX_WORKERS}
 use Rattle.options.specs.declared.map.TheConstants.{MAX_LEVELS, MAX_READERS, MAX_SENDERS}
-use Rattle.command_line.specs.declared.definition.TheConstants.{GREATEST_SEED}
 use Rattle.command_line.specs.declared.request.TheConstants.{MAX_BATCH}
 use Rattle.command_line.specs.Commands.{Command, application, commands, request_for}
 use Rattle.command_line.specs.declared.request.Request as declared
@@ -249,7 +248,7 @@ pub drill_options : Holds (codes "drill") AreDrillOptions
 unfolding clap_on_literals
 drill_options rows passed = record {
   number = number_reads (rules_of (codes "drill")) 1 MAX_DRAWN (codes "N") rows refl passed;
-  seed = number_reads (rules_of (codes "drill")) 0 GREATEST_SEED (codes "SEED") rows refl passed;
+  seed = number_reads (rules_of (codes "drill")) 0 MAX_SEED (codes "SEED") rows refl passed;
   eps = number_reads (rules_of (codes "drill")) 0 MAX_EPSILON (codes "eps") rows refl passed;
   eps_rec = number_reads (rules_of (codes "drill")) 0 MAX_EPSILON (codes "rec") rows refl passed;
   workers = number_reads (rules_of (codes "drill")) 1 MAX_WORKERS (codes "workers") rows refl passed;

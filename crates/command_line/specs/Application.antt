@@ -1,14 +1,16 @@
 -- What `clap` is told: the arguments of each command, and the program with its commands.
-use Rattle.std.specs.Prelude.{ℕ, List, [], ◌∷◌, ◌++◌, Some, true, false, pos, codes}
-use Rattle.clap.specs.Words.{Text, Rule, Shape, App, new_rule}
+use Rattle.std.specs.Prelude.{◌≡◌, ℕ, List, [], ◌∷◌, ◌++◌, Some, true, false, pos, codes}
+use Rattle.clap.specs.Words.{Text, Rule, Shape, App, app_of, new_rule, rule_of}
 use Rattle.clap.specs.Simple.{new_shape}
+use Rattle.clap.specs.declared.builder.arg.Arg.{Arg}
+use Rattle.clap.specs.declared.builder.command.Command.{Command}
+use Rattle.clap.specs.declared.builder.command.Command.TheViews.{out-Command}
 use Rattle.clap.specs.declared.builder.action.ArgAction.TheVariants.{SetTrue}
 use Rattle.clap.specs.declared.builder.value_parser.ValueParser.TheVariants as parser
 use Rattle.exact_cross.specs.declared.TheConstants.{MAX_EPSILON}
-use Rattle.options.specs.declared.drawing.TheConstants.{MAX_DRAWN}
+use Rattle.options.specs.declared.drawing.TheConstants.{MAX_DRAWN, MAX_SEED}
 use Rattle.options.specs.declared.index.TheConstants.{MAX_BITS, MAX_PIECES, MAX_WORKERS}
 use Rattle.options.specs.declared.map.TheConstants.{MAX_LEVELS, MAX_READERS, MAX_SENDERS}
-use Rattle.command_line.specs.declared.definition.TheConstants.{GREATEST_SEED}
 use Rattle.command_line.specs.declared.request.TheConstants.{MAX_BATCH}
 
 -- a name that has to be given
@@ -34,6 +36,16 @@ flag name = record (new_rule name) { long = Some name; action = Some SetTrue }
 -- a command with these arguments
 abbrev pub command : Text → List Rule → Shape
 command name rules = record (new_shape name) { rules = rules }
+
+-- an argument that `clap` keeps as this rule, and as its command's own
+pub record IsArgument (rule : Rule) (argument : Arg) : Type 0 where
+  pub is : rule_of argument ≡ rule
+  pub local : argument.global ≡ false
+
+-- a command that `clap` keeps as this name and these arguments, all its own
+pub record IsCommandOf (name : Text) (rules : List Rule) (made : Command) : Type 0 where
+  pub shape : app_of made ≡ record { top = command name rules; subs = [] }
+  pub local : (out-Command made).has_globals ≡ false
 
 -- the error bound of level 0, that of the levels above, and how many workers there are
 abbrev pub eps_rule : Rule
@@ -82,13 +94,9 @@ replay_rules = batch_rules ++ number (codes "readers") 0 MAX_READERS (codes "0")
 abbrev pub mix_rules : List Rule
 mix_rules = replay_rules ++ number (codes "senders") 1 MAX_SENDERS (codes "2") ∷ []
 
--- how many inputs are drawn of each kind, and a seed
-abbrev pub drawn_rules : List Rule
-drawn_rules = positional_number (codes "N") 1 MAX_DRAWN ∷ positional_number (codes "SEED") 0 GREATEST_SEED ∷ []
-
--- and how an index is built
+-- how many inputs are drawn of each kind, a seed, and how an index is built
 abbrev pub drill_rules : List Rule
-drill_rules = drawn_rules ++ bounds_rules
+drill_rules = positional_number (codes "N") 1 MAX_DRAWN ∷ positional_number (codes "SEED") 0 MAX_SEED ∷ bounds_rules
 
 -- a key file, a saved index, and how wide the keys are
 abbrev pub check_rules : List Rule

@@ -4,10 +4,9 @@ use Rattle.clap.specs.Words.{Text, Row, Rule, IsSignedIn, without_minus, one_of}
 use Rattle.clap.specs.Walk.{reading_by}
 use Rattle.clap.specs.Takes.{values_pass}
 use Rattle.exact_cross.specs.declared.TheConstants.{MAX_EPSILON}
-use Rattle.options.specs.declared.drawing.TheConstants.{MAX_DRAWN}
+use Rattle.options.specs.declared.drawing.TheConstants.{MAX_DRAWN, MAX_SEED}
 use Rattle.options.specs.declared.index.TheConstants.{MAX_BITS, MAX_PIECES, MAX_WORKERS}
 use Rattle.options.specs.declared.map.TheConstants.{MAX_LEVELS, MAX_READERS, MAX_SENDERS}
-use Rattle.command_line.specs.declared.definition.TheConstants.{GREATEST_SEED}
 use Rattle.command_line.specs.declared.request.TheConstants.{MAX_BATCH}
 
 -- some rule of the list does
@@ -71,7 +70,7 @@ IsSendersOption rows = IsNumberIn 1 MAX_SENDERS (codes "senders") rows
 -- what the numbers of a drill hold, and how its index is built
 pub record AreDrillOptions (rows : List Row) : Type 0 where
   pub number : IsNumberIn 1 MAX_DRAWN (codes "N") rows
-  pub seed : IsNumberIn 0 GREATEST_SEED (codes "SEED") rows
+  pub seed : IsNumberIn 0 MAX_SEED (codes "SEED") rows
   pub eps : IsNumberIn 0 MAX_EPSILON (codes "eps") rows
   pub eps_rec : IsNumberIn 0 MAX_EPSILON (codes "rec") rows
   pub workers : IsNumberIn 1 MAX_WORKERS (codes "workers") rows

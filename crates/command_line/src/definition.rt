@@ -1,28 +1,26 @@
 // The definition of the command line, as `clap` takes it.
-ghost use Rattle.std.specs.Prelude.{◌≡◌, ◌++◌, [], IfOk, false, codes};
-ghost use Rattle.clap.specs.Words.{App, Shape, app_of, rule_of, with_subcommand};
-ghost use Rattle.clap.specs.declared.builder.command.Command.TheViews.{out-Command};
-ghost use Rattle.command_line.specs.Application.{build_rules, index_rules, program_with};
+ghost use Rattle.std.specs.Prelude.{◌≡◌, ◌++◌, ◌∷◌, [], List, IfOk, codes};
+ghost use Rattle.clap.specs.Words.{App, Rule, Text, app_of, with_subcommand};
+ghost use Rattle.command_line.specs.Application.{bare_program, command, program_with};
+ghost use Rattle.command_line.specs.Application.{IsArgument, IsCommandOf};
+ghost use Rattle.command_line.specs.Application.{flag, number, positional};
+ghost use Rattle.command_line.specs.Application.{positional_number, ranged};
+ghost use Rattle.command_line.specs.Application.{bounds_rules, eps_rec_rule, eps_rule};
+ghost use Rattle.command_line.specs.Application.{build_rules, index_rules, workers_rule};
+ghost use Rattle.command_line.specs.Application.{query_rules, relax_rules, points_rules};
+ghost use Rattle.command_line.specs.Application.{batch_rules, mix_rules, replay_rules};
+ghost use Rattle.command_line.specs.Application.{check_rules, drill_rules};
+ghost use Rattle.command_line.specs.Application.{find_rules, lines_rules};
 ghost use Rattle.command_line.specs.Commands.{application, index_commands, line_commands};
 ghost use Rattle.command_line.specs.Commands.{script_commands, shapes_of};
-ghost use Rattle.command_line.specs.Application.{query_rules, relax_rules, points_rules};
-ghost use Rattle.command_line.specs.Application.{mix_rules, replay_rules, command};
-ghost use Rattle.command_line.specs.Application.{flag, number, positional};
-ghost use Rattle.command_line.specs.Application.{bare_program, batch_rules};
-ghost use Rattle.command_line.specs.Application.{drawn_rules, drill_rules};
-ghost use Rattle.command_line.specs.Application.{positional_number, ranged};
-ghost use Rattle.command_line.specs.Application.{check_rules, eps_rec_rule, eps_rule};
-ghost use Rattle.command_line.specs.Application.{find_rules, lines_rules, workers_rule};
 ghost use Rattle.exact_cross.specs.declared.TheConstants.{MAX_EPSILON};
 
 use crate::request::MAX_BATCH;
 use clap::{Arg, ArgAction, Command, value_parser};
 use exact_cross::MAX_EPSILON;
-use options::{MAX_BITS, MAX_DRAWN, MAX_LEVELS, MAX_PIECES, MAX_READERS, MAX_SENDERS, MAX_WORKERS};
+use options::{MAX_BITS, MAX_DRAWN, MAX_LEVELS, MAX_PIECES, MAX_READERS, MAX_SEED, MAX_SENDERS};
+use options::MAX_WORKERS;
 use std::alloc::{AllocError, Global};
-
-/// The greatest seed of a drill.
-const GREATEST_SEED: u32 = 0x7fff_ffff;
 
 /// The program and its commands.
 pub fn application<'a>(alloc: Global) -> Result<Command<'a>, AllocError>
@@ -67,14 +65,13 @@ fn with_index_commands<'a>(alloc: Global) -> Result<Command<'a>, AllocError>
 /// `application` holds nothing that is dropped where memory isn't found.
 fn added<'a>(
     program: Command<'a>,
-    command: Result<Command<'a>, AllocError>,
+    made: Result<Command<'a>, AllocError>,
 ) -> Result<Command<'a>, AllocError>
-    ensures { (before : App) (shape : Shape) → app_of program.entry ≡ before
-        → IfOk command.entry (λ made. app_of made ≡ record { top = shape; subs = [] })
-        → IfOk command.entry (λ made. (out-Command made).has_globals ≡ false)
-        → IfOk result (λ more. app_of more ≡ with_subcommand before shape) }
+    ensures { (before : App) (name : Text) (rules : List Rule) → app_of program.entry ≡ before
+        → IfOk made.entry (IsCommandOf name rules)
+        → IfOk result (λ more. app_of more ≡ with_subcommand before (command name rules)) }
 {
-    program.subcommand(command?)
+    program.subcommand(made?)
 }
 
 /// The program before its commands.
@@ -90,193 +87,173 @@ fn bare_program<'a>(alloc: Global) -> Command<'a>
 
 /// A command over the index of a key file.
 fn index_command<'a>(alloc: Global, name: &'a str) -> Result<Command<'a>, AllocError>
-    ensures shape { IfOk result
-        (λ made. app_of made ≡ record { top = command name.entry.now build_rules; subs = [] }) }
-    ensures local { IfOk result (λ made. (out-Command made).has_globals ≡ false) }
+    ensures { IfOk result (IsCommandOf name.entry.now build_rules) }
 {
-    counted_command(alloc, name)?.arg(flag(alloc, "narrow"))
+    with(counted_command(alloc, name), flag(alloc, "narrow"))
 }
 
 /// A command over the index of a key file, without its flag.
 fn counted_command<'a>(alloc: Global, name: &'a str) -> Result<Command<'a>, AllocError>
-    ensures shape { IfOk result
-        (λ made. app_of made ≡ record { top = command name.entry.now index_rules; subs = [] }) }
-    ensures local { IfOk result (λ made. (out-Command made).has_globals ≡ false) }
+    ensures { IfOk result (IsCommandOf name.entry.now index_rules) }
 {
-    Command::new(alloc, name)
-        .arg(positional(alloc, "FILE"))?
-        .arg(eps(alloc))?
-        .arg(eps_rec(alloc))?
-        .arg(workers(alloc))
+    let command = with(new_command(alloc, name), positional(alloc, "FILE"));
+    with_bounds(alloc, command)
 }
 
 fn query_command<'a>(alloc: Global) -> Result<Command<'a>, AllocError>
-    ensures shape { IfOk result
-        (λ made. app_of made ≡ record { top = command (codes "query") query_rules; subs = [] }) }
-    ensures local { IfOk result (λ made. (out-Command made).has_globals ≡ false) }
+    ensures { IfOk result (IsCommandOf (codes "query") query_rules) }
 {
-    index_command(alloc, "query")?
-        .arg(positional(alloc, "SCRIPT"))?
-        .arg(flag(alloc, "windows"))?
-        .arg(number(alloc, "buckets", 0, MAX_BITS, "0"))
+    let command = with(index_command(alloc, "query"), positional(alloc, "SCRIPT"));
+    let command = with(command, flag(alloc, "windows"));
+    with(command, number(alloc, "buckets", 0, MAX_BITS, "0"))
 }
 
 fn relax_command<'a>(alloc: Global) -> Result<Command<'a>, AllocError>
-    ensures shape { IfOk result
-        (λ made. app_of made ≡ record { top = command (codes "relax") relax_rules; subs = [] }) }
-    ensures local { IfOk result (λ made. (out-Command made).has_globals ≡ false) }
+    ensures { IfOk result (IsCommandOf (codes "relax") relax_rules) }
 {
-    index_command(alloc, "relax")?
-        .arg(positional(alloc, "SCRIPT"))?
-        .arg(number(alloc, "pieces", 1, MAX_PIECES, "4"))
+    let command = with(index_command(alloc, "relax"), positional(alloc, "SCRIPT"));
+    with(command, number(alloc, "pieces", 1, MAX_PIECES, "4"))
 }
 
 /// A command over a file of points.
 fn points_command<'a>(alloc: Global, name: &'a str) -> Result<Command<'a>, AllocError>
-    ensures shape { IfOk result
-        (λ made. app_of made ≡ record { top = command name.entry.now points_rules; subs = [] }) }
-    ensures local { IfOk result (λ made. (out-Command made).has_globals ≡ false) }
+    ensures { IfOk result (IsCommandOf name.entry.now points_rules) }
 {
-    Command::new(alloc, name)
-        .arg(positional(alloc, "FILE"))?
-        .arg(positional(alloc, "SCRIPT"))?
-        .arg(number(alloc, "dims", 2, 4, "2"))
+    let command = with(new_command(alloc, name), positional(alloc, "FILE"));
+    let command = with(command, positional(alloc, "SCRIPT"));
+    with(command, number(alloc, "dims", 2, 4, "2"))
 }
 
 /// A command over a script of updates and questions.
 fn replay_command<'a>(alloc: Global, name: &'a str) -> Result<Command<'a>, AllocError>
-    ensures shape { IfOk result
-        (λ made. app_of made ≡ record { top = command name.entry.now replay_rules; subs = [] }) }
-    ensures local { IfOk result (λ made. (out-Command made).has_globals ≡ false) }
+    ensures { IfOk result (IsCommandOf name.entry.now replay_rules) }
 {
-    batch_command(alloc, name)?
-        .arg(number(alloc, "readers", 0, MAX_READERS, "0"))?
-        .arg(workers(alloc))
+    let readers = number(alloc, "readers", 0, MAX_READERS, "0");
+    with(with(batch_command(alloc, name), readers), workers(alloc))
 }
 
 /// A command over a script of updates and questions, without readers and workers.
 fn batch_command<'a>(alloc: Global, name: &'a str) -> Result<Command<'a>, AllocError>
-    ensures shape { IfOk result
-        (λ made. app_of made ≡ record { top = command name.entry.now batch_rules; subs = [] }) }
-    ensures local { IfOk result (λ made. (out-Command made).has_globals ≡ false) }
+    ensures { IfOk result (IsCommandOf name.entry.now batch_rules) }
 {
-    Command::new(alloc, name)
-        .arg(positional(alloc, "SCRIPT"))?
-        .arg(number(alloc, "levels", 1, MAX_LEVELS, "20"))?
-        .arg(number(alloc, "batch", 1, MAX_BATCH, "16"))
+    let command = with(new_command(alloc, name), positional(alloc, "SCRIPT"));
+    let command = with(command, number(alloc, "levels", 1, MAX_LEVELS, "20"));
+    with(command, number(alloc, "batch", 1, MAX_BATCH, "16"))
 }
 
 fn mix_command<'a>(alloc: Global) -> Result<Command<'a>, AllocError>
-    ensures shape { IfOk result
-        (λ made. app_of made ≡ record { top = command (codes "mix") mix_rules; subs = [] }) }
-    ensures local { IfOk result (λ made. (out-Command made).has_globals ≡ false) }
+    ensures { IfOk result (IsCommandOf (codes "mix") mix_rules) }
 {
-    replay_command(alloc, "mix")?.arg(number(alloc, "senders", 1, MAX_SENDERS, "2"))
+    let senders = number(alloc, "senders", 1, MAX_SENDERS, "2");
+    with(replay_command(alloc, "mix"), senders)
 }
 
 fn drill_command<'a>(alloc: Global) -> Result<Command<'a>, AllocError>
-    ensures shape { IfOk result
-        (λ made. app_of made ≡ record { top = command (codes "drill") drill_rules; subs = [] }) }
-    ensures local { IfOk result (λ made. (out-Command made).has_globals ≡ false) }
+    ensures { IfOk result (IsCommandOf (codes "drill") drill_rules) }
 {
-    drawn_command(alloc)?
-        .arg(eps(alloc))?
-        .arg(eps_rec(alloc))?
-        .arg(workers(alloc))
-}
-
-/// The command `drill` without its options.
-fn drawn_command<'a>(alloc: Global) -> Result<Command<'a>, AllocError>
-    ensures shape { IfOk result
-        (λ made. app_of made ≡ record { top = command (codes "drill") drawn_rules; subs = [] }) }
-    ensures local { IfOk result (λ made. (out-Command made).has_globals ≡ false) }
-{
-    Command::new(alloc, "drill")
-        .arg(positional_number(alloc, "N", 1, MAX_DRAWN))?
-        .arg(positional_number(alloc, "SEED", 0, GREATEST_SEED))
+    let command = with(new_command(alloc, "drill"), positional_number(alloc, "N", 1, MAX_DRAWN));
+    let command = with(command, positional_number(alloc, "SEED", 0, MAX_SEED));
+    with_bounds(alloc, command)
 }
 
 /// A command over a key file and a saved index.
 fn check_command<'a>(alloc: Global) -> Result<Command<'a>, AllocError>
-    ensures shape { IfOk result
-        (λ made. app_of made ≡ record { top = command (codes "check") check_rules; subs = [] }) }
-    ensures local { IfOk result (λ made. (out-Command made).has_globals ≡ false) }
+    ensures { IfOk result (IsCommandOf (codes "check") check_rules) }
 {
-    Command::new(alloc, "check")
-        .arg(positional(alloc, "FILE"))?
-        .arg(positional(alloc, "INDEX"))?
-        .arg(flag(alloc, "narrow"))
+    let command = with(new_command(alloc, "check"), positional(alloc, "FILE"));
+    let command = with(command, positional(alloc, "INDEX"));
+    with(command, flag(alloc, "narrow"))
 }
 
 /// A command that makes lines of a key file.
 fn lines_command<'a>(alloc: Global) -> Result<Command<'a>, AllocError>
-    ensures shape { IfOk result
-        (λ made. app_of made ≡ record { top = command (codes "lines") lines_rules; subs = [] }) }
-    ensures local { IfOk result (λ made. (out-Command made).has_globals ≡ false) }
+    ensures { IfOk result (IsCommandOf (codes "lines") lines_rules) }
 {
-    Command::new(alloc, "lines")
-        .arg(positional(alloc, "FILE"))?
-        .arg(number(alloc, "eps", 0, MAX_EPSILON, "32"))?
-        .arg(flag(alloc, "narrow"))
+    let command = with(new_command(alloc, "lines"), positional(alloc, "FILE"));
+    let command = with(command, number(alloc, "eps", 0, MAX_EPSILON, "32"));
+    with(command, flag(alloc, "narrow"))
 }
 
 /// A command over a key file, a file of lines and a script of questions.
 fn find_command<'a>(alloc: Global) -> Result<Command<'a>, AllocError>
-    ensures shape { IfOk result
-        (λ made. app_of made ≡ record { top = command (codes "find") find_rules; subs = [] }) }
-    ensures local { IfOk result (λ made. (out-Command made).has_globals ≡ false) }
+    ensures { IfOk result (IsCommandOf (codes "find") find_rules) }
 {
-    Command::new(alloc, "find")
-        .arg(positional(alloc, "FILE"))?
-        .arg(positional(alloc, "LINES"))?
-        .arg(positional(alloc, "SCRIPT"))?
-        .arg(flag(alloc, "narrow"))
+    let command = with(new_command(alloc, "find"), positional(alloc, "FILE"));
+    let command = with(command, positional(alloc, "LINES"));
+    let command = with(command, positional(alloc, "SCRIPT"));
+    with(command, flag(alloc, "narrow"))
+}
+
+/// A command without arguments.
+fn new_command<'a>(alloc: Global, name: &'a str) -> Result<Command<'a>, AllocError>
+    ensures { IfOk result (IsCommandOf name.entry.now []) }
+{
+    Ok(Command::new(alloc, name))
+}
+
+/// A command with an argument more, behind its others. One that wasn't made is handed in too, as to
+/// [`added`].
+fn with<'a>(
+    command: Result<Command<'a>, AllocError>,
+    argument: Arg<'a>,
+) -> Result<Command<'a>, AllocError>
+    ensures { (name : Text) (rules : List Rule) (rule : Rule)
+        → IfOk command.entry (IsCommandOf name rules) → IsArgument rule argument.entry
+        → IfOk result (IsCommandOf name (rules ++ rule ∷ [])) }
+{
+    command?.arg(argument)
+}
+
+/// A command with the options of how an index is built.
+fn with_bounds<'a>(
+    alloc: Global,
+    command: Result<Command<'a>, AllocError>,
+) -> Result<Command<'a>, AllocError>
+    ensures { (name : Text) (rules : List Rule) → IfOk command.entry (IsCommandOf name rules)
+        → IfOk result (IsCommandOf name (rules ++ bounds_rules)) }
+{
+    let command = with(with(command, eps(alloc)), eps_rec(alloc));
+    with(command, workers(alloc))
 }
 
 /// `--eps N`, the error bound of level 0.
 fn eps<'a>(alloc: Global) -> Arg<'a>
-    ensures rule { rule_of result ≡ eps_rule }
-    ensures local { result.global ≡ false }
+    ensures { IsArgument eps_rule result }
 {
     number(alloc, "eps", 0, MAX_EPSILON, "64")
 }
 
 /// `--rec N`, that of the levels above.
 fn eps_rec<'a>(alloc: Global) -> Arg<'a>
-    ensures rule { rule_of result ≡ eps_rec_rule }
-    ensures local { result.global ≡ false }
+    ensures { IsArgument eps_rec_rule result }
 {
     number(alloc, "rec", 0, MAX_EPSILON, "4")
 }
 
 /// `--workers N`.
 fn workers<'a>(alloc: Global) -> Arg<'a>
-    ensures rule { rule_of result ≡ workers_rule }
-    ensures local { result.global ≡ false }
+    ensures { IsArgument workers_rule result }
 {
     number(alloc, "workers", 1, MAX_WORKERS, "4")
 }
 
 /// A number that has to be given, from `least` to `most`.
 fn positional_number<'a>(alloc: Global, name: &'a str, least: u32, most: u32) -> Arg<'a>
-    ensures rule { rule_of result ≡ positional_number name.entry.now least most }
-    ensures local { result.global ≡ false }
+    ensures { IsArgument (positional_number name.entry.now least most) result }
 {
     ranged(alloc, name, least, most).required(true)
 }
 
 /// A name that has to be given.
 fn positional<'a>(alloc: Global, name: &'a str) -> Arg<'a>
-    ensures rule { rule_of result ≡ positional name.entry.now }
-    ensures local { result.global ≡ false }
+    ensures { IsArgument (positional name.entry.now) result }
 {
     Arg::new(alloc, name).required(true)
 }
 
 /// `--NAME N`, with N from `least` to `most`, and `default` where it isn't given.
 fn number<'a>(alloc: Global, name: &'a str, least: u32, most: u32, default: &'a str) -> Arg<'a>
-    ensures rule { rule_of result ≡ number name.entry.now least most default.entry.now }
-    ensures local { result.global ≡ false }
+    ensures { IsArgument (number name.entry.now least most default.entry.now) result }
 {
     ranged(alloc, name, least, most)
         .long(name)
@@ -285,16 +262,14 @@ fn number<'a>(alloc: Global, name: &'a str, least: u32, most: u32, default: &'a 
 
 /// A number from `least` to `most`.
 fn ranged<'a>(alloc: Global, name: &'a str, least: u32, most: u32) -> Arg<'a>
-    ensures rule { rule_of result ≡ ranged name.entry.now least most }
-    ensures local { result.global ≡ false }
+    ensures { IsArgument (ranged name.entry.now least most) result }
 {
     Arg::new(alloc, name).value_parser(value_parser!(u32).range(i64::from(least)..=i64::from(most)))
 }
 
 /// `--NAME`, given or not.
 fn flag<'a>(alloc: Global, name: &'a str) -> Arg<'a>
-    ensures rule { rule_of result ≡ flag name.entry.now }
-    ensures local { result.global ≡ false }
+    ensures { IsArgument (flag name.entry.now) result }
 {
     Arg::new(alloc, name).long(name).action(ArgAction::SetTrue)
 }

@@ -1,5 +1,4 @@
 pub mod Finders
 pub mod Pieces
-pub mod PointRegions
 pub mod Tasks
 pub mod Texts

@@ -10,6 +10,7 @@ ghost use Rattle.log_levels.specs.Accepted.{IsPlain};
 ghost use Rattle.log_levels.specs.Maps.{count_between, map_after};
 ghost use Rattle.drill_inputs.specs.Inputs.{searched_region};
 ghost use Rattle.written.specs.Writing.{Writes, BreaksOff, WritesText};
+ghost use Rattle.options.specs.declared.drawing.TheConstants.{MAX_DRAWN};
 ghost use Rattle.commands.specs.Tasks.{Bounds as TaskBounds, bounds_of};
 ghost use Rattle.commands.specs.Texts.Drill.{IsCounted, IsDrilled, drill_line, drill_lines};
 ghost use Rattle.commands.specs.Texts.Drill.{finds_line, index_line, points_line, updates_line};
@@ -84,7 +85,7 @@ fn counts_of<R: Threads + Sync, G: Gate>(
     ensures { IfOk result
         (λ counts. IsCounted drill.number drill.seed (bounds_of bounds) counts) }
 {
-    let inputs = Inputs::drawn(alloc, drill.number, drill.seed)?;
+    let inputs = Inputs::drawn(alloc, drill)?;
     let Inputs {
         keys,
         finds,
@@ -120,7 +121,7 @@ fn sum_of_positions<R: Threads + Sync>(
     workers: Workers,
     finds: &[u64],
 ) -> Result<u64, NoMemory>
-    requires { length finds.now ≤ 1000000 }
+    requires { length finds.now ≤ MAX_DRAWN }
     ensures { IfOk result (λ sum_found. sum_found ≡ sum (map (lb index.now.keys) finds.now)) }
 {
     let finder = Finder::Levels(index);
@@ -162,7 +163,7 @@ fn live_after<R: Threads + Sync, G: Gate>(
     gate: &G,
 ) -> Result<u64, NoMemory>
     requires plain { All IsPlain updates.now }
-    requires few { length updates.now ≤ 1000000 }
+    requires few { length updates.now ≤ MAX_DRAWN }
     ensures { IfOk result
         (λ live. live ≡ count_between (map_after updates.now) 0 18446744073709551615) }
 {

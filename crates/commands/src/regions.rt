@@ -5,7 +5,7 @@ ghost use Rattle.zorder.specs.Codes.{IsCode, IsDimension};
 ghost use Rattle.zorder.specs.declared.regions.Region.{Region as SearchedRegion};
 ghost use Rattle.boxes.specs.BoxAnswers.{codes_inside};
 ghost use Rattle.written.specs.Writing.{Writes, BreaksOff, WritesText};
-ghost use Rattle.commands.specs.PointRegions.{IsRegionOf};
+ghost use Rattle.zorder.specs.Regions.{IsRegionOf};
 ghost use Rattle.written.specs.InTurn.{TellsEach};
 ghost use Rattle.commands.specs.Texts.Regions.{IsSearched, TellsRegion, box_line, point_line};
 

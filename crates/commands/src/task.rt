@@ -3,7 +3,7 @@ ghost use Rattle.std.specs.Prelude.{◌≡◌, ◌*◌, ◌/◌, ◌<◌, ◌≤
 ghost use Rattle.std.specs.List.Sorted.{IsNonDecreasing};
 ghost use Rattle.exact_cross.specs.declared.TheConstants.{MAX_EPSILON};
 ghost use Rattle.zorder.specs.Codes.{IsDimension, IsInRange, coordinate_bits};
-ghost use Rattle.commands.specs.PointRegions.{IsRegionOf};
+ghost use Rattle.zorder.specs.Regions.{IsRegionOf};
 
 use map_commands::{History, Mixing};
 use options::{Bounds, Drill, Pieces, Table, Workers};

@@ -12,6 +12,7 @@ use crate::generator::Generator;
 use crate::lists;
 use budget::NoMemory;
 use log_levels::Update;
+use options::Drill;
 use std::alloc::Global;
 use zorder::Region;
 
@@ -37,27 +38,25 @@ impl Inputs {
     /// # Errors
     ///
     /// `NoMemory` alone.
-    pub fn drawn(alloc: Global, n: u32, seed: u32) -> Result<Inputs, NoMemory>
-        requires some { 1 ≤ n }
-        requires few { n ≤ 1000000 }
-        requires seed { seed < 2 ^ 31 }
-        ensures keys { IfOk result (λ inputs. inputs.keys.items ≡ keys_of n seed) }
-        ensures finds { IfOk result (λ inputs. inputs.finds.items ≡ finds_of n seed) }
+    pub fn drawn(alloc: Global, drill: Drill) -> Result<Inputs, NoMemory>
+        ensures keys { IfOk result (λ inputs. inputs.keys.items ≡ keys_of drill.number drill.seed) }
+        ensures finds { IfOk result (λ inputs. inputs.finds.items ≡ finds_of drill.number drill.seed) }
         ensures coordinates { IfOk result
-            (λ inputs. inputs.coordinates.items ≡ coordinates_of n seed) }
-        ensures updates { IfOk result (λ inputs. inputs.updates.items ≡ updates_of n seed) }
-        ensures key_count { IfOk result (λ inputs. vec_len inputs.keys ≡ n) }
+            (λ inputs. inputs.coordinates.items ≡ coordinates_of drill.number drill.seed) }
+        ensures updates { IfOk result (λ inputs. inputs.updates.items ≡ updates_of drill.number drill.seed) }
+        ensures key_count { IfOk result (λ inputs. vec_len inputs.keys ≡ drill.number) }
         ensures never_falls { IfOk result (λ inputs. IsNonDecreasing inputs.keys.items) }
         ensures small { IfOk result (λ inputs. All (λ key. key < 2 ^ 24) inputs.keys.items) }
-        ensures find_count { IfOk result (λ inputs. vec_len inputs.finds ≡ n) }
+        ensures find_count { IfOk result (λ inputs. vec_len inputs.finds ≡ drill.number) }
         ensures points { IfOk result (λ inputs. ArePoints 2 inputs.coordinates.items) }
-        ensures point_count { IfOk result (λ inputs. vec_len inputs.coordinates ≡ 2 * n) }
+        ensures point_count { IfOk result (λ inputs. vec_len inputs.coordinates ≡ 2 * drill.number) }
         ensures near { IfOk result
             (λ inputs. All (λ value. value < 256) inputs.coordinates.items) }
         ensures plain { IfOk result (λ inputs. All IsPlain inputs.updates.items) }
-        ensures update_count { IfOk result (λ inputs. vec_len inputs.updates ≡ n) }
+        ensures update_count { IfOk result (λ inputs. vec_len inputs.updates ≡ drill.number) }
     {
-        let mut generator = Generator::new(seed);
+        let n = drill.number;
+        let mut generator = Generator::new(drill.seed);
         let keys = lists::keys(alloc, n, &mut generator)?;
         let finds = lists::finds(alloc, n, &mut generator)?;
         let coordinates = lists::coordinates(alloc, n, &mut generator)?;

@@ -1,5 +1,6 @@
 // Each of the lists, from a generator that has drawn those before it.
 ghost use Rattle.std.specs.Prelude.{◌≡◌, ℕ, ◌*◌, ◌≤◌, IfOk, OnOk};
+ghost use Rattle.options.specs.declared.drawing.TheConstants.{MAX_DRAWN};
 ghost use Rattle.drill_inputs.specs.Draws.{state_after};
 ghost use Rattle.drill_inputs.specs.Inputs.{keys_of, finds_of, coordinates_of, updates_of};
 ghost use Rattle.drill_inputs.specs.Inputs.{update_by};
@@ -11,7 +12,7 @@ use std::alloc::Global;
 
 /// The keys, which take the first `n` draws.
 pub fn keys(alloc: Global, n: u32, generator: &mut Generator) -> Result<Vec<u64>, NoMemory>
-    requires { n ≤ 1000000 }
+    requires { n ≤ MAX_DRAWN }
     ensures keys { IfOk result (λ keys. keys.items ≡ keys_of n generator.old) }
     ensures state { OnOk result (generator.new ≡ state_after generator.old n) }
 {
@@ -27,7 +28,7 @@ pub fn keys(alloc: Global, n: u32, generator: &mut Generator) -> Result<Vec<u64>
 /// The questions, which take the next `n`.
 pub fn finds(alloc: Global, n: u32, generator: &mut Generator) -> Result<Vec<u64>, NoMemory>
     requires some { 1 ≤ n }
-    requires few { n ≤ 1000000 }
+    requires few { n ≤ MAX_DRAWN }
     ensures finds { IfOk result (λ finds. (seed : ℕ) → generator.old ≡ state_after seed n →
         finds.items ≡ finds_of n seed) }
     ensures state { OnOk result ((seed : ℕ) → generator.old ≡ state_after seed n →
@@ -42,7 +43,7 @@ pub fn finds(alloc: Global, n: u32, generator: &mut Generator) -> Result<Vec<u64
 
 /// The coordinates of the points, which take the next `2 * n`.
 pub fn coordinates(alloc: Global, n: u32, generator: &mut Generator) -> Result<Vec<u32>, NoMemory>
-    requires { n ≤ 1000000 }
+    requires { n ≤ MAX_DRAWN }
     ensures coordinates { IfOk result (λ coordinates. (seed : ℕ) →
         generator.old ≡ state_after seed (2 * n) →
         coordinates.items ≡ coordinates_of n seed) }
@@ -59,7 +60,7 @@ pub fn coordinates(alloc: Global, n: u32, generator: &mut Generator) -> Result<V
 /// The updates, which take the next `2 * n`.
 pub fn updates(alloc: Global, n: u32, generator: &mut Generator) -> Result<Vec<Update>, NoMemory>
     requires some { 1 ≤ n }
-    requires few { n ≤ 1000000 }
+    requires few { n ≤ MAX_DRAWN }
     ensures { IfOk result (λ updates. (seed : ℕ) →
         generator.old ≡ state_after seed (4 * n) → updates.items ≡ updates_of n seed) }
 {

@@ -1,6 +1,7 @@
 -- The reading of any bytes as the file of an index: the index, or the first fault in the order of the bytes.
 use Rattle.std.specs.Prelude.{◌≡◌, ◌≢◌, ◌⊎◌, ℕ, ◌+◌, ◌<◌, ◌≤◌, ◌^◌, List, [], ◌∷◌, ◌++◌, length, take, slice_index, Option, Result, Ok, Err}
 use Rattle.edge.specs.Reading.{HasRead}
+use Rattle.exact_cross.specs.declared.TheConstants.{MAX_EPSILON}
 use Rattle.index_file.specs.declared.fault.IndexFault.{IndexFault}
 use Rattle.index_file.specs.declared.fault.IndexFault.TheVariants.{ReadFault, Short, Magic, Epsilon, Side, Trailing, NoMemory}
 use Rattle.index_file.specs.Spelling.{SavedIndex, number, magic, head_bytes, index_bytes, IsBounded, IsSpelling}
@@ -15,8 +16,8 @@ pub record IsFormUpTo (got : ℕ) (bytes : List ℕ) : Type 0 where
   pub fits : eps < 2 ^ 32
   pub fits_rec : eps_rec < 2 ^ 32
   pub few : count < 2 ^ 32
-  pub small : 12 ≤ got → eps ≤ 1048576
-  pub small_rec : 16 ≤ got → eps_rec ≤ 1048576
+  pub small : 12 ≤ got → eps ≤ MAX_EPSILON
+  pub small_rec : 16 ≤ got → eps_rec ≤ MAX_EPSILON
   pub are : AreLevels count levels
   pub stand : bytes ≡ head_bytes eps eps_rec count ++ levels
 
@@ -35,14 +36,14 @@ pub record IsMagic (bytes : List ℕ) (at : ℕ) : Type 0 where
 -- the first bound that is too great is this one
 pub record IsEpsilon (bytes : List ℕ) (value : ℕ) : Type 0 where
   pub behind : List ℕ
-  pub great : 1048576 < value
+  pub great : MAX_EPSILON < value
   pub fits : value < 2 ^ 32
-  pub stands : (bytes ≡ magic ++ (number value ++ behind)) ⊎ ((eps : ℕ) × (eps ≤ 1048576) × (bytes ≡ magic ++ (number eps ++ (number value ++ behind))))
+  pub stands : (bytes ≡ magic ++ (number value ++ behind)) ⊎ ((eps : ℕ) × (eps ≤ MAX_EPSILON) × (bytes ≡ magic ++ (number eps ++ (number value ++ behind))))
 
 -- what stands before a cut byte of an index
 abbrev pub IsBeforeIndexCut : List ℕ → Type 0
 IsBeforeIndexCut front =
-    (eps : ℕ) × (eps_rec : ℕ) × (count : ℕ) × (rest : List ℕ) × (eps ≤ 1048576) × (eps_rec ≤ 1048576) × (count < 2 ^ 32) × AreBeforeLevelCut count rest × (front ≡ head_bytes eps eps_rec count ++ rest)
+    (eps : ℕ) × (eps_rec : ℕ) × (count : ℕ) × (rest : List ℕ) × (eps ≤ MAX_EPSILON) × (eps_rec ≤ MAX_EPSILON) × (count < 2 ^ 32) × AreBeforeLevelCut count rest × (front ≡ head_bytes eps eps_rec count ++ rest)
 
 -- a byte follows the index
 pub record IsTrailing (bytes : List ℕ) (byte : ℕ) : Type 0 where

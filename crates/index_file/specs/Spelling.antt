@@ -3,6 +3,7 @@ use Rattle.std.specs.Prelude.{◌≡◌, ℕ, ◌+◌, ◌<◌, ◌≤◌, ◌^�
 use Rattle.std.specs.List.{flat_map}
 use Rattle.std.specs.Int.{w32, to_le_bytes}
 use Rattle.std.specs.declared.alloc.Global.{Global}
+use Rattle.exact_cross.specs.declared.TheConstants.{MAX_EPSILON}
 use Rattle.index_file.specs.declared.saved.SavedRun.{SavedRun}
 use Rattle.index_file.specs.declared.saved.SavedCut.{SavedCut}
 use Rattle.index_file.specs.declared.saved.SavedCut.TheVariants.{Last, Over, Under}
@@ -77,8 +78,8 @@ pub record LevelFits (runs : List SavedRun) : Type 0 where
 
 -- the error bounds are at most 1,048,576, and the numbers have four bytes
 pub record IsBounded (eps eps_rec : ℕ) (levels : List (List SavedRun)) : Type 0 where
-  pub small : eps ≤ 1048576
-  pub small_rec : eps_rec ≤ 1048576
+  pub small : eps ≤ MAX_EPSILON
+  pub small_rec : eps_rec ≤ MAX_EPSILON
   pub few : length levels < 2 ^ 32
   pub each : All LevelFits levels
 

@@ -1,6 +1,7 @@
 //! Draws in a known order, and draws of two threads.
 
 ghost use Rattle.std.specs.Prelude.{◌≡◌, ◌≤◌, IfOk};
+ghost use Rattle.options.specs.declared.index.TheConstants.{MAX_PIECES};
 
 use budget::NoMemory;
 use claims::{Claims, Seat};
@@ -11,7 +12,7 @@ use std::thread::Threads;
 /// Claims on some numbers, and their two seats.
 fn two(alloc: Global, pieces: u32) -> Result<(Claims, Seat, Seat), NoMemory>
     requires some { 1 ≤ pieces }
-    requires few { pieces ≤ 65536 }
+    requires few { pieces ≤ MAX_PIECES }
     ensures workers { IfOk result (λ made. made.0.workers ≡ 2) }
     ensures first { IfOk result (λ made. made.1.origin ≡ made.0.origin) }
     ensures second { IfOk result (λ made. made.2.origin ≡ made.0.origin) }

@@ -1,6 +1,7 @@
 // Worked points: how far a run goes, its pair and its cut were found by hand from the definitions.
 ghost use Rattle.std.specs.Prelude.{◌≡◌, ◌<◌, ◌≤◌, IsTrue, length};
 ghost use Rattle.budget.specs.Ledgers.{IsNewLedger};
+ghost use Rattle.exact_cross.specs.declared.TheConstants.{MAX_EPSILON};
 
 use crate::common::{Points, expect_of, points_of};
 use budget::{NoMemory, Steps};
@@ -22,7 +23,7 @@ fn fit<L: Ledger>(
     blank: Blank,
 ) -> Result<Fitted, NoMemory>
     requires some { 1 ≤ length points.xs.now }
-    requires bounded { eps ≤ 1048576 }
+    requires bounded { eps ≤ MAX_EPSILON }
     requires ledger { IsNewLedger blank L.name L.parts }
 {
     let (xs, ys) = (points.xs, points.ys);

@@ -1,6 +1,7 @@
 // Worked lists: their runs, pairs, lines and cuts were found by hand from the definitions.
 ghost use Rattle.std.specs.Prelude.{◌≤◌, length};
 ghost use Rattle.budget.specs.Ledgers.{IsNewLedger};
+ghost use Rattle.exact_cross.specs.declared.TheConstants.{MAX_EPSILON};
 
 use crate::common::{Points, expect_of, points_of};
 use budget::{NoMemory, Steps};
@@ -57,7 +58,7 @@ fn has_rows(
     range: (u32, u32),
     rows: &[Row],
 ) -> Result<bool, NoMemory>
-    requires bounded { eps ≤ 1048576 }
+    requires bounded { eps ≤ MAX_EPSILON }
     requires range { range.0 ≤ range.1 }
     requires within { range.1 ≤ length points.xs.now }
 {
@@ -112,7 +113,7 @@ fn counts_rows<L: Ledger>(
     rows: &[Row],
     blank: Blank,
 ) -> Result<bool, NoMemory>
-    requires bounded { eps ≤ 1048576 }
+    requires bounded { eps ≤ MAX_EPSILON }
     requires range { range.0 ≤ range.1 }
     requires within { range.1 ≤ length points.xs.now }
     requires ledger { IsNewLedger blank L.name L.parts }

@@ -6,6 +6,7 @@ use Rattle.key_points.specs.Falls.{IsFirstFall}
 use Rattle.key_points.specs.declared.fault.KeysFault.{KeysFault}
 use Rattle.key_points.specs.declared.fault.KeysFault.TheVariants.{TooMany, Falls, NoMemory}
 use Rattle.levels.specs.Indexes.{PgmIndex, IsIndexOf}
+use Rattle.exact_cross.specs.declared.TheConstants.{MAX_EPSILON}
 use Rattle.kuldebiq.specs.declared.answer.Answer.{Answer}
 use Rattle.kuldebiq.specs.declared.answer.TheConstants.{NO_MEMORY, UNSORTED, TOO_MANY_KEYS, EPSILON_TOO_GREAT}
 use Rattle.kuldebiq.specs.Answers.{refuses}
@@ -14,8 +15,8 @@ use Rattle.kuldebiq.specs.Answers.{refuses}
 pub record CanBeIndexed (keys : List ℕ) (eps eps_rec : ℕ) : Type 0 where
   pub never_falls : IsNonDecreasing keys
   pub few : length keys < 2 ^ 32
-  pub bounded : eps ≤ 1048576
-  pub bounded_rec : eps_rec ≤ 1048576
+  pub bounded : eps ≤ MAX_EPSILON
+  pub bounded_rec : eps_rec ≤ MAX_EPSILON
 
 -- keys that fall, with the first place whose key is below the key before it
 abbrev pub RefusesOrder : List ℕ → Answer → Type 0
@@ -28,7 +29,7 @@ RefusesKeys keys answer = ((answer ≡ refuses TOO_MANY_KEYS (length keys)) × (
 -- an error bound that is too great, with the greater of the two, or else keys that are refused
 abbrev pub IsRefusal : List ℕ → ℕ → ℕ → Answer → Type 0
 IsRefusal keys eps eps_rec answer =
-    ((answer ≡ refuses EPSILON_TOO_GREAT (max eps eps_rec)) × (1048576 < max eps eps_rec)) ⊎ ((max eps eps_rec ≤ 1048576) × RefusesKeys keys answer)
+    ((answer ≡ refuses EPSILON_TOO_GREAT (max eps eps_rec)) × (MAX_EPSILON < max eps eps_rec)) ⊎ ((max eps eps_rec ≤ MAX_EPSILON) × RefusesKeys keys answer)
 
 -- a fault of keys as an answer
 abbrev pub refused_as : KeysFault → Answer

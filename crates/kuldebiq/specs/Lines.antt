@@ -4,6 +4,7 @@ use Rattle.std.specs.Option.{MatchOption}
 use Rattle.std.specs.List.Sorted.{IsNonDecreasing}
 use Rattle.lines.specs.Lookups.{LeadsWithin}
 use Rattle.lines.specs.Leads.{HaveLeastLines}
+use Rattle.exact_cross.specs.declared.TheConstants.{MAX_EPSILON}
 use Rattle.kuldebiq.specs.declared.answer.Answer.{Answer}
 use Rattle.kuldebiq.specs.declared.answer.TheConstants.{EPSILON_TOO_GREAT}
 use Rattle.kuldebiq.specs.Answers.{refuses}
@@ -13,11 +14,11 @@ use Rattle.kuldebiq.specs.Building.{RefusesKeys}
 pub record CanHaveLines (keys : List ℕ) (eps : ℕ) : Type 0 where
   pub never_falls : IsNonDecreasing keys
   pub few : length keys < 2 ^ 32
-  pub bounded : eps ≤ 1048576
+  pub bounded : eps ≤ MAX_EPSILON
 
 -- an error bound that is too great, or else keys that are refused
 abbrev pub IsLinesRefusal : List ℕ → ℕ → Answer → Type 0
-IsLinesRefusal keys eps answer = ((answer ≡ refuses EPSILON_TOO_GREAT eps) × (1048576 < eps)) ⊎ ((eps ≤ 1048576) × RefusesKeys keys answer)
+IsLinesRefusal keys eps answer = ((answer ≡ refuses EPSILON_TOO_GREAT eps) × (MAX_EPSILON < eps)) ⊎ ((eps ≤ MAX_EPSILON) × RefusesKeys keys answer)
 
 -- the words lead to within ε + 2 in the keys, and have as many lines as the least cover of the keys' points within ε has runs
 pub record AreLinesOf (keys : List ℕ) (eps : ℕ) (words : List ℕ) : Type 0 where

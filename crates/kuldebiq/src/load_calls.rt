@@ -17,7 +17,7 @@ use crate::answer::{
 use crate::map_calls::Pair;
 use crate::map_handle::MapHandle;
 use budget::NoMemory;
-use log_levels::LogMap;
+use log_levels::{LogMap, capacity_with};
 use options::MAX_LEVELS;
 use std::alloc::Global;
 
@@ -127,7 +127,7 @@ fn too_many(levels: u32, count: u64) -> Option<Answer>
         (capacity_with levels < count)) }
     ensures none { IsNone result → count ≤ capacity_with levels }
 {
-    let capacity = (64u64 << levels) - 1;
+    let capacity = capacity_with(levels);
     if count > capacity {
         return Some(refused(FULL, capacity));
     }

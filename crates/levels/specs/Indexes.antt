@@ -37,6 +37,11 @@ IsLevel keys eps eps_rec levels i = IsLevelOver (xs_of keys) (ys_of keys) eps ep
 abbrev pub IsIndex : (keys : List ℕ) (eps eps_rec : ℕ) (levels : List (List Segment)) → Type 0
 IsIndex keys eps eps_rec levels = AreLevelled (λ i. IsLevel keys eps eps_rec levels i) (length keys) levels
 
+-- each level is a least cover of its points
+abbrev pub AreLeast : (keys : List ℕ) (eps eps_rec : ℕ) (levels : List (List Segment)) → Type 0
+AreLeast keys eps eps_rec levels = (i : ℕ) → i < length levels →
+    IsLeastCover (points_at keys levels i) (eps_at eps eps_rec i) 0 (length (xs_at keys levels i)) (starts_of (level_at levels i))
+
 -- the index of a file's keys, with these error bounds
 pub record IsIndexOf (file : List ℕ) (eps eps_rec : ℕ) (index : PgmIndex) : Type 0 where
   pub of_keys : index.keys ≡ file

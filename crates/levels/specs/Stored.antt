@@ -2,6 +2,7 @@
 use Rattle.std.specs.Prelude.{◌≡◌, ◌≢◌, ℕ, ◌+◌, ◌<◌, ◌≤◌, ◌^◌, List, length, map, slice_index_or}
 use Rattle.std.specs.List.Sorted.{IsNonDecreasing}
 use Rattle.exact_cross.specs.declared.segment.Segment.{Segment}
+use Rattle.exact_cross.specs.declared.TheConstants.{MAX_EPSILON}
 use Rattle.levels.specs.declared.level.Level.{Level}
 use Rattle.exact_cross.specs.Segmentation.{IsSegmentation}
 use Rattle.exact_cross.specs.IndexLevels.{level_at, eps_at}
@@ -20,8 +21,8 @@ index_of keys eps eps_rec levels = record { keys = keys; eps = eps; eps_rec = ep
 pub record AreLevels (keys : List ℕ) (eps eps_rec : ℕ) (levels : List Level) : Type 0 where
   pub never_falls : IsNonDecreasing keys
   pub few : length keys < 2 ^ 32
-  pub bounded : eps ≤ 1048576
-  pub bounded_rec : eps_rec ≤ 1048576
+  pub bounded : eps ≤ MAX_EPSILON
+  pub bounded_rec : eps_rec ≤ MAX_EPSILON
   pub each : (i : ℕ) → i < length levels → IsLaidLevel keys eps eps_rec (segments_of levels) i
   pub others : (i : ℕ) → i + 1 < length levels → length (level_at (segments_of levels) i) ≢ 1
   pub models : (i : ℕ) (d : Level) → i < length levels →

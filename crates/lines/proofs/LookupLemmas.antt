@@ -4,9 +4,9 @@ use Rattle.std.specs.Int.{abs_diff}
 use Rattle.std.proofs.Math.Nat.{pow-le-pow_left}
 use Rattle.std.proofs.lemmas.Bool.{cases_lt}
 use Rattle.std.proofs.lemmas.List.{get_or-set_same, get_or-set_other}
-use Rattle.window_search.specs.Brackets.{IsBracket, ReadsNear}
+use Rattle.window_search.specs.Brackets.{IsBracket, ReadsNear, ReadsWithin}
 use Rattle.window_search.specs.Searches.{lb}
-use Rattle.lines.specs.Lookups.{ArePositions, IsPosition, IsSameOutside, LeadsWithin, ReadsWithin}
+use Rattle.lines.specs.Lookups.{ArePositions, IsPosition, IsSameOutside, LeadsWithin}
 use Rattle.lines.specs.Told.{IsTold}
 
 pub reads_within : (hint place far before after : ℕ) → ReadsNear hint place before after → abs_diff hint place ≤ far → ReadsWithin far before after

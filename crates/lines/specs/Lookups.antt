@@ -1,5 +1,5 @@
 -- How near the words lead, what a lookup reads, and the places of many questions.
-use Rattle.std.specs.Prelude.{◌≡◌, ◌⊎◌, ℕ, ◌+◌, ◌*◌, ◌^◌, ◌<◌, ◌≤◌, List, length, slice_index}
+use Rattle.std.specs.Prelude.{◌≡◌, ◌⊎◌, ℕ, ◌^◌, ◌<◌, ◌≤◌, List, length, slice_index}
 use Rattle.std.specs.Int.{abs_diff}
 use Rattle.std.specs.List.Sorted.{IsNonDecreasing}
 use Rattle.window_search.specs.Brackets.{IsBracket}
@@ -9,10 +9,6 @@ use Rattle.lines.specs.Told.{IsTold}
 -- the words lead to within `off` in the keys: what they tell for a question is at most so far from how many keys are below it
 abbrev pub LeadsWithin : List ℕ → List ℕ → ℕ → Type 0
 LeadsWithin words keys off = (q place : ℕ) → q < 2 ^ 64 → IsTold words (length keys) q place → abs_diff place (lb keys q) ≤ off
-
--- from `before` to `after` t keys were read, with 2 ^ t at most 16 (far + 1) ^ 2
-abbrev pub ReadsWithin : ℕ → ℕ → ℕ → Type 0
-ReadsWithin far before after = (t : ℕ) × (after ≡ before + t) × (2 ^ t ≤ 16 * (far + 1) ^ 2)
 
 -- the place brackets q, and is its lower bound where the keys never fall
 pub record IsPosition (keys : List ℕ) (q place : ℕ) : Type 0 where

@@ -2,9 +2,9 @@
 ghost use Rattle.std.specs.Prelude.{◌≡◌, ◌+◌, ◌<◌, ◌≤◌, ◌^◌, ℕ, length};
 ghost use Rattle.std.specs.List.Sorted.{IsNonDecreasing};
 ghost use Rattle.budget.specs.Ledgers.{IsNewLedger};
-ghost use Rattle.window_search.specs.Brackets.{IsBracket};
+ghost use Rattle.window_search.specs.Brackets.{IsBracket, ReadsWithin};
 ghost use Rattle.window_search.specs.Searches.{lb};
-ghost use Rattle.lines.specs.Lookups.{IsPosition, LeadsWithin, ReadsWithin};
+ghost use Rattle.lines.specs.Lookups.{IsPosition, LeadsWithin};
 
 use crate::near::{is_far, near_told};
 use crate::words::told;

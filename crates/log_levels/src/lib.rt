@@ -29,6 +29,6 @@ mod updates;
 mod walk;
 
 pub use fault::{LoadFault, MapFault};
-pub use log_map::{LogMap, one_map};
+pub use log_map::{LogMap, capacity_with, one_map};
 pub use tombstones::Entry;
 pub use update::Update;

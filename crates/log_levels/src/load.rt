@@ -14,7 +14,7 @@ ghost use Rattle.log_levels.specs.Kept.{entries_put, shared_of};
 
 use crate::fault::{LoadFault, MapFault};
 use crate::growth::{entries_from_bit, part, shared};
-use crate::log_map::{BLOCK, LogMap};
+use crate::log_map::{BLOCK, LogMap, capacity_with};
 use budget::NoMemory;
 use map_level::{Here, Level};
 use std::alloc::Global;
@@ -56,7 +56,7 @@ impl LogMap {
                 place: place as u64,
             });
         }
-        let accepted = (BLOCK << levels) - 1;
+        let accepted = capacity_with(levels);
         if pairs.len() as u64 > accepted {
             return Err(LoadFault::Full { accepted });
         }

@@ -9,7 +9,7 @@ ghost use Rattle.tombstones.specs.declared.entry.Entry.{Entry};
 ghost use Rattle.tombstones.specs.Entries.{IsAscending};
 ghost use Rattle.levels.specs.Indexes.{IsIndex};
 ghost use Rattle.log_levels.specs.declared.update.Update.{Update};
-ghost use Rattle.log_levels.specs.Shapes.{Held, StandsFor, capacity_of};
+ghost use Rattle.log_levels.specs.Shapes.{Held, StandsFor, capacity_of, capacity_with};
 ghost use Rattle.map_level.specs.Levels.{level_keys};
 ghost use Rattle.log_levels.specs.Shapes.{level_of, from_bit};
 ghost use Rattle.log_levels.specs.Maps.{map_after};
@@ -59,6 +59,14 @@ impl Model for LogMap {
 
     ghost invariant = { λ map. IsKept (held_of map.accepted map.buffer.items map.stored.items)
         (vec_capacity map.buffer) };
+}
+
+/// How many entries a map with so many levels, up to 26, can accept: `64 * 2^levels - 1`.
+pub fn capacity_with(levels: u32) -> u64
+    requires { levels ≤ MAX_LEVELS }
+    ensures { result ≡ capacity_with levels }
+{
+    (BLOCK << levels) - 1
 }
 
 impl LogMap {
@@ -121,7 +129,7 @@ impl LogMap {
     pub fn capacity(&self) -> u64
         ensures { result ≡ capacity_of self.now }
     {
-        (BLOCK << self.stored.len()) - 1
+        capacity_with(self.stored.len() as u32)
     }
 
     /// How many entries came since the last flush.

@@ -2,6 +2,7 @@
 
 use drill_inputs::{Generator, Inputs, searched_region};
 use log_levels::Update;
+use options::{Drill, MAX_DRAWN, MAX_SEED};
 use std::process::Abort;
 use std::test::Fail;
 use zorder::{encode, inside};
@@ -93,8 +94,8 @@ const ROWS: [Row; 4] = [
 fn rows_of_inputs(rt: HostRuntime) -> Result<(), Fail> {
     for row in &ROWS {
         let (n, seed) = (row.n, row.seed);
-        assert!(rt; 1 <= n && n <= 1_000_000 && seed < 1 << 31);
-        let inputs = Inputs::drawn(rt.alloc(), n, seed)?;
+        assert!(rt; 1 <= n && n <= MAX_DRAWN && seed <= MAX_SEED);
+        let inputs = Inputs::drawn(rt.alloc(), Drill { number: n, seed })?;
         assert_eq!(rt; inputs.keys.as_slice(), row.keys, "{n} {seed}");
         assert_eq!(rt; inputs.finds.as_slice(), row.finds, "{n} {seed}");
         assert_eq!(rt;
@@ -109,7 +110,11 @@ fn rows_of_inputs(rt: HostRuntime) -> Result<(), Fail> {
 
 #[test]
 fn as_many_as_there_can_be(rt: HostRuntime) -> Result<(), Fail> {
-    let inputs = Inputs::drawn(rt.alloc(), 1_000_000, 2_147_483_647)?;
+    let drill = Drill {
+        number: 1_000_000,
+        seed: 2_147_483_647,
+    };
+    let inputs = Inputs::drawn(rt.alloc(), drill)?;
     assert_eq!(rt; inputs.keys.last().copied(), Some(7_500_019));
     assert_eq!(rt; inputs.finds.last().copied(), Some(12508));
     assert_eq!(rt; inputs.coordinates.last().copied(), Some(15));

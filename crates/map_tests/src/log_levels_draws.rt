@@ -228,7 +228,7 @@ fn walk<R: Abort + AllocGlobal>(
     steps: u64,
 ) -> Result<(u64, u64, u64), Fail>
     requires some { 1 ≤ levels }
-    requires few { levels ≤ 26 }
+    requires few { levels ≤ MAX_LEVELS }
     requires seed { seed < 2 ^ 31 }
 {
     let mut map = LogMap::new(rt.alloc(), levels)?;

@@ -1,5 +1,6 @@
 //! Rows by hand, all interleavings of a few calls, and senders in threads of their own.
 ghost use Rattle.std.specs.Prelude.{◌≡◌, ◌≤◌, ◌<◌, All, IfOk, length, vec_len};
+ghost use Rattle.options.specs.declared.map.TheConstants.{MAX_ROOM, MAX_SENDERS};
 ghost use Rattle.senders.specs.Senders.{Origin, Sending};
 
 use budget::NoMemory;
@@ -71,7 +72,7 @@ impl Pair {
 
     fn new(alloc: Global, room: u32) -> Result<Pair, NoMemory>
         requires some { 1 ≤ room }
-        requires small { room ≤ 65536 }
+        requires small { room ≤ MAX_ROOM }
     {
         let (inbox, mut senders) = start_senders(alloc, Senders { count: 2 }, room)?;
         let Some(second) = senders.pop() else {
@@ -119,7 +120,7 @@ impl Pair {
 /// Six calls, each a digit of the number at base 3.
 fn six_calls<R: Wait>(rt: &R, alloc: Global, number: u32, room: u32) -> Result<bool, NoMemory>
     requires some { 1 ≤ room }
-    requires small { room ≤ 65536 }
+    requires small { room ≤ MAX_ROOM }
 {
     let mut pair = Pair::new(alloc, room)?;
     let mut left = number;
@@ -225,7 +226,7 @@ fn are_in_order(
 
 /// The senders beside their numbers.
 fn jobs_of(alloc: Global, mut senders: Vec<Sender>) -> Result<Vec<Job>, NoMemory>
-    requires few { vec_len senders ≤ 16 }
+    requires few { vec_len senders ≤ MAX_SENDERS }
     ensures own { IfOk result (λ jobs. (origin : Origin) →
         All (λ sender. sender.origin ≡ origin) senders.items →
         All (λ job. job.sender.origin ≡ origin) jobs.items) }
@@ -283,9 +284,9 @@ fn beside_each_other<R: Threads + Wait + Sync>(
     each: u32,
 ) -> Result<bool, NoMemory>
     requires staffed { 1 ≤ count }
-    requires few { count ≤ 16 }
+    requires few { count ≤ MAX_SENDERS }
     requires some { 1 ≤ room }
-    requires small { room ≤ 65536 }
+    requires small { room ≤ MAX_ROOM }
 {
     let (inbox, senders) = start_senders(alloc, Senders { count }, room)?;
     let jobs = jobs_of(alloc, senders)?;

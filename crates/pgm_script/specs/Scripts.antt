@@ -3,7 +3,7 @@ use Rattle.std.specs.Prelude.{◌≡◌, ℕ, ◌+◌, ◌==◌, if◌then◌els
 use Rattle.std.specs.Str.{is_utf8}
 use Rattle.std.specs.Str.Lines.{strip_carriage_return}
 use Rattle.zorder.specs.Codes.{IsDimension, IsInRange}
-use Rattle.zorder.specs.Regions.{IsRegion}
+use Rattle.zorder.specs.Regions.{IsRegionOf}
 use Rattle.pgm_script.specs.declared.script.ScriptKind.{ScriptKind}
 use Rattle.pgm_script.specs.declared.script.ScriptLine.{ScriptLine}
 use Rattle.pgm_script.specs.declared.fault.ScriptFault.{ScriptFault}
@@ -93,7 +93,7 @@ IsKind ScriptKind.Mix = ⊤
 -- a line that a script of this kind can have; a region is one of its dimension, and a centre in its range
 abbrev pub IsLineOf : ScriptKind → ScriptLine → Type 0
 IsLineOf ScriptKind.Find (ScriptLine.Find q) = ⊤
-IsLineOf (ScriptKind.Region d) (ScriptLine.Region region) = (region.d ≡ d) × IsRegion region
+IsLineOf (ScriptKind.Region d) (ScriptLine.Region region) = IsRegionOf d region
 IsLineOf (ScriptKind.Near d) (ScriptLine.Near centre k) = IsInRange d centre
 IsLineOf ScriptKind.Replay (ScriptLine.Put key value) = ⊤
 IsLineOf ScriptKind.Replay (ScriptLine.Del key) = ⊤

@@ -1,16 +1,17 @@
 -- Where points are cut into pieces.
 use Rattle.std.specs.Prelude.{◌≡◌, ◌↔◌, if◌then◌else◌, ℕ, ◌+◌, ◌-◌, ◌*◌, ◌/◌, ◌<◌, ◌≤◌, nat_lt, List, [], ◌∷◌, ◌++◌, length, slice_index, All, Contains}
 use Rattle.std.specs.List.Sorted.{IsStrictlyIncreasing}
+use Rattle.options.specs.declared.index.TheConstants.{MAX_PIECES}
 
 -- cuts of m points: places from 1 to m - 1, each below the next
 pub record AreCuts (m : ℕ) (cuts : List ℕ) : Type 0 where
   pub rise : IsStrictlyIncreasing cuts
   pub inside : All (λ cut. (0 < cut) × (cut < m)) cuts
 
--- and 65,535 at most, as workers take them
+-- and fewer than there can be pieces
 pub record AreFewCuts (m : ℕ) (cuts : List ℕ) : Type 0 where
   pub are : AreCuts m cuts
-  pub few : length cuts ≤ 65535
+  pub few : length cuts < MAX_PIECES
 
 -- of the values place 1, place 2, .. up to place (n - 1) those from 1 to m - 1, each once, in rising order
 pub record AreCutsAt (m n : ℕ) (place : ℕ → ℕ) (cuts : List ℕ) : Type 0 where

@@ -1,5 +1,7 @@
 // What all workers share: the points and their cuts.
-ghost use Rattle.std.specs.Prelude.{◌≡◌, ◌≤◌, length};
+ghost use Rattle.std.specs.Prelude.{◌≡◌, ◌<◌, ◌≤◌, length};
+ghost use Rattle.exact_cross.specs.declared.TheConstants.{MAX_EPSILON};
+ghost use Rattle.options.specs.declared.index.TheConstants.{MAX_PIECES};
 ghost use Rattle.piece_join.specs.Cuttings.{AreCuts};
 
 use exact_cross::PointList;
@@ -10,9 +12,9 @@ pub struct Work<'a> {
     pub points: PointList<'a>,
     pub eps: u32,
     pub cuts: &'a [u32],
-    ghost bounded: { eps ≤ 1048576 },
+    ghost bounded: { eps ≤ MAX_EPSILON },
     ghost inside: { AreCuts (length points.xs.now) cuts.now },
-    ghost few_cuts: { length cuts.now ≤ 65535 },
+    ghost few_cuts: { length cuts.now < MAX_PIECES },
 }
 
 impl<'a> Work<'a> {

@@ -73,11 +73,11 @@ entries_and_pairs pairs (update ∷ updates) =
 pub few_entries : (updates : List Update) → length (entries_of updates) ≤ 2 * length updates
 few_entries updates = omega (arith, entries_and_pairs [] updates)
 
--- updates no more than a script's bytes have room in a map of 26 levels
-pub room_for_all : (held : Held) (updates : List Update) → length held.levels ≡ 26 → length updates ≤ SCRIPT_LIMIT →
+-- updates no more than a script's bytes have room in a map of as many levels as there can be
+pub room_for_all : (held : Held) (updates : List Update) → length held.levels ≡ MAX_LEVELS → length updates ≤ SCRIPT_LIMIT →
     length (entries_of updates) ≤ capacity_of held
 room_for_all held updates levels few =
-    subst (λ (n : ℕ). length (entries_of updates) ≤ 64 * 2 ^ n - 1) (sym levels) (omega (arith, few_entries updates))
+    subst (λ (n : ℕ). length (entries_of updates) ≤ capacity_with n) (sym levels) (omega (arith, few_entries updates))
 
 -- ---- lines of a script
 

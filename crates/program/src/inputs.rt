@@ -2,7 +2,7 @@
 ghost use Rattle.std.specs.Prelude.{◌≡◌, ◌≤◌, ◌++◌, ◌∷◌, [], All, Err, IfOk, OnOk, length};
 ghost use Rattle.zorder.specs.Codes.{IsDimension, IsInRange};
 ghost use Rattle.pgm_script.specs.Scripts.{IsKind, IsLineOf};
-ghost use Rattle.commands.specs.PointRegions.{IsRegionOf};
+ghost use Rattle.zorder.specs.Regions.{IsRegionOf};
 ghost use Rattle.command_line.specs.Requests.{built_of};
 ghost use Rattle.program.specs.Files.{IsMissing};
 ghost use Rattle.program.specs.Inputs.{reads_index, reads_keys, reads_script};

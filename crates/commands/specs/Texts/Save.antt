@@ -1,11 +1,8 @@
 -- The text of `save`: a saved index, as bytes.
-use Rattle.std.specs.Prelude.{◌≡◌, ℕ, ◌<◌, List, ◌∷◌, length, map}
+use Rattle.std.specs.Prelude.{◌≡◌, ℕ, List, ◌∷◌, length, map}
 use Rattle.std.specs.List.{concat}
 use Rattle.exact_cross.specs.declared.segment.Segment.{Segment}
-use Rattle.exact_cross.specs.Checked.{IsLeastCover}
-use Rattle.exact_cross.specs.Segments.{starts_of}
-use Rattle.exact_cross.specs.IndexLevels.{level_at, eps_at}
-use Rattle.levels.specs.Indexes.{IsIndex, points_at, xs_at}
+use Rattle.levels.specs.Indexes.{AreLeast, IsIndex}
 use Rattle.index_file.specs.Spelling.{head_bytes, level_bytes, IsSpelling}
 use Rattle.index_file.specs.Spelled.{saved_run}
 use Rattle.index_file.specs.Checks.{saved_levels}
@@ -23,7 +20,6 @@ saved_pieces bounds levels = head_bytes bounds.eps bounds.eps_rec (length levels
 pub record IsSaved (keys : List ℕ) (bounds : Bounds) (pieces : List (List ℕ)) : Type 0 where
   pub levels : List (List Segment)
   pub index : IsIndex keys bounds.eps bounds.eps_rec levels
-  pub least : (i : ℕ) → i < length levels →
-      IsLeastCover (points_at keys levels i) (eps_at bounds.eps bounds.eps_rec i) 0 (length (xs_at keys levels i)) (starts_of (level_at levels i))
+  pub least : AreLeast keys bounds.eps bounds.eps_rec levels
   pub told : pieces ≡ saved_pieces bounds levels
   pub spelled : IsSpelling (record { eps = bounds.eps; eps_rec = bounds.eps_rec; levels = saved_levels levels }) (concat pieces)

@@ -7,7 +7,7 @@ use Rattle.pgm_script.specs.declared.script.ScriptKind.{ScriptKind}
 use Rattle.pgm_script.specs.declared.script.ScriptLine.{ScriptLine}
 use Rattle.pgm_script.specs.declared.script.ScriptLine.TheVariants.{Find, Region as region_line}
 use Rattle.pgm_script.specs.Scripts.{IsLineOf}
-use Rattle.commands.specs.PointRegions.{IsRegionOf}
+use Rattle.zorder.specs.Regions.{IsRegionOf}
 use Rattle.program.specs.Inputs.{region_in, regions_in}
 use Rattle.program.proofs.inputs.regions_in.Goals as goal
 
