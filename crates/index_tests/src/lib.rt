@@ -26,6 +26,8 @@ mod key_points_rows;
 #[cfg(test)]
 mod levels_rows;
 #[cfg(test)]
+mod lines_rows;
+#[cfg(test)]
 mod near_rows;
 #[cfg(test)]
 mod piece_join_rows;

@@ -17,8 +17,6 @@
 mod line_list;
 mod lookup;
 mod made;
-#[cfg(test)]
-mod made_rows;
 mod many;
 mod near;
 mod table;

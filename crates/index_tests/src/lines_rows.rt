@@ -1,5 +1,5 @@
 //! Words that are made of keys, each worked out by a program in another language.
-use crate::lines_of;
+use lines::lines_of;
 use std::process::Abort;
 
 /// Keys and ε, and their words.
