@@ -18,8 +18,9 @@ ghost use Rattle.exact_cross.specs.declared.TheConstants.{MAX_EPSILON};
 use crate::request::MAX_BATCH;
 use clap::{Arg, ArgAction, Command, value_parser};
 use exact_cross::MAX_EPSILON;
-use options::{MAX_BITS, MAX_DRAWN, MAX_LEVELS, MAX_PIECES, MAX_READERS, MAX_SEED, MAX_SENDERS};
-use options::MAX_WORKERS;
+use options::{
+    MAX_BITS, MAX_DRAWN, MAX_LEVELS, MAX_PIECES, MAX_READERS, MAX_SEED, MAX_SENDERS, MAX_WORKERS,
+};
 use std::alloc::{AllocError, Global};
 
 /// The program and its commands.
@@ -151,7 +152,10 @@ fn mix_command<'a>(alloc: Global) -> Result<Command<'a>, AllocError>
 fn drill_command<'a>(alloc: Global) -> Result<Command<'a>, AllocError>
     ensures { IfOk result (IsCommandOf (codes "drill") drill_rules) }
 {
-    let command = with(new_command(alloc, "drill"), positional_number(alloc, "N", 1, MAX_DRAWN));
+    let command = with(
+        new_command(alloc, "drill"),
+        positional_number(alloc, "N", 1, MAX_DRAWN),
+    );
     let command = with(command, positional_number(alloc, "SEED", 0, MAX_SEED));
     with_bounds(alloc, command)
 }

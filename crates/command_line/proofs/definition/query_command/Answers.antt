@@ -1,6 +1,6 @@
 use Rattle.command_line.proofs.definition.query_command.Goals as goal
 
 pub returns : goal.returns
-returns c = 
+returns c =
     let script_is = c.with-command.ensures _ _ _ c.index_command.ensures c.positional.ensures in
     c.with.ensures _ _ _ (c.with-command-2.ensures _ _ _ script_is c.flag.ensures) c.number.ensures
