@@ -77,9 +77,9 @@ pub one_relaxed : (keys : List ℕ) (bounds : Bounds) (pieces : ℕ) (questions 
     IsBuiltRelaxed keys bounds pieces questions one → IsBuiltRelaxed keys bounds pieces questions two → one ≡ two
 one_relaxed keys bounds pieces questions one two order first second =
     let m = length (xs_of keys) in
-    let cuts = AreCutsAt-unique m pieces (even_place m pieces) first.cuts second.cuts first.even second.even in
-    let index = subst (λ (c : List ℕ). IsRelaxedIndex keys bounds.eps bounds.eps_rec c first.levels) cuts first.index in
-    let levels = IsRelaxedIndex-unique keys bounds.eps bounds.eps_rec second.cuts first.levels second.levels index second.index in
+    let cuts = AreCutsAt-unique m pieces (even_place m pieces) first.cuts second.cuts first.index.even second.index.even in
+    let index = subst (λ (c : List ℕ). IsRelaxedIndex keys bounds.eps bounds.eps_rec c first.levels) cuts first.index.index in
+    let levels = IsRelaxedIndex-unique keys bounds.eps bounds.eps_rec second.cuts first.levels second.levels index second.index.index in
     let answers = one_answered keys bounds order questions false first.answers second.answers first.answered second.answered in
     first.told
     ∙ ap (λ (c : List ℕ). tells_levels keys first.levels (built_level keys bounds (Some (length c)) first.levels) ++ first.answers) cuts

@@ -1,13 +1,14 @@
 -- What finds positions, and whose windows are told.
 use Rattle.std.specs.Prelude.{◌≡◌, ℕ, ◌<◌, List, length}
 use Rattle.std.specs.List.Sorted.{IsNonDecreasing}
+use Rattle.exact_cross.specs.declared.segment.Segment.{Segment}
 use Rattle.exact_cross.specs.Points.{points_of}
 use Rattle.exact_cross.specs.Segments.{starts_of}
 use Rattle.exact_cross.specs.Checked.{IsCoverWithin}
 use Rattle.key_points.specs.KeyPoints.{xs_of, ys_of}
 use Rattle.piece_join.specs.Cuttings.{AreCutsAt, even_place}
 use Rattle.exact_cross.specs.IndexLevels.{level_at}
-use Rattle.levels.specs.Indexes.{PgmIndex, IsIndex, IsRelaxedIndex}
+use Rattle.levels.specs.Indexes.{PgmIndex, IsIndexOf, IsRelaxedIndex}
 use Rattle.commands.specs.Tasks.{Bounds}
 use Rattle.commands.specs.declared.finder.Finder.{Finder}
 use Rattle.commands.specs.declared.finder.Finder.TheVariants.{Levels, Sorted, Table}
@@ -24,22 +25,24 @@ FindsBy bits (Levels index) = bits ≡ 0
 FindsBy bits (Table buckets) = (0 < bits) × (buckets.bits ≡ bits)
 FindsBy bits (Sorted sorted) = ⊥
 
--- the one index of these keys, with these bounds
-pub record IsIndexOf (keys : List ℕ) (bounds : Bounds) (index : PgmIndex) : Type 0 where
-  pub of_keys : index.keys ≡ keys
-  pub of_eps : index.eps ≡ bounds.eps
-  pub of_eps_rec : index.eps_rec ≡ bounds.eps_rec
+-- the one index of these keys, which never fall, with these bounds
+pub record IsSortedIndexOf (keys : List ℕ) (bounds : Bounds) (index : PgmIndex) : Type 0 where
   pub never_falls : IsNonDecreasing keys
-  pub levels : IsIndex keys bounds.eps bounds.eps_rec index.levels
+  pub of : IsIndexOf keys bounds.eps bounds.eps_rec index
 
--- the relaxed index of these keys, with these bounds, whose points are cut into so many even pieces at `slack` places
+-- the levels of the relaxed index of these keys, with these bounds, whose points are cut into so many even pieces: level 0 has at most a run more for
+-- each cut than a least cover
+pub record AreEvenLevels (keys : List ℕ) (bounds : Bounds) (pieces : ℕ) (cuts : List ℕ) (levels : List (List Segment)) : Type 0 where
+  pub even : AreCutsAt (length (xs_of keys)) pieces (even_place (length (xs_of keys)) pieces) cuts
+  pub index : IsRelaxedIndex keys bounds.eps bounds.eps_rec cuts levels
+  pub within : 0 < length keys →
+      IsCoverWithin (length cuts) (points_of (xs_of keys) (ys_of keys)) bounds.eps 0 (length (xs_of keys)) (starts_of (level_at levels 0))
+
+-- the relaxed index of these keys, with these bounds, whose points are cut at `slack` places into so many even pieces
 pub record IsRelaxedOf (keys : List ℕ) (bounds : Bounds) (pieces slack : ℕ) (index : PgmIndex) : Type 0 where
   pub of_keys : index.keys ≡ keys
   pub of_eps : index.eps ≡ bounds.eps
   pub of_eps_rec : index.eps_rec ≡ bounds.eps_rec
   pub cuts : List ℕ
   pub count : slack ≡ length cuts
-  pub even : AreCutsAt (length (xs_of keys)) pieces (even_place (length (xs_of keys)) pieces) cuts
-  pub levels : IsRelaxedIndex keys bounds.eps bounds.eps_rec cuts index.levels
-  pub within : 0 < length keys →
-      IsCoverWithin (length cuts) (points_of (xs_of keys) (ys_of keys)) bounds.eps 0 (length (xs_of keys)) (starts_of (level_at index.levels 0))
+  pub levels : AreEvenLevels keys bounds pieces cuts index.levels

@@ -5,7 +5,7 @@ ghost use Rattle.std.specs.Prelude.{vec_capacity};
 ghost use Rattle.std.specs.List.Sorted.{IsNonDecreasing};
 ghost use Rattle.window_search.specs.Searches.{lb};
 ghost use Rattle.written.specs.Writing.{Writes, BreaksOff, WritesText};
-ghost use Rattle.commands.specs.Finders.{IsIndexOf};
+ghost use Rattle.commands.specs.Finders.{IsSortedIndexOf};
 ghost use Rattle.commands.specs.Tasks.{Bounds as TaskBounds, bounds_of};
 ghost use Rattle.commands.specs.Texts.Query.{IsAnswered, TellsAnswer, TellsWindows};
 ghost use Rattle.commands.specs.Texts.Query.{find_line, window_line, window_lines};
@@ -113,7 +113,7 @@ pub fn write_answers<S: Sink>(
     room: &mut Vec<LevelWindow>,
 ) -> Result<(), Failed>
     requires positions { positions.now ≡ map (lb keys.now) questions.now }
-    requires index { IfSome told (λ index. IsIndexOf keys.now (bounds_of bounds) index.now) }
+    requires index { IfSome told (λ index. IsSortedIndexOf keys.now (bounds_of bounds) index.now) }
     requires room { IfSome told (λ index. length index.now.levels ≤ vec_capacity room.old) }
     ensures ok { OnOk result ((pieces : List (List ℕ)) × IsAnswered keys.now (bounds_of bounds)
         questions.now (is_some told.entry) pieces × Writes S.Sink out.old out.new pieces) }
@@ -139,7 +139,7 @@ fn write_answer<S: Sink>(
     room: &mut Vec<LevelWindow>,
 ) -> Result<(), Failed>
     requires position { asked.1 ≡ lb keys.now asked.0 }
-    requires index { IfSome told (λ index. IsIndexOf keys.now (bounds_of bounds) index.now) }
+    requires index { IfSome told (λ index. IsSortedIndexOf keys.now (bounds_of bounds) index.now) }
     requires room { IfSome told (λ index. length index.now.levels ≤ vec_capacity room.old) }
     ensures ok { OnOk result ((pieces : List (List ℕ)) × TellsAnswer keys.now (bounds_of bounds)
         (is_some told.entry) asked.0 pieces × Writes S.Sink out.old out.new pieces) }
@@ -162,7 +162,7 @@ fn fill_windows(
     told: Option<&Index>,
     into: &mut Vec<LevelWindow>,
 )
-    requires index { IfSome told (λ index. IsIndexOf keys.now (bounds_of bounds) index.now) }
+    requires index { IfSome told (λ index. IsSortedIndexOf keys.now (bounds_of bounds) index.now) }
     requires room { IfSome told (λ index. length index.now.levels ≤ vec_capacity into.old) }
     ensures tells { TellsWindows keys.now (bounds_of bounds) (is_some told.entry) question
         (window_lines into.new.items) }

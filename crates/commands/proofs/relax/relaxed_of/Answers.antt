@@ -24,9 +24,11 @@ made keys own cuts used bounds pieces m slack index same same_cuts points count 
   of_eps_rec = eps_rec;
   cuts = cuts;
   count = count;
-  even = subst (λ (n : ℕ). AreCutsAt n pieces (even_place n pieces) cuts) (points ∙ ap (λ (k : List ℕ). length (xs_of k)) same) even;
-  levels = subst (λ (t : List ℕ × List ℕ). IsRelaxedIndex t.0 bounds.eps bounds.eps_rec t.1 index.levels) (λ i. (same i, same_cuts i)) relaxed;
-  within = subst (IsWithin bounds.eps index) (λ i. (same i, same_cuts i)) within;
+  levels = record {
+    even = subst (λ (n : ℕ). AreCutsAt n pieces (even_place n pieces) cuts) (points ∙ ap (λ (k : List ℕ). length (xs_of k)) same) even;
+    index = subst (λ (t : List ℕ × List ℕ). IsRelaxedIndex t.0 bounds.eps bounds.eps_rec t.1 index.levels) (λ i. (same i, same_cuts i)) relaxed;
+    within = subst (IsWithin bounds.eps index) (λ i. (same i, same_cuts i)) within;
+  };
 }
 
 pub returns : goal.returns

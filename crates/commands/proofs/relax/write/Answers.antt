@@ -14,10 +14,8 @@ told : (keys : List ℕ) (bounds : Bounds) (pieces slack : ℕ) (index : PgmInde
     IsBuiltRelaxed keys bounds pieces questions (tells_levels index.keys index.levels (built_level index.keys bounds (Some slack) index.levels) ++ answers)
 told keys bounds pieces slack index questions answers made answered = record {
   cuts = made.cuts;
-  even = made.even;
   levels = index.levels;
   index = made.levels;
-  within = made.within;
   answers = answers;
   answered = subst (λ (k : List ℕ). IsAnswered k bounds questions false answers) made.of_keys answered;
   told = λ i. tells_levels (made.of_keys i) index.levels (built_level (made.of_keys i) bounds (Some (made.count i)) index.levels) ++ answers;
