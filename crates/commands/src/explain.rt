@@ -1,14 +1,12 @@
 // The command `explain`.
 ghost use Rattle.std.specs.Prelude.{◌≡◌, ◌∷◌, ◌<◌, ◌≤◌};
 ghost use Rattle.std.specs.Prelude.{◌+◌, ◌++◌};
-ghost use Rattle.std.specs.Prelude.{ℕ, List, length, drop, codes};
+ghost use Rattle.std.specs.Prelude.{ℕ, List, length, codes};
 ghost use Rattle.std.specs.Prelude.{decimal};
 ghost use Rattle.std.specs.Prelude.{OnOk, OnErr};
 ghost use Rattle.std.specs.Fmt.{signed_decimal};
 ghost use Rattle.std.specs.List.{flat_map};
 ghost use Rattle.exact_cross.specs.Points.{places};
-ghost use Rattle.exact_cross.specs.Covers.{run_end};
-ghost use Rattle.exact_cross.specs.Segments.{starts_of};
 ghost use Rattle.written.specs.Writing.{Writes, BreaksOff, WritesText};
 ghost use Rattle.commands.specs.Tasks.{Bounds as TaskBounds, bounds_of};
 ghost use Rattle.commands.specs.Texts.Indexing.{tells_levels};
@@ -18,7 +16,7 @@ ghost use Rattle.commands.specs.Texts.Explain.{run_line, run_lines};
 use crate::indexing::{fill_level_line, index_of, write_keys};
 use crate::task::Indexing;
 use edge::{Failed, Gate, Sink};
-use exact_cross::{Line, Segment, Side, Witness};
+use exact_cross::{Line, Segment, Side, Witness, start_at};
 use levels::Index;
 use options::Bounds;
 use std::alloc::Global;
@@ -116,17 +114,6 @@ fn write_runs<S: Sink>(
     Ok(())
 }
 
-/// The start of the segment in this place, or `to` behind the last.
-fn start_at(segments: &[Segment], place: usize, to: u32) -> u32
-    ensures { result ≡ run_end (starts_of (drop place segments.now)) to }
-{
-    if place < segments.len() {
-        segments[place].start
-    } else {
-        to
-    }
-}
-
 fn fill_run_line(line: &mut TextLine, segment: &Segment, end: u32)
     ensures { line.new ≡ run_line segment.now end }
 {
@@ -137,8 +124,8 @@ fn fill_run_line(line: &mut TextLine, segment: &Segment, end: u32)
     push_ending(line, &segment.cut);
 }
 
-/// Adds the four numbers of a line: its word, two of 20 digits and one of 20 with its sign, each
-/// after a space.
+/// Adds a line: its word, and behind it four numbers, each of at most 20 digits, or of 19 and a
+/// sign, after a space.
 fn push_line(text: &mut TextLine, line: &Line)
     requires { length text.old + 89 ≤ LINE_ROOM }
     ensures text { text.new

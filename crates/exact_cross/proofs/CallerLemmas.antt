@@ -5,7 +5,7 @@ pub use Rattle.exact_cross.proofs.SlopeOrder.{IsAtMost-refl, IsAtMost-trans, IsA
 pub use Rattle.exact_cross.proofs.KeyPoints.{slice_index-rises, IsAscending-points_of, IsAscending-points_in, IsNonDecreasing-places, IsNonDecreasing-from_neighbours, length-places, slice_index-places, places-more}
 pub use Rattle.exact_cross.proofs.LineSlopes.{flat_at_most_steep}
 pub use Rattle.exact_cross.proofs.StoredLine.{some_line-one_place, some_line-from_pairs, line_of_pair-level, line_of_pair-rising, line_of_pair-positive, segment_line_fits, IsFitted-from_steep}
-pub use Rattle.exact_cross.proofs.RunLemmas.{SomeLineFits-part, run_end-first, run_end-push, CutsInto-push, starts_of-push, EachRun-push}
+pub use Rattle.exact_cross.proofs.RunLemmas.{SomeLineFits-part, run_end-first, run_end-push, run_end-start, start_at-is, start_at-behind, CutsInto-push, starts_of-push, EachRun-push}
 pub use Rattle.exact_cross.proofs.PairOrder.{IsAtMost-decided, IsSteepPair-some, IsFlatPair-some}
 pub use Rattle.exact_cross.proofs.PairLemmas.{IsSteepPair-unique, IsFlatPair-unique}
 pub use Rattle.exact_cross.proofs.GreedyLemmas.{CutsInto-rises, IsGreedy-least, IsGreedy-unique}

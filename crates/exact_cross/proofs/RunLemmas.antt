@@ -1,10 +1,10 @@
 -- Runs that follow one another: one more at the end, and parts of a run.
-use Rattle.std.proofs.Common.{◌≡◌, ℕ, ◌<◌, ◌≤◌, List, [], ◌∷◌, ◌++◌, refl, ap, sym, subst, arith}
+use Rattle.std.proofs.Common.{◌≡◌, ℕ, zero, suc, ◌<◌, ◌≤◌, List, [], ◌∷◌, ◌++◌, refl, ap, sym, subst, drop, length, slice_index_or, arith}
 use Rattle.exact_cross.specs.declared.segment.Segment.{Segment}
 use Rattle.exact_cross.specs.Points.{Points}
 use Rattle.exact_cross.specs.Lines.{SomeLineFits}
 use Rattle.exact_cross.specs.Covers.{run_end, CutsInto}
-use Rattle.exact_cross.specs.Segments.{starts_of, EachRun}
+use Rattle.exact_cross.specs.Segments.{starts_of, start_at, EachRun}
 
 -- a line that fits a run fits each part of it
 pub SomeLineFits-part : (p : Points) (eps s e from to : ℕ) → s ≤ from → to ≤ e → SomeLineFits p eps s e → SomeLineFits p eps from to
@@ -35,3 +35,20 @@ pub EachRun-push : (R : Segment → ℕ → Type 0) (segments : List Segment) (l
 EachRun-push R [] last e runs run = (run, tt)
 EachRun-push R (segment ∷ later) last e runs run =
     (rw (starts_of-push later last, run_end-push (starts_of later) last.start e) runs.0, EachRun-push R later last e runs.1 run)
+
+-- a run ends where the next one starts
+pub run_end-start : (to : ℕ) (segments : List Segment) (k : ℕ) → run_end (starts_of (drop k segments)) to ≡ start_at to segments k
+run_end-start to [] zero = refl
+run_end-start to [] (suc k) = refl
+run_end-start to (segment ∷ later) zero = refl
+run_end-start to (segment ∷ later) (suc k) = run_end-start to later k
+
+pub start_at-is : (to : ℕ) (segments : List Segment) (k : ℕ) (d : Segment) → k < length segments → start_at to segments k ≡ (slice_index_or segments k d).start
+start_at-is to [] k d inside = absurd (omega arith)
+start_at-is to (segment ∷ later) zero d inside = refl
+start_at-is to (segment ∷ later) (suc k) d inside = start_at-is to later k d (omega arith)
+
+pub start_at-behind : (to : ℕ) (segments : List Segment) (k : ℕ) → length segments ≤ k → start_at to segments k ≡ to
+start_at-behind to [] k behind = refl
+start_at-behind to (segment ∷ later) zero behind = absurd (omega arith)
+start_at-behind to (segment ∷ later) (suc k) behind = start_at-behind to later k (omega arith)

@@ -1,5 +1,5 @@
 -- Segments, by the runs that their starts cut.
-use Rattle.std.specs.Prelude.{◌≡◌, ◌<◌, ℕ, List, [], ◌∷◌, map}
+use Rattle.std.specs.Prelude.{◌≡◌, ◌<◌, ℕ, zero, suc, List, [], ◌∷◌, map}
 use Rattle.exact_cross.specs.declared.segment.Segment.{Segment}
 use Rattle.exact_cross.specs.Points.{Points}
 use Rattle.exact_cross.specs.Lines.{FitsRun, rational}
@@ -9,6 +9,12 @@ use Rattle.exact_cross.specs.Steep.{IsSteepOf, line_of_pair}
 -- the starts of segments
 abbrev pub starts_of : List Segment → List ℕ
 starts_of segments = map (λ segment. segment.start) segments
+
+-- where the run of the segment at this place starts, and past the last one where all end
+abbrev pub start_at : ℕ → List Segment → ℕ → ℕ
+start_at to [] k = to
+start_at to (segment ∷ later) zero = segment.start
+start_at to (segment ∷ later) (suc k) = start_at to later k
 
 -- each segment, with the end of its run, is an R
 abbrev pub EachRun : (Segment → ℕ → Type 0) → ℕ → List Segment → Type 0

@@ -18,7 +18,7 @@ mod slope;
 
 pub use line::Line;
 pub use points::PointList;
-pub use segment::{Segment, Side, Witness};
+pub use segment::{Segment, Side, Witness, start_at};
 pub use slope::Slope;
 
 /// The greatest error bound `ε`, in places.

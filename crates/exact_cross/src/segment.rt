@@ -1,4 +1,6 @@
 // A segment: a run of places, the line that fits it, and what shows that no line goes on.
+ghost use Rattle.std.specs.Prelude.{◌≡◌};
+ghost use Rattle.exact_cross.specs.Segments.{start_at};
 
 use crate::Line;
 
@@ -38,4 +40,15 @@ pub struct Segment {
     pub line: Line,
     /// Why the run ends, where the witness is kept and the run isn't the last one.
     pub cut: Option<Witness>,
+}
+
+/// Where the run of the segment at this place starts, and past the last one `to`, where all end.
+pub fn start_at(segments: &[Segment], place: usize, to: u32) -> u32
+    ensures { result ≡ start_at to segments.now place }
+{
+    if place < segments.len() {
+        segments[place].start
+    } else {
+        to
+    }
 }

@@ -10,9 +10,9 @@ use Rattle.exact_cross.specs.declared.line.Line.{Line}
 use Rattle.exact_cross.specs.declared.segment.Segment.{Segment}
 use Rattle.exact_cross.specs.Points.{Points, IsAscending}
 use Rattle.exact_cross.specs.Lines.{IsWithin, rational, SomeLineFits}
-use Rattle.exact_cross.specs.Segments.{IsSteepSegment, IsFitted}
+use Rattle.exact_cross.specs.Segments.{start_at, IsSteepSegment, IsFitted}
 use Rattle.exact_cross.specs.Checked.{IsInRange}
-use Rattle.exact_cross.proofs.CallerLemmas.{IsWithin-below, line_of_pair-level, line_of_pair-rising}
+use Rattle.exact_cross.proofs.CallerLemmas.{start_at-is, start_at-behind, IsWithin-below, line_of_pair-level, line_of_pair-rising}
 use Rattle.piece_join.specs.Laid.{IsLaid}
 use Rattle.piece_join.proofs.RelaxedLemmas.{runs-from_laid}
 use Rattle.levels.specs.declared.model.RunModel.{RunModel}
@@ -94,6 +94,13 @@ model_run p eps segments k d e ascends small bounded laid inside ends =
       left = left;
       not_below = line_not_below p eps segment.line holds.positive segment.start (holds.fits segment.start (omega arith) fits.some) left;
     }
+
+-- a run ends where the next one starts
+pub IsEndOf-start : (segments : List Segment) (to k e : ℕ) → e ≡ start_at to segments (k + 1) → IsEndOf segments to k e
+IsEndOf-start segments to k e is = record {
+  next = λ d more. is ∙ start_at-is to segments (k + 1) d more;
+  last = λ count. is ∙ start_at-behind to segments (k + 1) (omega (arith, count));
+}
 
 -- a run has one end
 pub IsEndOf-unique : (segments : List Segment) (to k e f : ℕ) (d : Segment) → k < length segments → IsEndOf segments to k e → IsEndOf segments to k f → e ≡ f

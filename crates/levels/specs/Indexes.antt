@@ -5,6 +5,8 @@ use Rattle.std.specs.Prelude.{◌≡◌, ℕ, zero, suc, ◌+◌, ◌<◌, ◌^�
 use Rattle.std.specs.List.Sorted.{IsNonDecreasing}
 use Rattle.exact_cross.specs.declared.segment.Segment.{Segment}
 use Rattle.exact_cross.specs.Points.{Points, points_of}
+use Rattle.exact_cross.specs.Checked.{IsLeastCover}
+use Rattle.exact_cross.specs.Segments.{starts_of}
 use Rattle.exact_cross.specs.IndexLevels.{level_at, level_xs, level_ys, level_points, eps_at, IsLevelOver, AreLevelled}
 use Rattle.piece_join.specs.Laid.{IsLaid}
 use Rattle.piece_join.specs.Relaxed.{IsRelaxed}

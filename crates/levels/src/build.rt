@@ -19,11 +19,10 @@ ghost use Rattle.levels.specs.Stored.{AreLevels, AreStored, IsNextLevel, segment
 
 use crate::index::{Index, firsts_at};
 use crate::level::{Level, Runs};
-use crate::lookup::end_of_run;
 use crate::model::RunModel;
 use budget::{NoMemory, Steps};
 use edge::Gate;
-use exact_cross::{MAX_EPSILON, PointList, Segment};
+use exact_cross::{MAX_EPSILON, PointList, Segment, start_at};
 use key_points::{KeyPoints, Keys, places_of};
 use options::{Bounds, Workers};
 use piece_join::{relaxed, segment_in_pieces, uneven_cuts};
@@ -359,7 +358,7 @@ fn model_at(points: PointList<'_>, segments: &[Segment], eps: u32, run: usize) -
         (slice_index points.entry.ys.now (e - 1)) eps result }
 {
     let segment = &segments[run];
-    let end = end_of_run(segments, run, points.xs.len());
+    let end = start_at(segments, run + 1, points.xs.len() as u32) as usize;
     let first = points.xs[segment.start as usize];
     let high = points.ys[end - 1];
     RunModel::of(&segment.line, first, high, eps)

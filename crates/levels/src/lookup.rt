@@ -214,19 +214,6 @@ impl Index {
     }
 }
 
-/// The end of a run: where the next one starts, or the list's end.
-pub fn end_of_run(segments: &[Segment], run: usize, len: usize) -> usize
-    requires inside { run < length segments.now }
-    ensures { IsEndOf segments.now len run result }
-{
-    let next = run + 1;
-    if next < segments.len() {
-        segments[next].start as usize
-    } else {
-        len
-    }
-}
-
 /// The position of `q` in the file, the steps counted in a new ledger.
 fn position_from<L: Ledger>(index: &Index, q: u64, blank: Blank) -> u32
     requires { IsNewLedger blank L.name L.parts }

@@ -11,29 +11,15 @@ use Rattle.exact_cross.specs.Points.{Points, IsAscending}
 use Rattle.exact_cross.specs.Lines.{SomeLineFits, IsWithin, rational}
 use Rattle.exact_cross.specs.Floors.{IsFloorAt}
 use Rattle.exact_cross.specs.Covers.{run_end, CutsInto}
-use Rattle.exact_cross.specs.Segments.{starts_of, EachRun, IsFitted}
+use Rattle.exact_cross.specs.Segments.{starts_of, start_at, EachRun, IsFitted}
 use Rattle.exact_cross.specs.Checked.{IsInRange}
-use Rattle.exact_cross.proofs.CallerLemmas.{CutsInto-rises, IsWithin-above, IsWithin-below, floor_not_below, floor_not_above}
+use Rattle.exact_cross.proofs.CallerLemmas.{run_end-start, start_at-is, CutsInto-rises, IsWithin-above, IsWithin-below, floor_not_below, floor_not_above}
 use Rattle.exact_cross.proofs.FloorLemmas.{IsFloorAt-right, IsFloorAt-left}
-use Rattle.lines.specs.Made.{raised_by, start_at, AreRuns, AreWordsOf, IsShort, TellsPoints}
-
--- a run ends where the next one starts
-pub run_end-is : (to : ℕ) (later : List Segment) → run_end (starts_of later) to ≡ start_at to later 0
-run_end-is to [] = refl
-run_end-is to (segment ∷ later) = refl
+use Rattle.lines.specs.Made.{raised_by, AreRuns, AreWordsOf, IsShort, TellsPoints}
 
 pub start_at-first : (C : ℕ → ℕ → Type 0) (from to : ℕ) (segments : List Segment) → CutsInto C from to (starts_of segments) → start_at to segments 0 ≡ from
 start_at-first C from to [] cuts = sym cuts
 start_at-first C from to (segment ∷ later) cuts = cuts.0
-
-pub start_at-last : (to : ℕ) (segments : List Segment) → start_at to segments (length segments) ≡ to
-start_at-last to [] = refl
-start_at-last to (segment ∷ later) = start_at-last to later
-
-pub start_at-is : (to : ℕ) (segments : List Segment) (k : ℕ) (d : Segment) → k < length segments → start_at to segments k ≡ (slice_index_or segments k d).start
-start_at-is to [] k d inside = absurd (omega arith)
-start_at-is to (segment ∷ later) zero d inside = refl
-start_at-is to (segment ∷ later) (suc k) d inside = start_at-is to later k d (omega arith)
 
 -- what is known of a run: it has a place, and lies before the end of all
 pub record IsRunAt (R : Segment → ℕ → Type 0) (to : ℕ) (segments : List Segment) (k : ℕ) (d : Segment) : Type 0 where
@@ -45,7 +31,7 @@ pub run_at : (R : Segment → ℕ → Type 0) (C : ℕ → ℕ → Type 0) (from
     CutsInto C from to (starts_of segments) → EachRun R to segments → IsRunAt R to segments k d
 run_at R C from to [] k d inside cuts runs = absurd (omega arith)
 run_at R C from to (segment ∷ later) zero d inside cuts runs =
-    let end = run_end-is to later in
+    let end = run_end-start to later 0 in
     record {
       holds = rw (← end) runs.0;
       some = omega (arith, cuts.0, cuts.1, end);

@@ -7,11 +7,12 @@ use Rattle.std.proofs.lemmas.List.{append-nil, length-append, get_or_append_left
 use Rattle.exact_cross.specs.declared.segment.Segment.{Segment}
 use Rattle.exact_cross.specs.Points.{Points}
 use Rattle.exact_cross.specs.Lines.{SomeLineFits}
-use Rattle.exact_cross.specs.Segments.{IsFitted}
+use Rattle.exact_cross.specs.Segments.{start_at, IsFitted}
+use Rattle.exact_cross.proofs.CallerLemmas.{start_at-is, start_at-behind}
 use Rattle.lines.specs.declared.words.TheConstants.{HEAD_WORDS}
 use Rattle.lines.specs.Told.{lines_in}
-use Rattle.lines.specs.Made.{start_at, AreRuns, TellsPoints, IsHead, HoldsLines, AddsWords, AddsLines, AreLinesOf, AreLinesOver}
-use Rattle.lines.proofs.SegmentLemmas.{start_at-first, start_at-last, start_at-is, run_at, no_segment}
+use Rattle.lines.specs.Made.{AreRuns, TellsPoints, IsHead, HoldsLines, AddsWords, AddsLines, AreLinesOf, AreLinesOver}
+use Rattle.lines.proofs.SegmentLemmas.{start_at-first, run_at, no_segment}
 
 -- the words of a line, however they are read
 tells_read : (p : Points) (eps s e : ℕ) (a b c a' b' c' : ℕ) → a' ≡ a → b' ≡ b → c' ≡ c → TellsPoints p eps a b c s e → TellsPoints p eps a' b' c' s e
@@ -83,7 +84,7 @@ AreLinesOver-in p eps segments head words runs is adds = record {
     holds = adds.holds;
     begins = λ some. (some_run some, start_at-first (SomeLineFits p eps) 0 p.count segments runs.cover.cover);
     rise = rise;
-    ends = start_at-last p.count segments;
+    ends = start_at-behind p.count segments (length segments) (omega arith);
   });
 }
   where
@@ -113,7 +114,7 @@ AreLinesOver-in p eps segments head words runs is adds = record {
             arith,
             some,
             start_at-first (SomeLineFits p eps) 0 p.count segments runs.cover.cover,
-            start_at-last p.count segments,
+            start_at-behind p.count segments (length segments) (omega arith),
             ap (start_at p.count segments) zero_length,
           ))
     ]

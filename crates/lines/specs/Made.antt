@@ -1,10 +1,10 @@
 -- Words that are made of a cover's lines. No public clause cites it.
-use Rattle.std.specs.Prelude.{◌≡◌, ℕ, zero, suc, ◌+◌, ◌-◌, ◌*◌, ◌/◌, ◌%◌, ◌^◌, ◌<◌, ◌≤◌, ℤ, pos, ◌+ℤ◌, ◌≤ℤ◌, ◌<ℤ◌, List, [], ◌∷◌, ◌++◌, length, slice_index}
+use Rattle.std.specs.Prelude.{◌≡◌, ℕ, ◌+◌, ◌-◌, ◌*◌, ◌/◌, ◌%◌, ◌^◌, ◌<◌, ◌≤◌, ℤ, pos, ◌+ℤ◌, ◌≤ℤ◌, ◌<ℤ◌, List, [], ◌∷◌, ◌++◌, length, slice_index}
 use Rattle.exact_cross.specs.declared.line.Line.{Line}
 use Rattle.exact_cross.specs.declared.segment.Segment.{Segment}
 use Rattle.exact_cross.specs.Points.{Points}
 use Rattle.exact_cross.specs.Floors.{IsFloorAt}
-use Rattle.exact_cross.specs.Segments.{starts_of, EachRun, IsFitted}
+use Rattle.exact_cross.specs.Segments.{starts_of, start_at, EachRun, IsFitted}
 use Rattle.exact_cross.specs.Checked.{IsInRange, IsLeastCover}
 use Rattle.lines.specs.Told.{IsWhole, lines_in}
 use Rattle.lines.specs.declared.words.TheConstants.{FORMAT, HEAD_WORDS}
@@ -24,12 +24,6 @@ pub record IsShort (line : Line) (first last eps : ℕ) : Type 0 where
 pub record AreWordsOf (line : Line) (first last eps multiplier packed : ℕ) : Type 0 where
   pub near : (q : ℕ) (f : ℤ) → first ≤ q → q ≤ last → IsFloorAt line q f →
       (pos (raised_by first multiplier packed q) ≤ℤ (f +ℤ pos (eps + 1))) × ((f +ℤ pos eps) ≤ℤ pos (raised_by first multiplier packed q + 1))
-
--- where the run of the segment at this place starts, and past the last one where all end
-abbrev pub start_at : ℕ → List Segment → ℕ → ℕ
-start_at to [] k = to
-start_at to (segment ∷ later) zero = segment.start
-start_at to (segment ∷ later) (suc k) = start_at to later k
 
 -- the segments of a least cover, whose lines are in range and fit their runs
 pub record AreRuns (p : Points) (eps : ℕ) (segments : List Segment) : Type 0 where

@@ -5,17 +5,18 @@ ghost use Rattle.std.specs.List.Sorted.{IsNonDecreasing};
 ghost use Rattle.exact_cross.specs.Checked.{IsInRange};
 ghost use Rattle.exact_cross.specs.Points.{points_of};
 ghost use Rattle.exact_cross.specs.PointLists.{points_in};
+ghost use Rattle.exact_cross.specs.Segments.{start_at};
 ghost use Rattle.key_points.specs.KeyPoints.{xs_of, ys_of};
 ghost use Rattle.key_points.specs.Falls.{IsFirstFall};
 ghost use Rattle.key_points.specs.declared.fault.KeysFault.TheVariants.{Falls, TooMany};
 ghost use Rattle.lines.specs.Leads.{HaveLeastLines};
 ghost use Rattle.lines.specs.Lookups.{LeadsWithin};
 ghost use Rattle.lines.specs.Made.{AddsLines, AreLinesOver, AreRuns, AreWordsOf, IsShort};
-ghost use Rattle.lines.specs.Made.{start_at, TellsPoints};
+ghost use Rattle.lines.specs.Made.{TellsPoints};
 
 use crate::table::head_of;
 use budget::NoMemory;
-use exact_cross::{Line, MAX_EPSILON, PointList, Segment};
+use exact_cross::{Line, MAX_EPSILON, PointList, Segment, start_at};
 use key_points::{KeyPoints, KeysFault, judge};
 use segmenter::segment;
 use std::alloc::Global;
@@ -104,23 +105,10 @@ fn line_of_run(points: PointList<'_>, segments: &[Segment], run: usize, eps: u32
         (start_at (length points.entry.xs.now) segments.now (run + 1)) }
 {
     let segment = &segments[run];
-    let end = end_of_run(segments, run, points.xs.len());
+    let end = start_at(segments, run + 1, points.xs.len() as u32) as usize;
     let first = points.xs[segment.start as usize];
     let last = points.xs[end - 1];
     LineWords::of(&segment.line, first, last, eps)
-}
-
-/// The end of a run: where the next one starts, or the end of all.
-fn end_of_run(segments: &[Segment], run: usize, to: usize) -> usize
-    requires { run < length segments.now }
-    ensures { result ≡ start_at to segments.now (run + 1) }
-{
-    let next = run + 1;
-    if next < segments.len() {
-        segments[next].start as usize
-    } else {
-        to
-    }
 }
 
 /// Adds the words of a line.

@@ -15,7 +15,7 @@ pub enum Status {
     ReadFault = 3,
     /// The text couldn't be written to its end.
     WriteFault = 4,
-    /// A file that was read is no key file.
+    /// A file that was read is no key file, or no file of points.
     BadKeys = 5,
     /// The script that was read isn't in the grammar, or is too long.
     BadScript = 6,

@@ -1,7 +1,7 @@
 -- One line more.
 use Rattle.std.proofs.Common.{length}
 use Rattle.exact_cross.specs.PointLists.{points_in}
-use Rattle.lines.specs.Made.{start_at}
+use Rattle.exact_cross.specs.Segments.{start_at}
 use Rattle.lines.proofs.WordLemmas.{AddsLines-none, AddsLines-more}
 use Rattle.lines.proofs.made.add_lines.Goals as goal
 

@@ -1,7 +1,8 @@
 -- The words of the lines so far.
 use Rattle.std.proofs.Common.{length}
 use Rattle.exact_cross.specs.PointLists.{points_in}
-use Rattle.lines.specs.Made.{start_at, AddsLines}
+use Rattle.exact_cross.specs.Segments.{start_at}
+use Rattle.lines.specs.Made.{AddsLines}
 use Rattle.lines.proofs.made.add_lines.Given as goal
 
 abbrev pub invariant-loop-run : goal.invariant-loop-run

@@ -2,7 +2,8 @@
 use Rattle.std.proofs.Common.{◌<◌, length, List, ℕ, slice_index_or, refl, sym, subst}
 use Rattle.exact_cross.specs.declared.segment.Segment.{Segment}
 use Rattle.exact_cross.specs.PointLists.{points_in}
-use Rattle.lines.specs.Made.{AreRuns, AddsLines, IsHead, start_at}
+use Rattle.exact_cross.specs.Segments.{start_at}
+use Rattle.lines.specs.Made.{AreRuns, AddsLines, IsHead}
 use Rattle.lines.proofs.WordLemmas.{AreLinesOver-in, starts_inside}
 use Rattle.lines.proofs.made.words_over.Goals as goal
 
