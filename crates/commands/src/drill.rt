@@ -7,7 +7,7 @@ ghost use Rattle.zorder.specs.Points.{ArePoints};
 ghost use Rattle.boxes.specs.PointCodes.{AreSortedCodes};
 ghost use Rattle.boxes.specs.BoxAnswers.{IsLooked, codes_inside};
 ghost use Rattle.log_levels.specs.Accepted.{IsPlain};
-ghost use Rattle.log_levels.specs.Maps.{count_between, map_after};
+ghost use Rattle.log_levels.specs.Maps.{live_in, map_after};
 ghost use Rattle.drill_inputs.specs.Inputs.{searched_region};
 ghost use Rattle.written.specs.Writing.{Writes, BreaksOff, WritesText};
 ghost use Rattle.options.specs.declared.drawing.TheConstants.{MAX_DRAWN};
@@ -164,8 +164,7 @@ fn live_after<R: Threads + Sync, G: Gate>(
 ) -> Result<u64, NoMemory>
     requires plain { All IsPlain updates.now }
     requires few { length updates.now ≤ MAX_DRAWN }
-    ensures { IfOk result
-        (λ live. live ≡ count_between (map_after updates.now) 0 18446744073709551615) }
+    ensures { IfOk result (λ live. live ≡ live_in (map_after updates.now)) }
 {
     let mut map = LogMap::new(alloc, MAP_LEVELS)?;
     match map.apply(rt, alloc, updates, workers, gate) {

@@ -9,7 +9,7 @@ use Rattle.std.proofs.lemmas.Map.Entries.{length-keys_of}
 use Rattle.std.proofs.lemmas.Map.Views.{All-keys-insert_entry, All-map-remove_entry}
 use Rattle.log_levels.specs.declared.update.Update.{Update}
 use Rattle.log_levels.specs.declared.update.Update.TheVariants.{Put, Del, Sweep}
-use Rattle.log_levels.specs.Maps.{count_between, is_between, map_after, updated}
+use Rattle.log_levels.specs.Maps.{is_between, live_in, map_after, updated}
 use Rattle.log_levels.proofs.MapLemmas.{count-keys}
 use Rattle.drill_inputs.specs.Draws.{drawn}
 use Rattle.drill_inputs.specs.Inputs.{update_by, update_at, updates_of}
@@ -48,7 +48,7 @@ filter-keeps p (x ∷ xs) all =
 between : (key : ℕ) → key < 2 ^ 64 → is_between 0 18446744073709551615 key ≡ true
 between key below = and_from _ _ (le-leb 0 key (omega arith)) (le-leb key 18446744073709551615 (omega arith))
 
-pub count-all : (updates : List Update) → All (PutsBelow (2 ^ 64)) updates → count_between (map_after updates) 0 18446744073709551615 ≡ length (map_after updates)
+pub count-all : (updates : List Update) → All (PutsBelow (2 ^ 64)) updates → live_in (map_after updates) ≡ length (map_after updates)
 count-all updates puts =
     let pairs = map_after updates in
     count-keys pairs 0 18446744073709551615
@@ -71,5 +71,5 @@ updates_below n seed some few =
 
 -- the updates that are drawn leave as many keys as there are from 0 to the greatest number
 pub live-count : (n seed : ℕ) → 1 ≤ n → n ≤ 1000000 →
-    count_between (map_after (updates_of n seed)) 0 18446744073709551615 ≡ length (map_after (updates_of n seed))
+    live_in (map_after (updates_of n seed)) ≡ length (map_after (updates_of n seed))
 live-count n seed some few = count-all (updates_of n seed) (updates_below n seed some few)

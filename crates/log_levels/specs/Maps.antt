@@ -33,6 +33,10 @@ next_from map q = find (λ pair. nat_le q pair.0) map
 abbrev pub count_between : List (ℕ × ℕ) → ℕ → ℕ → ℕ
 count_between map low high = count_by (λ pair. is_between low high pair.0) map
 
+-- how many keys a map has, from the least key to the greatest
+abbrev pub live_in : List (ℕ × ℕ) → ℕ
+live_in pairs = count_between pairs 0 18446744073709551615
+
 -- the greatest key up to q with its value, if there is one
 abbrev pub previous_to : List (ℕ × ℕ) → ℕ → Option (ℕ × ℕ)
 previous_to map q = find (λ pair. nat_le pair.0 q) (reverse map)

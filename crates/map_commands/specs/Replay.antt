@@ -2,7 +2,7 @@
 use Rattle.std.specs.Prelude.{◌≡◌, ℕ, List, [], ◌∷◌, ◌++◌, length, take, map, codes, decimal, Option, None, Some}
 use Rattle.std.specs.List.{range_with_len}
 use Rattle.log_levels.specs.declared.update.Update.{Update}
-use Rattle.log_levels.specs.Maps.{map_after, value_at, next_from, count_between}
+use Rattle.log_levels.specs.Maps.{map_after, value_at, next_from, count_between, live_in}
 use Rattle.map_replay.specs.declared.question.Question.{Question}
 use Rattle.map_replay.specs.declared.question.Question.TheVariants.{Get, Next, Count}
 use Rattle.map_replay.specs.declared.reading.Sighting.{Sighting}
@@ -29,10 +29,6 @@ abbrev pub answer_words : List (ℕ × ℕ) → Question → List (List ℕ)
 answer_words pairs (Get key) = get_words key (value_at pairs key)
 answer_words pairs (Next from) = next_words from (next_from pairs from)
 answer_words pairs (Count low high) = count_words low high (count_between pairs low high)
-
--- how many keys a map has, from the least key to the greatest
-abbrev pub live_in : List (ℕ × ℕ) → ℕ
-live_in pairs = count_between pairs 0 18446744073709551615
 
 -- `updates N`
 abbrev pub updates_line : ℕ → List ℕ

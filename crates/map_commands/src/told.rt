@@ -5,13 +5,13 @@ ghost use Rattle.std.specs.List.{join_with_byte, range_with_len};
 ghost use Rattle.written.specs.Writing.{Writes, BreaksOff};
 ghost use Rattle.written.specs.TextLines.{text_line};
 ghost use Rattle.log_levels.specs.declared.update.Update.{Update};
-ghost use Rattle.log_levels.specs.Maps.{map_after};
+ghost use Rattle.log_levels.specs.Maps.{live_in, map_after};
 ghost use Rattle.map_replay.specs.Questions.{answer_of};
 ghost use Rattle.map_replay.specs.Readings.{AreAnswers};
 ghost use Rattle.map_commands.specs.Mix.{from_line};
 ghost use Rattle.map_commands.specs.Replay.{answer_words, closing_lines};
 ghost use Rattle.map_commands.specs.Replay.{count_words, end_line, end_lines, get_words};
-ghost use Rattle.map_commands.specs.Replay.{last_line, live_in, next_words, reader_line};
+ghost use Rattle.map_commands.specs.Replay.{last_line, next_words, reader_line};
 ghost use Rattle.map_commands.specs.Replay.{reader_lines};
 ghost use Rattle.map_commands.specs.MapLines.{IsTold, all_lines, read_lines, told_lines};
 

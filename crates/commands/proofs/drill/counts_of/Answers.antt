@@ -6,7 +6,7 @@ use Rattle.window_search.specs.Searches.{lb}
 use Rattle.levels.specs.Indexes.{IsIndex}
 use Rattle.levels.proofs.CallerLemmas.{xs_at-length}
 use Rattle.boxes.specs.PointCodes.{AreSortedCodes}
-use Rattle.log_levels.specs.Maps.{count_between, map_after}
+use Rattle.log_levels.specs.Maps.{live_in, map_after}
 use Rattle.drill_inputs.specs.Inputs.{keys_of}
 use Rattle.drill_inputs.proofs.LiveLemmas.{live-count}
 use Rattle.commands.proofs.drill.counts_of.Goals as goal
@@ -33,5 +33,5 @@ returns g c =
       codes = subst (λ (p : List ℕ). AreSortedCodes 2 p found.0) coordinates found.1;
       found = found.2;
       looked = found.3;
-      live = c.in_ok-live.ensures ∙ ap (λ u. count_between (map_after u) 0 18446744073709551615) updates ∙ live-count n seed c.args.drill.some c.args.drill.few;
+      live = c.in_ok-live.ensures ∙ ap (λ u. live_in (map_after u)) updates ∙ live-count n seed c.args.drill.some c.args.drill.few;
     }
