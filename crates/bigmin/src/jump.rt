@@ -1,5 +1,5 @@
 // The next code in a region.
-ghost use Rattle.std.specs.Prelude.{◌≡◌, ℕ, ◌+◌, ◌*◌, ◌/◌, ◌%◌, ◌^◌, ◌<◌, ◌≤◌, max, IfSome, IfNone};
+ghost use Rattle.std.specs.Prelude.{◌<◌, max, IfSome, IfNone};
 ghost use Rattle.zorder.specs.Codes.{IsCode, IsDimension};
 ghost use Rattle.zorder.specs.Corners.{AreCorners};
 ghost use Rattle.zorder.specs.Regions.{IsEmpty, IsRegion};

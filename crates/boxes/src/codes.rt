@@ -1,6 +1,5 @@
 // The sorted codes of points.
-ghost use Rattle.std.specs.Prelude.{◌≡◌, ◌*◌, ◌<◌, ◌^◌, All, length, vec_len, IfOk};
-ghost use Rattle.std.specs.List.Sorted.{IsNonDecreasing, IsPermutation};
+ghost use Rattle.std.specs.Prelude.{◌≡◌, ◌*◌, ◌<◌, ◌^◌, All, vec_len, IfOk};
 ghost use Rattle.zorder.specs.Codes.{IsCode, IsDimension};
 ghost use Rattle.zorder.specs.Points.{ArePoints};
 ghost use Rattle.boxes.specs.PointCodes.{codes_of, AreSortedCodes};

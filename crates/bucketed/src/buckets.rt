@@ -1,5 +1,5 @@
 // The table over an index.
-ghost use Rattle.std.specs.Prelude.{◌≡◌, ◌+◌, ◌-◌, ◌<◌, ◌≤◌, ◌^◌, IfOk};
+ghost use Rattle.std.specs.Prelude.{◌≡◌, ◌-◌, ◌<◌, ◌≤◌, ◌^◌, IfOk};
 ghost use Rattle.bucketed.specs.Tables.{entry_at};
 
 use crate::table::table_of;

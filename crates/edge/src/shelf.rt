@@ -1,6 +1,6 @@
 // Files by name, read one at a time.
 ghost use Rattle.std.specs.Prelude.{◌≡◌, ◌≤◌, ℕ, List, length, Option, Result, Ok, IfOk, OnOk};
-ghost use Rattle.std.specs.Prelude.{OnErr, IfSome, ⊤};
+ghost use Rattle.std.specs.Prelude.{OnErr, ⊤};
 ghost use Rattle.edge.specs.declared.failed.Failed.{Failed};
 ghost use Rattle.edge.specs.Counts.{HasCause};
 ghost use Rattle.edge.specs.Shelf.{TakesFile, ReadsNext, HasNothingLeft};

@@ -1,11 +1,11 @@
 // The steep pair of a run, and the hull on which the next pair's lower place is found.
-ghost use Rattle.std.specs.Prelude.{◌≡◌, ℕ, ◌+◌, ◌*◌, ◌-◌, ◌^◌, ◌<◌, ◌≤◌, IfOk, length, []};
-ghost use Rattle.std.specs.Prelude.{vec_len, vec_capacity};
+ghost use Rattle.std.specs.Prelude.{◌≡◌, ℕ, ◌+◌, ◌*◌, ◌-◌, ◌<◌, ◌≤◌, IfOk, length, []};
+ghost use Rattle.std.specs.Prelude.{vec_capacity};
 ghost use Rattle.std.specs.Bool.{OnTrue, OnFalse};
 ghost use Rattle.exact_cross.specs.Points.{Points};
 ghost use Rattle.exact_cross.specs.Slopes.{IsAtMost, steep_slope};
 ghost use Rattle.hulls.specs.Slopes.{steepest};
-ghost use Rattle.hulls.specs.Vertices.{vertex_at, lifted_slope, AreLeftOf};
+ghost use Rattle.hulls.specs.Vertices.{vertex_at};
 ghost use Rattle.hulls.specs.Hull.{IsHullOf, IsHullUpTo, IsFittable, IsShadowed, IsUnderLine};
 ghost use Rattle.hulls.specs.Hull.{IsNextVertex, IsVertexOf, lower_of, spare_of};
 

@@ -1,7 +1,7 @@
 // Whether a saved index is the one index of points.
 ghost use Rattle.std.specs.List.Sorted.{IsStrictlyIncreasing};
 ghost use Rattle.std.specs.Prelude.{◌≡◌, ◌⊎◌, ◌<◌, ◌≤◌, ◌^◌, ◌↔◌, ℕ, List, length, IsTrue};
-ghost use Rattle.std.specs.Prelude.{IfOk, IfErr, OnOk, MatchResult, ⊤, slice_index_or};
+ghost use Rattle.std.specs.Prelude.{IfOk, IfErr, OnOk, MatchResult, slice_index_or};
 ghost use Rattle.exact_cross.specs.declared.segment.Segment.{Segment};
 ghost use Rattle.exact_cross.specs.Points.{points_of, places};
 ghost use Rattle.exact_cross.specs.PointLists.{points_in};

@@ -1,6 +1,6 @@
 //! Nearest points, with answers worked out by hand or by going through all points.
 
-ghost use Rattle.std.specs.Prelude.{◌≡◌, ◌<◌, ◌≤◌};
+ghost use Rattle.std.specs.Prelude.{◌<◌, ◌≤◌};
 ghost use Rattle.zorder.specs.Codes.{IsInRange};
 
 use crate::boxes_rows::{SQUARE, boxes_of, is_corner};

@@ -1,6 +1,6 @@
 // The keys of a file.
-ghost use Rattle.std.specs.Prelude.{◌≡◌, ◌+◌, ◌<◌, ◌≤◌, ◌^◌, length};
-ghost use Rattle.std.specs.Prelude.{slice_index, vec_len, IfOk, IfErr, Err, ℕ, IsTrue, ◌↔◌};
+ghost use Rattle.std.specs.Prelude.{◌≡◌, ◌<◌, ◌≤◌, ◌^◌, length};
+ghost use Rattle.std.specs.Prelude.{vec_len, IfOk, IfErr, Err, ℕ, IsTrue, ◌↔◌};
 ghost use Rattle.std.specs.List.Sorted.{IsNonDecreasing, IsStrictlyIncreasing};
 ghost use Rattle.key_points.specs.KeyPoints.{distinct_of, first_of, xs_of};
 ghost use Rattle.key_points.specs.Falls.{IsFirstFall, IsRefusedFor};

@@ -1,6 +1,6 @@
 // The calls over a map.
 ghost use Rattle.std.specs.Prelude.{◌≡◌, ◌≢◌, ◌⊎◌, ◌+◌, ◌<◌, ◌≤◌, ◌∷◌};
-ghost use Rattle.std.specs.Prelude.{◌++◌, [], ℕ, ⊤, List, length, map, All};
+ghost use Rattle.std.specs.Prelude.{◌++◌, [], ⊤, List, length, map, All};
 ghost use Rattle.std.specs.Option.{MatchOption};
 ghost use Rattle.std.specs.declared.option.Option.TheVariants.{None, Some};
 ghost use Rattle.log_levels.specs.declared.update.Update.{Update};

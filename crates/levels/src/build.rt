@@ -1,6 +1,6 @@
 // Building an index, level by level.
 ghost use Rattle.std.specs.Prelude.{◌≡◌, ℕ, ◌+◌, ◌*◌, ◌<◌};
-ghost use Rattle.std.specs.Prelude.{◌≤◌, ◌^◌, length, vec_len};
+ghost use Rattle.std.specs.Prelude.{◌≤◌, length, vec_len};
 ghost use Rattle.std.specs.Prelude.{◌-◌, slice_index, slice_index_or, IfOk};
 ghost use Rattle.budget.specs.Ledgers.{IsNewLedger};
 ghost use Rattle.exact_cross.specs.Points.{points_of};

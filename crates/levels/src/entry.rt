@@ -1,5 +1,5 @@
 // The level at which lookups start.
-ghost use Rattle.std.specs.Prelude.{◌≡◌, ◌+◌, ◌-◌, ◌*◌, ◌<◌, ◌≤◌, ◌^◌, ℕ, length};
+ghost use Rattle.std.specs.Prelude.{◌+◌, ◌-◌, ◌*◌, ◌<◌, ◌≤◌, ℕ};
 ghost use Rattle.levels.specs.Entries.{IsEntry, share_of};
 ghost use Rattle.levels.specs.Stored.{AreStored, segments_of};
 

@@ -1,5 +1,5 @@
 // Where a question's position is, for callers that interleave searches of several files.
-ghost use Rattle.std.specs.Prelude.{◌≡◌, ◌+◌, ◌*◌, ◌<◌, ◌≤◌, min, length};
+ghost use Rattle.std.specs.Prelude.{◌≡◌, ◌+◌, ◌*◌, ◌<◌, min, length};
 ghost use Rattle.budget.specs.Ledgers.{IsNewLedger};
 ghost use Rattle.key_search.specs.Interleaved.{HasBound};
 ghost use Rattle.window_search.specs.Searches.{lb};

@@ -1,5 +1,5 @@
 // The map, and what is asked of it.
-ghost use Rattle.std.specs.Prelude.{◌≡◌, ◌+◌, ◌-◌, ◌*◌, ◌/◌, ◌%◌};
+ghost use Rattle.std.specs.Prelude.{◌≡◌, ◌+◌, ◌-◌, ◌/◌, ◌%◌};
 ghost use Rattle.std.specs.Prelude.{◌^◌, ◌<◌, ◌≤◌, ◌↔◌, ℕ};
 ghost use Rattle.std.specs.Prelude.{List, [], length, Option, Some, None, IsSome, IsNone, IfOk};
 ghost use Rattle.std.specs.Option.{option_map, option_copied};

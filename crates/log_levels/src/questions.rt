@@ -1,7 +1,7 @@
 // Questions to a map.
-ghost use Rattle.std.specs.Prelude.{◌≡◌, ◌+◌, ◌*◌, ◌/◌, ◌<◌, ◌≤◌};
-ghost use Rattle.std.specs.Prelude.{◌==◌, ℕ, List, length, reverse};
-ghost use Rattle.std.specs.Prelude.{Option, Some, None, drop, find};
+ghost use Rattle.std.specs.Prelude.{◌≡◌, ◌+◌, ◌<◌};
+ghost use Rattle.std.specs.Prelude.{◌==◌, List};
+ghost use Rattle.std.specs.Prelude.{Option, Some, None, find};
 ghost use Rattle.std.specs.Option.{option_copied};
 ghost use Rattle.tombstones.specs.declared.entry.Entry.{Entry};
 ghost use Rattle.log_levels.specs.declared.update.Update.{Update};

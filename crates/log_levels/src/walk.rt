@@ -1,9 +1,7 @@
 // A walk over the keys of a map in rising order, and the greatest key up to a bound.
-ghost use Rattle.std.specs.Prelude.{◌≡◌, ◌+◌, ◌-◌, ◌*◌, ◌<◌, ◌≤◌, ◌^◌, ◌⊎◌};
-ghost use Rattle.std.specs.Prelude.{◌++◌, ◌∷◌, [], ℕ, List, length, max, IsTrue, MatchOption};
+ghost use Rattle.std.specs.Prelude.{◌≡◌, ◌+◌, ◌-◌, ◌<◌, ◌≤◌, ◌^◌, ◌⊎◌};
+ghost use Rattle.std.specs.Prelude.{ℕ, List, length, max, MatchOption};
 ghost use Rattle.std.specs.Prelude.{Some, None, IfSome, IsNone};
-ghost use Rattle.std.specs.Bool.{OnFalse};
-ghost use Rattle.std.specs.Option.{option_copied};
 ghost use Rattle.options.specs.declared.map.TheConstants.{MAX_LEVELS};
 ghost use Rattle.tombstones.specs.declared.entry.Entry.{Entry};
 ghost use Rattle.map_level.specs.Levels.{last_at, level_keys, IsBelow, IsAbove};

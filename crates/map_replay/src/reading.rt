@@ -1,5 +1,4 @@
 // What a reader saw.
-ghost use Rattle.std.specs.Prelude.{◌≡◌};
 
 use crate::Answer;
 

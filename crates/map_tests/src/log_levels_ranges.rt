@@ -1,6 +1,6 @@
 //! Ranges, floors, loads and compacted maps, beside a plain list of values by key.
 
-ghost use Rattle.std.specs.Prelude.{◌≡◌, ◌<◌, ◌≤◌, ◌^◌, length};
+ghost use Rattle.std.specs.Prelude.{◌<◌};
 
 use drill_inputs::Generator;
 use log_levels::{LoadFault, LogMap, MapFault};

@@ -1,7 +1,7 @@
 //! Rows by hand, all interleavings of a few calls, and senders in threads of their own.
-ghost use Rattle.std.specs.Prelude.{◌≡◌, ◌≤◌, ◌<◌, All, IfOk, length, vec_len};
+ghost use Rattle.std.specs.Prelude.{◌≡◌, ◌≤◌, ◌<◌, All, IfOk, vec_len};
 ghost use Rattle.options.specs.declared.map.TheConstants.{MAX_ROOM, MAX_SENDERS};
-ghost use Rattle.senders.specs.Senders.{Origin, Sending};
+ghost use Rattle.senders.specs.Senders.{Origin};
 
 use budget::NoMemory;
 use log_levels::Update;

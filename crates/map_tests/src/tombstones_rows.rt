@@ -1,5 +1,4 @@
 //! Merges of entry lists worked out by hand, by one worker and by several.
-ghost use Rattle.std.specs.Prelude.{◌≤◌};
 ghost use Rattle.tombstones.specs.Entries.{IsAscending};
 
 use budget::NoMemory;

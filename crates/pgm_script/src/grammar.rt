@@ -1,6 +1,6 @@
 // Texts as scripts.
-ghost use Rattle.std.specs.Prelude.{◌≡◌, ◌⊎◌, ◌≤◌, ℕ, List, Option, All, Ok, Err};
-ghost use Rattle.std.specs.Prelude.{Result, IfOk, IfErr, OnErr, MatchResult};
+ghost use Rattle.std.specs.Prelude.{◌≡◌, ◌⊎◌, ℕ, List, All, Ok, Err};
+ghost use Rattle.std.specs.Prelude.{Result, IfOk, IfErr, MatchResult};
 ghost use Rattle.pgm_script.specs.declared.script.ScriptLine.{ScriptLine};
 ghost use Rattle.pgm_script.specs.declared.script.ScriptKind.{ScriptKind};
 ghost use Rattle.pgm_script.specs.declared.fault.ScriptFault.{ScriptFault};

@@ -1,6 +1,6 @@
 // Reading the text of a file.
-ghost use Rattle.std.specs.Prelude.{◌≡◌, ◌≢◌, ◌⊎◌, ◌+◌, ◌<◌, ◌≤◌, ◌^◌, ◌++◌, ℕ, List, Ok, Err};
-ghost use Rattle.std.specs.Prelude.{Result, length, take, vec_len, IfOk, IfErr, OnOk, OnErr};
+ghost use Rattle.std.specs.Prelude.{◌≡◌, ◌≢◌, ◌⊎◌, ◌+◌, ◌<◌, ◌≤◌, ◌^◌, ℕ, List, Ok, Err};
+ghost use Rattle.std.specs.Prelude.{Result, vec_len, IfOk, IfErr};
 ghost use Rattle.std.specs.Prelude.{IfSome, MatchResult, IsErrOf};
 ghost use Rattle.edge.specs.Risen.{HasRisen, StaysQuiet};
 ghost use Rattle.edge.specs.Shelf.{TakesAtMost, IsEmptied};

@@ -2,7 +2,7 @@
 ghost use Rattle.std.specs.Prelude.{◌≡◌, ◌≤◌, ◌<◌, ◌+◌, ◌^◌, ℕ, Option, IfSome, option_map};
 ghost use Rattle.std.specs.Prelude.{find, bytes_eq, take, drop, length, slice_index};
 ghost use Rattle.zorder.specs.Codes.{IsDimension};
-ghost use Rattle.pgm_script.specs.Commands.{Command, commands_of, corner, greatest, map_commands};
+ghost use Rattle.pgm_script.specs.Commands.{commands_of, corner, greatest, map_commands};
 ghost use Rattle.pgm_script.specs.Scripts.{IsKind};
 ghost use Rattle.pgm_script.specs.Verbs.{command_of, AreWithin, IsVerb};
 

@@ -1,5 +1,5 @@
 // Where points are cut into pieces.
-ghost use Rattle.std.specs.Prelude.{◌≡◌, ℕ, ◌+◌, ◌*◌, ◌^◌, ◌<◌, ◌≤◌, vec_len, IfOk};
+ghost use Rattle.std.specs.Prelude.{◌≡◌, ◌+◌, ◌*◌, ◌<◌, vec_len, IfOk};
 ghost use Rattle.piece_join.specs.Cuttings.{AreCutsAt, AreFewCuts, even_place, uneven_place};
 ghost use Rattle.piece_join.specs.Cuttings.{with_cut};
 

@@ -1,9 +1,9 @@
 // The history of a map: the batches of updates that were published, in order. It stands in a book
 // of the crate `logbook`, which exists in the proofs alone: what runs is a word, the published
 // length.
-ghost use Rattle.std.specs.Prelude.{◌≡◌, ◌⊎◌, ◌+◌, ◌<◌, ◌≤◌, ◌^◌};
+ghost use Rattle.std.specs.Prelude.{◌≡◌, ◌+◌, ◌<◌, ◌^◌};
 ghost use Rattle.std.specs.Prelude.{◌++◌, ◌∷◌, []};
-ghost use Rattle.std.specs.Prelude.{length, vec_len};
+ghost use Rattle.std.specs.Prelude.{vec_len};
 ghost use Rattle.std.specs.Bool.{OnTrue};
 ghost use mathlib.Core.List.{IsPrefix};
 ghost use Rattle.published.specs.Histories.{count_of, longer_of};

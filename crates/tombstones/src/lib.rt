@@ -18,7 +18,7 @@
 //! are in `specs/Entries.antt`.
 #![tactic(auto)]
 
-ghost use Rattle.std.specs.Prelude.{◌≡◌, ℕ, ◌+◌, ◌<◌, ◌≤◌, ◌++◌};
+ghost use Rattle.std.specs.Prelude.{◌≡◌, ◌+◌, ◌<◌, ◌≤◌, ◌++◌};
 ghost use Rattle.std.specs.Prelude.{◌∷◌, ◌↔◌, []};
 ghost use Rattle.std.specs.Prelude.{Some, IfOk, IsTrue, MatchOption};
 ghost use Rattle.std.specs.Prelude.{length, take, drop, All, vec_len, vec_capacity};

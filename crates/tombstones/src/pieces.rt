@@ -1,5 +1,5 @@
 // A merge by threads: both lists are cut at the same keys, and the parts are merged side by side.
-ghost use Rattle.std.specs.Prelude.{◌≡◌, ℕ, ◌<◌, ◌≤◌, length, max, IfOk};
+ghost use Rattle.std.specs.Prelude.{◌≡◌, ◌<◌, ◌≤◌, length, max, IfOk};
 ghost use Rattle.tombstones.specs.Entries.{IsAscending, IsMerge, entry_at};
 ghost use Rattle.tombstones.specs.Parts.{IsBetween, IsCutAt, IsMergedPart, edge_of, longer_of};
 ghost use Rattle.tombstones.specs.Parts.{merged_at};

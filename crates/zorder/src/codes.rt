@@ -1,6 +1,6 @@
 //! Codes of points: encoding, decoding and the range of a coordinate.
 
-ghost use Rattle.std.specs.Prelude.{◌≡◌, ℕ, ◌+◌, ◌*◌, ◌/◌, ◌^◌, ◌<◌, ◌≤◌, ◌↔◌, List, IsTrue};
+ghost use Rattle.std.specs.Prelude.{◌≡◌, ℕ, ◌/◌, ◌^◌, ◌<◌, ◌≤◌, ◌↔◌, List, IsTrue};
 ghost use Rattle.std.specs.Prelude.{length, slice_index};
 ghost use Rattle.zorder.specs.Codes.{IsCode, IsCodeOf, IsDimension, IsInRange, IsNowhereAbove};
 ghost use Rattle.zorder.specs.Codes.{code, coordinate, coordinate_bits};

@@ -9,7 +9,7 @@
 //!
 //! The words of the clauses are in `specs/Columns.antt`.
 
-ghost use Rattle.std.specs.Prelude.{◌≡◌, ℕ, ◌+◌, ◌*◌, ◌/◌, ◌%◌, ◌^◌, ◌<◌, ◌≤◌, length, slice_index};
+ghost use Rattle.std.specs.Prelude.{◌≡◌, ℕ, ◌+◌, ◌*◌, ◌/◌, ◌^◌, ◌<◌, ◌≤◌, length, slice_index};
 ghost use Rattle.std.specs.Int.{bit_at};
 ghost use Rattle.zorder.specs.Codes.{coordinate};
 ghost use Rattle.zorder.specs.Columns.{HasLanes, byte_of, crossing, lower_side, upper_side};

@@ -11,7 +11,7 @@
 //! A mask has the ones of all blocks of its size in 64 bits, so one mask serves a step up and a
 //! step down.
 
-ghost use Rattle.std.specs.Prelude.{◌≡◌, ℕ, ◌+◌, ◌*◌, ◌/◌, ◌%◌, ◌^◌, ◌<◌, ◌≤◌, bit_and, bit_or};
+ghost use Rattle.std.specs.Prelude.{◌≡◌, ◌*◌, ◌/◌, ◌%◌, ◌^◌, ◌<◌, bit_and, bit_or};
 ghost use Rattle.zorder.specs.Codes.{IsDimension, coordinate, coordinate_bits};
 ghost use Rattle.zorder.specs.Spread.{IsSpread};
 
