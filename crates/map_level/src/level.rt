@@ -22,7 +22,7 @@ use std::marker::Model;
 use tombstones::Entry;
 
 /// How many groups of eight entries are looked at where a grid leads.
-pub(crate) const GROUPS: usize = 1;
+const GROUPS: usize = 1;
 
 /// The entries of a level, by rising key, with the index of their keys, a filter of them, and a
 /// grid where they are even. Seen as the entries. It is never changed.
@@ -121,9 +121,9 @@ impl Level {
         }
     }
 
-    /// Whether the level may have an entry with a key.
+    /// Whether the level may have an entry with a key, by its filter: some keys pass that it hasn't.
     #[inline(always)]
-    fn may_have(&self, key: &HashedKey) -> bool
+    pub fn may_have(&self, key: &HashedKey) -> bool
         ensures { OnFalse result (entry_at self.now key.now ≡ None) }
     {
         self.filter.passes(key)

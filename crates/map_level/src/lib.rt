@@ -20,6 +20,3 @@ pub use builder::{Builder, Built, ByWorkers, Here, Merged, index_in_pieces};
 pub use filter::HashedKey;
 pub use latest::latest_of;
 pub use level::Level;
-
-#[cfg(test)]
-mod tests;

@@ -16,6 +16,8 @@ mod log_levels_ranges;
 #[cfg(test)]
 mod log_levels_rows;
 #[cfg(test)]
+mod map_level_rows;
+#[cfg(test)]
 mod map_replay_rows;
 #[cfg(test)]
 mod published_rows;
