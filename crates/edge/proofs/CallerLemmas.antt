@@ -37,10 +37,6 @@ takes-after (Some x) None c p some most _ h _ = absurd h
 takes-after (Some x) (Some y) c p some most few h k =
     (length p + k.0, omega (arith, k.1), k.2 ∙ ap Some (sym (ap (drop (length p + k.0)) h ∙ drop-append-add p y k.0)))
 
-pub takes-nothing : (a : Option (List ℕ)) (most : ℕ) → TakesAtMost most a a
-takes-nothing None most = tt
-takes-nothing (Some x) most = (0, omega arith, refl)
-
 pub on-error : {T E : Type 0} (result : Result T E) (P : Type 0) → P → OnErr result P
 on-error (Ok x) P holds = tt
 on-error (Err e) P holds = holds

@@ -42,11 +42,6 @@ level_at-below levels more i inside = sym (get_or_append_left levels (more ∷ [
 pub level_at-last : (levels : List (List Segment)) (more : List Segment) (i : ℕ) → i ≡ length levels → more ≡ level_at (levels ++ more ∷ []) i
 level_at-last levels more i last = sym (ap (level_at (levels ++ more ∷ [])) last ∙ get_or-append_seam levels more [] [])
 
--- of levels that were made two things are known
-pub IfOk-both : {T E : Type 0} (r : Result T E) (P Q : T → Type 0) → IfOk r P → IfOk r Q → IfOk r (λ x. P x × Q x)
-IfOk-both (Ok x) P Q p q = (p, q)
-IfOk-both (Err y) P Q p q = tt
-
 -- ---- one more level
 
 pub IsLevel-push : (keys : List ℕ) (eps eps_rec : ℕ) (levels : List (List Segment)) (more : List Segment) (n : ℕ) → n ≡ length levels →

@@ -13,10 +13,6 @@ use Rattle.piece_join.specs.Pieces.{edge_of}
 abbrev last_of : List ℕ → ℕ
 last_of cuts = slice_index cuts (length cuts - 1)
 
--- a value that is passed on either way
-abbrev IsValue : (ℕ → ℕ) → ℕ → ℕ → Type 0
-IsValue place n cut = (k : ℕ) × (0 < k) × (k < n) × (place k ≡ cut)
-
 rise-push : (cuts : List ℕ) (cut : ℕ) → IsStrictlyIncreasing cuts → last_of cuts < cut → IsStrictlyIncreasing (cuts ++ cut ∷ [])
 rise-push cuts cut rise above = λ k inside. elim (cases_lt (k + 1) (length cuts)) [
   | inl before ↦
