@@ -326,11 +326,6 @@ pub met_rows : (m : ArgMatches) (name : Text) (rows : List Row) → Some name �
     subcommand_rows_of m ≡ Some (name, rows)
 met_rows m name rows named found = both_told (out-ArgMatches m).subcommand name rows named found
 
--- the request asks for a command of the definition
-pub is_met : (m : ArgMatches) (name : Text) (rows : List Row) → Some name ≡ subcommand_name_of m → Some rows ≡ option_map (λ p. p.1) (subcommand_rows_of m) →
-    (words : List Text) → AreTaken words → subcommand_rows_of m ≡ subcommand_of application words → IsCommand (name, rows)
-is_met m name rows named found words taken is = command_met words (name, rows) taken (sym is ∙ met_rows m name rows named found)
-
 -- what the options of the command of a name hold, by the name that was asked for
 pub options_of : {P : List Row → Type 0} (p : Text × List Row) (asked : Text) → Holds asked P → IsCommand p → bytes_eq p.0 asked ≡ true → P p.1
 options_of p asked holds is same = holds p.1 (passed_in asked (built application).subs p ((bytes_eq-Decides p.0 asked).0 same) all_apart is)

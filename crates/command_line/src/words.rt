@@ -64,20 +64,29 @@ pub fn requested<'a>(alloc: Global, words: &'a [String]) -> Result<Request<'a>, 
 {
     let program = application(alloc)?;
     match program.try_get_matches_from(words) {
-        Ok(matches) => request_in(&matches).ok_or(NoRequest::Usage),
+        Ok(matches) => named_request(&matches).ok_or(NoRequest::Usage),
         Err(error) if error.kind() == ErrorKind::OutOfMemory => Err(NoRequest::NoMemory),
         Err(_) => Err(NoRequest::Usage),
     }
 }
 
 /// What was found for the command that was named. There is one.
-fn request_in<'a>(matches: &ArgMatches<'a>) -> Option<Request<'a>>
+fn named_request<'a>(matches: &ArgMatches<'a>) -> Option<Request<'a>>
     requires { (words : List Text) × AreTaken words
         × (subcommand_rows_of matches.now ≡ subcommand_of application words) }
     ensures { option_map asked_of result
         ≡ option_and_then (λ p. request_for p.0 p.1) (subcommand_rows_of matches.now) }
 {
     let (name, found) = matches.subcommand()?;
+    request_in(name, found)
+}
+
+/// What the command of a name asks for, by what was found for its arguments.
+fn request_in<'a>(name: &str, found: &ArgMatches<'a>) -> Option<Request<'a>>
+    requires { (words : List Text) × AreTaken words
+        × (subcommand_of application words ≡ Some (name.now, rows_in found.now)) }
+    ensures { option_map asked_of result ≡ request_for name.now (rows_in found.now) }
+{
     if name == "build" {
         let building = building_in(found);
         Some(Request::Build { building })

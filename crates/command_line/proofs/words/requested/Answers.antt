@@ -23,7 +23,7 @@ returns-in-Ok-clause-asks c =
     let free = ap is_simple_and_free same ∙ is_free_application in
     let taken : AreTaken words = sym (ap (λ (a : App). fault_of a words) same) ∙ c.in-Ok.ensures.kinds free in
     let rows = (c.in-Ok.ensures.matches (ap is_simple same ∙ is_simple_application)).1 ∙ ap (λ (a : App). subcommand_of a words) same in
-    asks_for words c.request_in.result c.ok_or.result _ taken (c.request_in.ensures ∙ ap (option_and_then (λ p. request_for p.0 p.1)) rows) c.ok_or.ensures.value
+    asks_for words c.named_request.result c.ok_or.result _ taken (c.named_request.ensures ∙ ap (option_and_then (λ p. request_for p.0 p.1)) rows) c.ok_or.ensures.value
 
 -- what was found is a request, since the words are taken
 pub returns-in-Ok-clause-usage : goal.returns-in-Ok-clause-usage
@@ -31,12 +31,12 @@ returns-in-Ok-clause-usage c usage taken =
     let words = map string_bytes c.args.words.now in
     let same = c.in_ok-program.ensures in
     let rows = (c.in-Ok.ensures.matches (ap is_simple same ∙ is_simple_application)).1 ∙ ap (λ (a : App). subcommand_of a words) same in
-    never_refused words c.request_in.result _ taken (c.request_in.ensures ∙ ap (option_and_then (λ p. request_for p.0 p.1)) rows)
+    never_refused words c.named_request.result _ taken (c.named_request.ensures ∙ ap (option_and_then (λ p. request_for p.0 p.1)) rows)
     (sym c.ok_or.ensures.value ∙ usage)
 
 -- the words are taken where there are matches
-pub request_in-requires : goal.request_in-requires
-request_in-requires c =
+pub named_request-requires : goal.named_request-requires
+named_request-requires c =
     let words = map string_bytes c.args.words.now in
     let same = c.in_ok-program.ensures in
     let free = ap is_simple_and_free same ∙ is_free_application in (
