@@ -49,14 +49,9 @@ pub fn sorted_keys<F: Shelf>(
         → result ≡ Err (Stopped.Refused Refusal.ReadFault) }
     ensures files { F.files files.new ≡ F.files files.old }
 {
-    match files.take_file(name) {
-        Ok(()) => {}
-        Err(_) => return Err(Stopped::Refused(Refusal::ReadFault)),
-    }
-    match read_keys(alloc, files, wide) {
-        Ok(keys) => Ok(SortedKeys { keys }),
-        Err(fault) => Err(Stopped::from(fault)),
-    }
+    files.take_file(name)?;
+    let keys = read_keys(alloc, files, wide)?;
+    Ok(SortedKeys { keys })
 }
 
 /// The coordinates of the points of the file of this name.
@@ -73,14 +68,8 @@ pub fn coordinates<F: Shelf>(
         → result ≡ Err (Stopped.Refused Refusal.ReadFault) }
     ensures files { F.files files.new ≡ F.files files.old }
 {
-    match files.take_file(name) {
-        Ok(()) => {}
-        Err(_) => return Err(Stopped::Refused(Refusal::ReadFault)),
-    }
-    match read_points(alloc, files, d) {
-        Ok(coords) => Ok(coords),
-        Err(fault) => Err(Stopped::from(fault)),
-    }
+    files.take_file(name)?;
+    Ok(read_points(alloc, files, d)?)
 }
 
 /// The lines of the script of this name.
@@ -101,18 +90,9 @@ pub fn script_lines<F: Shelf, L: LineList>(
         → result ≡ Err (Stopped.Refused Refusal.ReadFault) }
     ensures files { F.files files.new ≡ F.files files.old }
 {
-    match files.take_file(name) {
-        Ok(()) => {}
-        Err(_) => return Err(Stopped::Refused(Refusal::ReadFault)),
-    }
-    let text = match read_text(alloc, files, SCRIPT_LIMIT) {
-        Ok(text) => text,
-        Err(fault) => return Err(Stopped::from(fault)),
-    };
-    match parse_as(alloc, kind, &text) {
-        Ok(lines) => Ok(lines),
-        Err(fault) => Err(Stopped::from(fault)),
-    }
+    files.take_file(name)?;
+    let text = read_text(alloc, files, SCRIPT_LIMIT)?;
+    Ok(parse_as(alloc, kind, &text)?)
 }
 
 /// The regions of a script, each of points of `d` coordinates.

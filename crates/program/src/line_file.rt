@@ -8,7 +8,7 @@ ghost use Rattle.program.specs.Inputs.{no_words, reads_lines};
 ghost use Rattle.program.specs.Outcomes.{IsOutcome, Outcome};
 ghost use Rattle.program.specs.Stops.{Answers};
 
-use crate::refusal::{Refusal, Stopped};
+use crate::refusal::Stopped;
 use edge::Shelf;
 use pgm_script::{ScriptFault, read_text};
 use std::alloc::{AllocError, Global};
@@ -40,10 +40,7 @@ pub fn line_words<F: Shelf>(
         (F.faults files.old) (F.faults files.new) result }
     ensures files { F.files files.new ≡ F.files files.old }
 {
-    match files.take_file(name) {
-        Ok(()) => {}
-        Err(_) => return Err(Stopped::Refused(Refusal::ReadFault)),
-    }
+    files.take_file(name)?;
     match read_text(alloc, files, room_for(keys)) {
         Ok(bytes) => Ok(words_of(alloc, &bytes)?),
         Err(ScriptFault::TooLong { .. }) => Ok(Vec::new(alloc)),
