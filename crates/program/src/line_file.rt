@@ -1,6 +1,5 @@
 // A file of lines, which says where among keys to look first. Whatever it holds is taken.
-ghost use Rattle.std.specs.Prelude.{◌≡◌, ◌+◌, ◌*◌, ◌<◌, ◌≤◌, ◌^◌, List, ℕ, Option, Some, IsSome};
-ghost use Rattle.std.specs.Prelude.{length};
+ghost use Rattle.std.specs.Prelude.{◌≡◌, ◌<◌, ◌^◌, List, ℕ, Option, Some, IsSome};
 ghost use Rattle.command_line.specs.Requests.{Finding};
 ghost use Rattle.command_line.specs.Requests.Request.{find as find_of};
 ghost use Rattle.command_line.specs.Words.{AskFor};
@@ -58,28 +57,12 @@ fn room_for(keys: usize) -> u64
 
 /// The words that the bytes are.
 fn words_of(alloc: Global, bytes: &[u8]) -> Result<Vec<u64>, AllocError> {
-    let count = bytes.len() / 8;
-    let mut words = Vec::with_capacity(alloc, count)?;
-    for i in 0..count {
-        words.push(word_at(bytes, 8 * i))?;
+    let (chunks, _) = bytes.as_chunks();
+    let mut words = Vec::with_capacity(alloc, chunks.len())?;
+    for chunk in chunks {
+        words.push(u64::from_le_bytes(*chunk))?;
     }
     Ok(words)
-}
-
-/// The word whose bytes begin at this place.
-fn word_at(bytes: &[u8], at: usize) -> u64
-    requires { at + 8 ≤ length bytes.now }
-{
-    u64::from_le_bytes([
-        bytes[at],
-        bytes[at + 1],
-        bytes[at + 2],
-        bytes[at + 3],
-        bytes[at + 4],
-        bytes[at + 5],
-        bytes[at + 6],
-        bytes[at + 7],
-    ])
 }
 
 /// What a file of lines holds changes nothing: files with the same keys and the same script under
