@@ -3,15 +3,16 @@ ghost use Rattle.std.specs.Prelude.{◌≡◌, ◌≤◌, ◌++◌, ◌∷◌, [
 ghost use Rattle.zorder.specs.Codes.{IsDimension, IsInRange};
 ghost use Rattle.pgm_script.specs.Scripts.{IsKind, IsLineOf};
 ghost use Rattle.zorder.specs.Regions.{IsRegionOf};
+ghost use Rattle.commands.specs.Tasks.{bounds_of};
 ghost use Rattle.command_line.specs.Requests.{built_of};
 ghost use Rattle.program.specs.Files.{IsMissing};
-ghost use Rattle.program.specs.Inputs.{reads_index, reads_keys, reads_script};
+ghost use Rattle.program.specs.Inputs.{bounds_in, reads_index, reads_keys, reads_script};
 ghost use Rattle.program.specs.Inputs.{centres_in, reads_points, regions_in};
 ghost use Rattle.program.specs.Stops.{Answers};
 
 use crate::refusal::{Refusal, Stopped};
 use command_line::Building;
-use commands::{Centre, SortedKeys};
+use commands::{Centre, Indexing, SortedKeys};
 use edge::Shelf;
 use pgm_script::{LineList, ScriptKind, ScriptLine, parse_as, read_text};
 use sosd_reader::{read_keys, read_points};
@@ -21,19 +22,26 @@ use zorder::Region;
 /// How many bytes a script has at most.
 pub const SCRIPT_LIMIT: u64 = 67_108_864;
 
-/// The keys that an index is built of.
-pub fn index_keys<F: Shelf>(
+/// The keys that an index is built of, and how it is built.
+pub fn indexing<F: Shelf>(
     alloc: Global,
     files: &mut F,
     building: Building<'_>,
-) -> Result<SortedKeys, Stopped>
+) -> Result<Indexing, Stopped>
     ensures answer { Answers (reads_index (F.files files.old) (built_of building.entry))
-        (λ sorted. sorted.keys.items) (F.faults files.old) (F.faults files.new) result }
+        (λ indexing. indexing.sorted.keys.items) (F.faults files.old) (F.faults files.new) result }
+    ensures bounds { IfOk result
+        (λ indexing. bounds_of indexing.bounds ≡ bounds_in (built_of building.entry)) }
     ensures missing { IsMissing (F.files files.old) building.entry.file.now
         → result ≡ Err (Stopped.Refused Refusal.ReadFault) }
     ensures files { F.files files.new ≡ F.files files.old }
 {
-    sorted_keys(alloc, files, building.file, !building.narrow)
+    let sorted = sorted_keys(alloc, files, building.file, !building.narrow)?;
+    Ok(Indexing {
+        sorted,
+        bounds: building.bounds,
+        workers: building.workers,
+    })
 }
 
 /// The keys of the key file of this name.
@@ -49,14 +57,9 @@ pub fn sorted_keys<F: Shelf>(
         → result ≡ Err (Stopped.Refused Refusal.ReadFault) }
     ensures files { F.files files.new ≡ F.files files.old }
 {
-    match files.take_file(name) {
-        Ok(()) => {}
-        Err(_) => return Err(Stopped::Refused(Refusal::ReadFault)),
-    }
-    match read_keys(alloc, files, wide) {
-        Ok(keys) => Ok(SortedKeys { keys }),
-        Err(fault) => Err(Stopped::from(fault)),
-    }
+    files.take_file(name)?;
+    let keys = read_keys(alloc, files, wide)?;
+    Ok(SortedKeys { keys })
 }
 
 /// The coordinates of the points of the file of this name.
@@ -73,14 +76,8 @@ pub fn coordinates<F: Shelf>(
         → result ≡ Err (Stopped.Refused Refusal.ReadFault) }
     ensures files { F.files files.new ≡ F.files files.old }
 {
-    match files.take_file(name) {
-        Ok(()) => {}
-        Err(_) => return Err(Stopped::Refused(Refusal::ReadFault)),
-    }
-    match read_points(alloc, files, d) {
-        Ok(coords) => Ok(coords),
-        Err(fault) => Err(Stopped::from(fault)),
-    }
+    files.take_file(name)?;
+    Ok(read_points(alloc, files, d)?)
 }
 
 /// The lines of the script of this name.
@@ -101,18 +98,9 @@ pub fn script_lines<F: Shelf, L: LineList>(
         → result ≡ Err (Stopped.Refused Refusal.ReadFault) }
     ensures files { F.files files.new ≡ F.files files.old }
 {
-    match files.take_file(name) {
-        Ok(()) => {}
-        Err(_) => return Err(Stopped::Refused(Refusal::ReadFault)),
-    }
-    let text = match read_text(alloc, files, SCRIPT_LIMIT) {
-        Ok(text) => text,
-        Err(fault) => return Err(Stopped::from(fault)),
-    };
-    match parse_as(alloc, kind, &text) {
-        Ok(lines) => Ok(lines),
-        Err(fault) => Err(Stopped::from(fault)),
-    }
+    files.take_file(name)?;
+    let text = read_text(alloc, files, SCRIPT_LIMIT)?;
+    Ok(parse_as(alloc, kind, &text)?)
 }
 
 /// The regions of a script, each of points of `d` coordinates.

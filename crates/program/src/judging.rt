@@ -4,7 +4,7 @@ ghost use Rattle.commands.specs.Tasks.{task_of};
 ghost use Rattle.program.specs.Inputs.{judges, reads_saved};
 ghost use Rattle.program.specs.Stops.{Answers};
 
-use crate::refusal::{Refusal, Stopped};
+use crate::refusal::Stopped;
 use commands::{SortedKeys, Task};
 use edge::Shelf;
 use index_file::{Saved, check, read_index};
@@ -22,14 +22,8 @@ pub fn saved_index<F: Shelf>(alloc: Global, files: &mut F, name: &str) -> Result
         (F.faults files.old) (F.faults files.new) result }
     ensures files { F.files files.new ≡ F.files files.old }
 {
-    match files.take_file(name) {
-        Ok(()) => {}
-        Err(_) => return Err(Stopped::Refused(Refusal::ReadFault)),
-    }
-    match read_index(alloc, files) {
-        Ok(saved) => Ok(saved),
-        Err(fault) => Err(Stopped::from(fault)),
-    }
+    files.take_file(name)?;
+    Ok(read_index(alloc, files)?)
 }
 
 /// What there is to write of a saved index, which is that of the keys.
@@ -43,11 +37,9 @@ pub fn judged(alloc: Global, sorted: SortedKeys, saved: &Saved) -> Result<Task, 
         result }
 {
     let own = KeyPoints::of(alloc, &sorted.keys)?;
-    match check(alloc, own.points(), saved) {
-        Ok(()) => Ok(Task::Check {
-            levels: saved.levels(),
-            runs: saved.run_count(),
-        }),
-        Err(fault) => Err(Stopped::from(fault)),
-    }
+    check(alloc, own.points(), saved)?;
+    Ok(Task::Check {
+        levels: saved.levels(),
+        runs: saved.run_count(),
+    })
 }

@@ -1,6 +1,5 @@
 // A file of lines, which says where among keys to look first. Whatever it holds is taken.
-ghost use Rattle.std.specs.Prelude.{◌≡◌, ◌+◌, ◌*◌, ◌<◌, ◌≤◌, ◌^◌, List, ℕ, Option, Some, IsSome};
-ghost use Rattle.std.specs.Prelude.{length};
+ghost use Rattle.std.specs.Prelude.{◌≡◌, ◌<◌, ◌^◌, List, ℕ, Option, Some, IsSome};
 ghost use Rattle.command_line.specs.Requests.{Finding};
 ghost use Rattle.command_line.specs.Requests.Request.{find as find_of};
 ghost use Rattle.command_line.specs.Words.{AskFor};
@@ -8,7 +7,7 @@ ghost use Rattle.program.specs.Inputs.{no_words, reads_lines};
 ghost use Rattle.program.specs.Outcomes.{IsOutcome, Outcome};
 ghost use Rattle.program.specs.Stops.{Answers};
 
-use crate::refusal::{Refusal, Stopped};
+use crate::refusal::Stopped;
 use edge::Shelf;
 use pgm_script::{ScriptFault, read_text};
 use std::alloc::{AllocError, Global};
@@ -40,10 +39,7 @@ pub fn line_words<F: Shelf>(
         (F.faults files.old) (F.faults files.new) result }
     ensures files { F.files files.new ≡ F.files files.old }
 {
-    match files.take_file(name) {
-        Ok(()) => {}
-        Err(_) => return Err(Stopped::Refused(Refusal::ReadFault)),
-    }
+    files.take_file(name)?;
     match read_text(alloc, files, room_for(keys)) {
         Ok(bytes) => Ok(words_of(alloc, &bytes)?),
         Err(ScriptFault::TooLong { .. }) => Ok(Vec::new(alloc)),
@@ -61,28 +57,12 @@ fn room_for(keys: usize) -> u64
 
 /// The words that the bytes are.
 fn words_of(alloc: Global, bytes: &[u8]) -> Result<Vec<u64>, AllocError> {
-    let count = bytes.len() / 8;
-    let mut words = Vec::with_capacity(alloc, count)?;
-    for i in 0..count {
-        words.push(word_at(bytes, 8 * i))?;
+    let (chunks, _) = bytes.as_chunks();
+    let mut words = Vec::with_capacity(alloc, chunks.len())?;
+    for chunk in chunks {
+        words.push(u64::from_le_bytes(*chunk))?;
     }
     Ok(words)
-}
-
-/// The word whose bytes begin at this place.
-fn word_at(bytes: &[u8], at: usize) -> u64
-    requires { at + 8 ≤ length bytes.now }
-{
-    u64::from_le_bytes([
-        bytes[at],
-        bytes[at + 1],
-        bytes[at + 2],
-        bytes[at + 3],
-        bytes[at + 4],
-        bytes[at + 5],
-        bytes[at + 6],
-        bytes[at + 7],
-    ])
 }
 
 /// What a file of lines holds changes nothing: files with the same keys and the same script under

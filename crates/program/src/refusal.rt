@@ -5,7 +5,7 @@ ghost use Rattle.written.specs.Writing.{WritesUntilFault};
 ghost use Rattle.program.specs.Refusals.{refusal_line, status_of, why_word};
 
 use crate::Status;
-use edge::Sink;
+use edge::{Failed, Sink};
 use index_file::{CheckFault, IndexFault};
 use pgm_script::{ScriptFault, Why};
 use sosd_reader::KeyFault;
@@ -158,6 +158,17 @@ fn push_why(line: &mut TextLine, why: Why)
         Why::Number => line.push(b" number"),
         Why::Missing => line.push(b" missing"),
         Why::Extra => line.push(b" extra"),
+    }
+}
+
+impl From<Failed> for Stopped {
+    ghost use Rattle.program.specs.declared.refusal.Refusal.TheVariants.{ReadFault};
+    ghost use Rattle.program.specs.declared.refusal.Stopped.TheVariants.{Refused};
+
+    ghost from_gives = { λ _ stopped. stopped ≡ Refused ReadFault };
+
+    fn from(_: Failed) -> Self {
+        Stopped::Refused(Refusal::ReadFault)
     }
 }
 

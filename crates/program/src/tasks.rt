@@ -11,12 +11,12 @@ ghost use Rattle.program.specs.Inputs.{reads};
 ghost use Rattle.program.specs.Stops.{Answers};
 
 use crate::history::{history_in, mixing_in};
-use crate::inputs::{centres_in, coordinates, index_keys, regions_in, script_lines, sorted_keys};
+use crate::inputs::{centres_in, coordinates, indexing, regions_in, script_lines, sorted_keys};
 use crate::judging::{judged, saved_index};
 use crate::line_file::line_words;
 use crate::refusal::{Refusal, Stopped};
 use command_line::{Building, Checking, Finding, Replaying, Request, Searching};
-use commands::{Asking, Fitting, Indexing, Lookups, Neighbours, Points, Relaxing, Search, Task};
+use commands::{Asking, Fitting, Lookups, Neighbours, Points, Relaxing, Search, Task};
 use edge::Shelf;
 use options::{Pieces, Senders, Table};
 use pgm_script::{Finds, ScriptKind, ScriptLine};
@@ -36,26 +36,12 @@ pub fn read<F: Shelf>(alloc: Global, files: &mut F, request: Request<'_>) -> Res
         → result ≡ Err (Stopped.Refused Refusal.ReadFault) }
 {
     match request {
-        Request::Build { building } => {
-            let sorted = index_keys(alloc, files, building)?;
-            let (bounds, workers) = (building.bounds, building.workers);
-            let indexing = Indexing {
-                sorted,
-                bounds,
-                workers,
-            };
-            Ok(Task::Build { indexing })
-        }
-        Request::Explain { building } => {
-            let sorted = index_keys(alloc, files, building)?;
-            let (bounds, workers) = (building.bounds, building.workers);
-            let indexing = Indexing {
-                sorted,
-                bounds,
-                workers,
-            };
-            Ok(Task::Explain { indexing })
-        }
+        Request::Build { building } => Ok(Task::Build {
+            indexing: indexing(alloc, files, building)?,
+        }),
+        Request::Explain { building } => Ok(Task::Explain {
+            indexing: indexing(alloc, files, building)?,
+        }),
         Request::Query {
             building,
             script,
@@ -84,16 +70,9 @@ pub fn read<F: Shelf>(alloc: Global, files: &mut F, request: Request<'_>) -> Res
             bounds: drilling.bounds,
             workers: drilling.workers,
         }),
-        Request::Save { building } => {
-            let sorted = index_keys(alloc, files, building)?;
-            let (bounds, workers) = (building.bounds, building.workers);
-            let indexing = Indexing {
-                sorted,
-                bounds,
-                workers,
-            };
-            Ok(Task::Save { indexing })
-        }
+        Request::Save { building } => Ok(Task::Save {
+            indexing: indexing(alloc, files, building)?,
+        }),
         Request::Check { checking } => check_task(alloc, files, checking),
     }
 }
@@ -113,13 +92,8 @@ fn query_task<F: Shelf>(
     ensures missing { IsMissing (F.files files.old) building.entry.file.now
         → result ≡ Err (Stopped.Refused Refusal.ReadFault) }
 {
-    let sorted = index_keys(alloc, files, building)?;
+    let indexing = indexing(alloc, files, building)?;
     let finds: Finds = script_lines(alloc, files, script, ScriptKind::Find)?;
-    let indexing = Indexing {
-        sorted,
-        bounds: building.bounds,
-        workers: building.workers,
-    };
     let asking = Asking {
         indexing,
         questions: finds.numbers,
@@ -143,13 +117,8 @@ fn relax_task<F: Shelf>(
     ensures missing { IsMissing (F.files files.old) building.entry.file.now
         → result ≡ Err (Stopped.Refused Refusal.ReadFault) }
 {
-    let sorted = index_keys(alloc, files, building)?;
+    let indexing = indexing(alloc, files, building)?;
     let finds: Finds = script_lines(alloc, files, script, ScriptKind::Find)?;
-    let indexing = Indexing {
-        sorted,
-        bounds: building.bounds,
-        workers: building.workers,
-    };
     let relaxing = Relaxing {
         indexing,
         pieces,
