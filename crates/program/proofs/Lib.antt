@@ -1,4 +1,3 @@
-pub mod TakenFiles
 pub mod InputLemmas
 pub mod NumberInputs
 pub mod ScriptInputs

@@ -1,21 +1,17 @@
 -- A saved index as an input, and its judging.
 --
--- Main results: what the reader of a saved index answered is what the file of that name defines (`saved_came`, `saved_stopped`); what
--- the check over the points of keys answered is what the keys define (`judged_right`, `judged_stopped`); and told files define one reading,
--- and keys one judgement (`saved_one`, `judges_one`).
-use Rattle.std.proofs.Common.{◌≡◌, ◌≢◌, ◌⊎◌, inl, inr, ℕ, ◌<◌, ◌≤◌, List, length, Option, None, Some, Result, Ok, Err, refl, sym, ap, subst, ◌∙◌, arith}
-use Rattle.std.specs.Prelude.{IfSome, slice_get}
+-- Main results: what the check over the points of keys answered is what the keys define (`judged_right`, `judged_stopped`); and told
+-- files define one reading, and keys one judgement (`saved_one`, `judges_one`).
+use Rattle.std.proofs.Common.{◌≡◌, ◌⊎◌, inl, inr, ℕ, List, length, Option, None, Some, Result, Ok, Err, refl, sym, ap, subst, ◌∙◌, arith}
+use Rattle.std.specs.Prelude.{slice_get}
 use Rattle.std.specs.List.Sorted.{IsNonDecreasing}
-use Rattle.edge.specs.Shelf.{TakesFile}
 use Rattle.exact_cross.specs.declared.segment.Segment.{Segment}
 use Rattle.key_points.specs.KeyPoints.{xs_of, ys_of}
 use Rattle.levels.specs.Indexes.{IsIndex}
 use Rattle.levels.proofs.CallerLemmas.{IsIndex-least, IsIndex-some, IsIndex-unique}
 use Rattle.index_file.specs.declared.saved.SavedRun.{SavedRun}
 use Rattle.index_file.specs.declared.fault.IndexFault.{IndexFault}
-use Rattle.index_file.specs.declared.fault.IndexFault.TheVariants as index
-use Rattle.index_file.specs.Spelling.{SavedIndex, IsSpelling, run_count}
-use Rattle.index_file.specs.Stops.{HasFault, HasCauseOf}
+use Rattle.index_file.specs.Spelling.{SavedIndex, run_count}
 use Rattle.index_file.specs.Faults.{FailsAs, ReadsAs}
 use Rattle.index_file.specs.declared.fault.CheckFault.{CheckFault}
 use Rattle.index_file.specs.declared.fault.CheckFault.TheVariants as check
@@ -26,70 +22,14 @@ use Rattle.commands.proofs.SavedTexts.{IsIndexOver-from_keys, IsIndex-from_point
 use Rattle.program.specs.declared.refusal.Refusal.{Refusal}
 use Rattle.program.specs.declared.refusal.Refusal.TheVariants.{ReadFault, IndexWrong}
 use Rattle.program.specs.declared.refusal.Stopped.{Stopped}
-use Rattle.program.specs.Files.{Files, HoldsOfFile}
+use Rattle.program.specs.Files.{HoldsOfFile}
 use Rattle.program.specs.Refusals.{refusal_of_index, refusal_of_check}
 use Rattle.program.specs.RightIndexes.{IsRightIndex, IsWrongIndex}
 use Rattle.program.specs.Inputs.{reads_saved, judges}
 use Rattle.program.specs.Stops.{Answers, IsStopped, stop_of_refusal}
 use Rattle.program.proofs.InputLemmas.{IsFunctional}
-use Rattle.program.proofs.TakenFiles.{taken_holds}
 
 -- ---- reading
-
--- a fault of the bytes, unless it is another one
-of_bytes : (rest : Option (List ℕ)) (fault : IndexFault) → fault ≢ index.ReadFault → fault ≢ index.NoMemory → HasFault FailsAs rest fault → IfSome rest (λ bytes. FailsAs bytes fault)
-of_bytes None fault not_read not_full is = tt
-of_bytes (Some bytes) fault not_read not_full (inl read) = absurd (not_read read)
-of_bytes (Some bytes) fault not_read not_full (inr (inl full)) = absurd (not_full full)
-of_bytes (Some bytes) fault not_read not_full (inr (inr is)) = is
-
--- the count of faults
-cause_never_falls : (fault : IndexFault) (before after : ℕ) → HasCauseOf fault before after → before ≤ after
-cause_never_falls index.ReadFault before after cause = cause.0
-cause_never_falls (index.Short got) before after cause = omega (arith, cause)
-cause_never_falls (index.Magic at) before after cause = omega (arith, cause)
-cause_never_falls (index.Epsilon value) before after cause = omega (arith, cause)
-cause_never_falls (index.Side at byte) before after cause = omega (arith, cause)
-cause_never_falls (index.Trailing byte) before after cause = omega (arith, cause)
-cause_never_falls index.NoMemory before after cause = omega (arith, cause)
-
-risen_by : (fault : IndexFault) (before after : ℕ) → HasCauseOf fault before after → before < after → fault ≡ index.ReadFault
-risen_by index.ReadFault before after cause rose = refl
-risen_by (index.Short got) before after cause rose = absurd (omega (arith, cause, rose))
-risen_by (index.Magic at) before after cause rose = absurd (omega (arith, cause, rose))
-risen_by (index.Epsilon value) before after cause rose = absurd (omega (arith, cause, rose))
-risen_by (index.Side at byte) before after cause rose = absurd (omega (arith, cause, rose))
-risen_by (index.Trailing byte) before after cause rose = absurd (omega (arith, cause, rose))
-risen_by index.NoMemory before after cause rose = absurd (omega (arith, cause, rose))
-
-module _ (files : Files) (name : List ℕ) (rest : Option (List ℕ)) (takes : TakesFile files name rest) (before after : ℕ) where
-  stops : (fault : IndexFault) → HasFault FailsAs rest fault → HasCauseOf fault before after → IsStopped (reads_saved files name) before after (stop_of_refusal (refusal_of_index fault))
-  stops index.ReadFault read cause = cause.1
-  stops index.NoMemory read cause = tt
-  stops (index.Short got) read cause = (index.Short got, refl, taken_holds files name rest _ takes (of_bytes rest (index.Short got) (λ e. cc) (λ e. cc) read))
-  stops (index.Magic at) read cause = (index.Magic at, refl, taken_holds files name rest _ takes (of_bytes rest (index.Magic at) (λ e. cc) (λ e. cc) read))
-  stops (index.Epsilon value) read cause = (index.Epsilon value, refl, taken_holds files name rest _ takes (of_bytes rest (index.Epsilon value) (λ e. cc) (λ e. cc) read))
-  stops (index.Side at byte) read cause = (index.Side at byte, refl, taken_holds files name rest _ takes (of_bytes rest (index.Side at byte) (λ e. cc) (λ e. cc) read))
-  stops (index.Trailing byte) read cause = (index.Trailing byte, refl, taken_holds files name rest _ takes (of_bytes rest (index.Trailing byte) (λ e. cc) (λ e. cc) read))
-
-  pub saved_stopped : (fault : IndexFault) (stopped : Stopped) → stopped ≡ stop_of_refusal (refusal_of_index fault) → HasFault FailsAs rest fault → HasCauseOf fault before after →
-      Answers {B = SavedIndex} (reads_saved files name) (λ saved. saved) before after (Err stopped)
-  saved_stopped fault stopped is told cause = record {
-    ok = tt;
-    unfaulted = tt;
-    stopped = subst (λ (s : Stopped). IsStopped (reads_saved files name) before after s) (sym is) (stops fault told cause);
-    faulted = λ rose. ap Err (is ∙ ap (λ (f : IndexFault). stop_of_refusal (refusal_of_index f)) (risen_by fault before after cause rose));
-    never_falls = cause_never_falls fault before after cause;
-  }
-
-  pub saved_came : (saved : SavedIndex) → IfSome rest (IsSpelling saved) → after ≡ before → Answers {B = SavedIndex} (reads_saved files name) (λ saved. saved) before after (Ok saved)
-  saved_came saved told same = record {
-    ok = taken_holds files name rest _ takes told;
-    unfaulted = same;
-    stopped = tt;
-    faulted = λ rose. absurd (omega (arith, rose, same));
-    never_falls = omega (arith, same);
-  }
 
 -- the reading of the bytes that a reading of the input rests on
 abbrev Tells : Result SavedIndex IndexFault → Result SavedIndex Refusal → Type 0

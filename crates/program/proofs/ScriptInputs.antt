@@ -1,65 +1,18 @@
 -- The script of a file as an input.
 --
--- Main results: what a reader of scripts answered is what the file of that name defines (`text_stopped`, `parse_stopped`); and
--- told files define one reading of it (`script_one`), since any text has one reading as a script.
-use Rattle.std.proofs.Common.{◌≡◌, ◌≢◌, ◌⊎◌, inl, inr, ℕ, ◌<◌, ◌≤◌, List, length, Option, None, Some, Result, Ok, Err, refl, sym, ap, subst, ◌∙◌, arith}
-use Rattle.std.specs.Prelude.{IfSome}
-use Rattle.edge.specs.Risen.{HasRisen}
-use Rattle.edge.specs.Shelf.{TakesFile}
+-- Main result: told files define one reading of it (`script_one`), since any text has one reading as a script.
+use Rattle.std.proofs.Common.{◌≡◌, ◌⊎◌, inl, inr, ℕ, ◌<◌, ◌≤◌, List, length, Option, None, Some, Result, Ok, Err, refl, sym, ap, subst, ◌∙◌, arith}
 use Rattle.pgm_script.specs.declared.fault.ScriptFault.{ScriptFault}
 use Rattle.pgm_script.specs.declared.fault.ScriptFault.TheVariants as script
 use Rattle.pgm_script.specs.declared.script.ScriptKind.{ScriptKind}
 use Rattle.pgm_script.specs.declared.script.ScriptLine.{ScriptLine}
 use Rattle.pgm_script.specs.Scripts.{ReadsAs}
-use Rattle.pgm_script.specs.Texts.{IsTextOf}
 use Rattle.pgm_script.proofs.ScriptLemmas.{has-one-reading}
 use Rattle.program.specs.declared.refusal.Refusal.{Refusal}
 use Rattle.program.specs.declared.refusal.Refusal.TheVariants.{ReadFault, TooLong, Script}
 use Rattle.program.specs.declared.inputs.TheConstants.{SCRIPT_LIMIT}
-use Rattle.program.specs.Files.{Files, HoldsOfFile}
-use Rattle.program.specs.Refusals.{refusal_of_script}
 use Rattle.program.specs.Inputs.{reads_script}
-use Rattle.program.specs.Stops.{IsStopped, stop_of_refusal}
 use Rattle.program.proofs.InputLemmas.{IsFunctional}
-use Rattle.program.proofs.TakenFiles.{taken_holds}
-
--- what is known of bytes that were left
-on_rest : (rest : Option (List ℕ)) (P Q : List ℕ → Type 0) → ((bytes : List ℕ) → P bytes → Q bytes) → IfSome rest P → IfSome rest Q
-on_rest None P Q f p = tt
-on_rest (Some bytes) P Q f p = f bytes p
-
-module _ (kind : ScriptKind) (files : Files) (name : List ℕ) (rest : Option (List ℕ)) (before after : ℕ) (takes : TakesFile files name rest) where
-  -- why the text wasn't read
-  pub text_stopped : (fault : ScriptFault) →
-      IfSome rest (λ bytes. (fault ≡ script.ReadFault) ⊎ (fault ≡ script.NoMemory) ⊎ IsTextOf SCRIPT_LIMIT bytes (Err fault)) →
-      ((line : ℕ) (why : _) → fault ≢ script.At line why) → (fault ≡ script.ReadFault → HasRisen before after) →
-      IsStopped (reads_script kind files name) before after (stop_of_refusal (refusal_of_script fault))
-  text_stopped script.ReadFault read not_at rose = rose refl
-  text_stopped script.NoMemory read not_at rose = tt
-  text_stopped (script.At line why) read not_at rose = absurd (not_at line why refl)
-  text_stopped (script.TooLong got) read not_at rose = taken_holds files name rest _ takes (on_rest rest _ _ longer read)
-    where
-      longer : (bytes : List ℕ) → (script.TooLong got ≡ script.ReadFault) ⊎ (script.TooLong got ≡ script.NoMemory) ⊎ IsTextOf SCRIPT_LIMIT bytes (Err (script.TooLong got)) →
-          SCRIPT_LIMIT < length bytes
-      longer bytes (inl is) = cc
-      longer bytes (inr (inl is)) = cc
-      longer bytes (inr (inr is)) = is.1
-
-  -- of a text that was read
-  pub text_holds : (text : List ℕ) (P : List ℕ → Type 0) → IfSome rest (λ bytes. IsTextOf SCRIPT_LIMIT bytes (Ok text)) → P text →
-      HoldsOfFile files name (λ bytes. (length bytes ≤ SCRIPT_LIMIT) × P bytes)
-  text_holds text P read p = taken_holds files name rest _ takes (on_rest rest _ _ (λ bytes is. (is.1, subst P is.0 p)) read)
-
-  -- why a text that was read is no script
-  pub parse_stopped : (text : List ℕ) (fault : ScriptFault) → IfSome rest (λ bytes. IsTextOf SCRIPT_LIMIT bytes (Ok text)) →
-      (fault ≡ script.NoMemory) ⊎ ReadsAs kind text (Err fault) → IsStopped (reads_script kind files name) before after (stop_of_refusal (refusal_of_script fault))
-  parse_stopped text fault read (inl is) = subst (λ (f : ScriptFault). IsStopped (reads_script kind files name) before after (stop_of_refusal (refusal_of_script f))) (sym is) tt
-  parse_stopped text (script.At line why) read (inr is) = text_holds text (λ bytes. ReadsAs kind bytes (Err (script.At line why))) read is
-  parse_stopped text script.ReadFault read (inr is) = absurd is
-  parse_stopped text (script.TooLong got) read (inr is) = absurd is
-  parse_stopped text script.NoMemory read (inr is) = absurd is
-
--- ---- told files
 
 module _ (kind : ScriptKind) (contents : List ℕ → Option (List ℕ)) (name : List ℕ) where
   -- the reading of the file's bytes that a reading of the input rests on
