@@ -2,9 +2,8 @@
 use Rattle.std.specs.Prelude.{◌≡◌, ◌⊎◌, ℕ, ◌<◌, ◌≤◌, List, length, Option}
 use Rattle.std.specs.Option.{MatchOption}
 use Rattle.log_levels.specs.declared.update.Update.{Update}
-use Rattle.log_levels.specs.Accepted.{puts_of}
 use Rattle.log_levels.specs.Maps.{map_after, AreRising, IsFirstStall}
-use Rattle.log_levels.specs.Shapes.{Held, StandsFor, capacity_with}
+use Rattle.log_levels.specs.Shapes.{Held, IsMapOf, StandsFor, capacity_with}
 use Rattle.options.specs.declared.map.TheConstants.{MAX_LEVELS}
 use Rattle.kuldebiq.specs.declared.answer.Answer.{Answer}
 use Rattle.kuldebiq.specs.declared.answer.TheConstants.{NO_MEMORY, UNSORTED, LEVELS_OUT_OF_RANGE, FULL}
@@ -34,13 +33,6 @@ RefusesPairs levels pairs answer =
 -- a number of levels that no map has, or else pairs that are refused
 abbrev pub IsLoadRefusal : ℕ → List (ℕ × ℕ) → Answer → Type 0
 IsLoadRefusal levels pairs answer = RefusesLevels levels answer ⊎ (IsLevelCount levels × RefusesPairs levels pairs answer)
-
--- the map stands for a put of each of these pairs, and is these pairs; it has so many levels, and has accepted nothing else
-pub record IsMapOf (levels : ℕ) (pairs : List (ℕ × ℕ)) (map : Held) : Type 0 where
-  pub stands : StandsFor map (puts_of pairs)
-  pub same : map_after (puts_of pairs) ≡ pairs
-  pub accepted : map.accepted ≡ length pairs
-  pub level_count : length map.levels ≡ levels
 
 -- the handle holds the map of these pairs
 abbrev pub HoldsMapOf : ℕ → List (ℕ × ℕ) → Option Held → Type 0

@@ -4,10 +4,10 @@ ghost use Rattle.std.specs.Prelude.{List, length, IfOk, IfErr, IfSome, IsNone};
 ghost use Rattle.std.specs.declared.option.Option.TheVariants.{None, Some};
 ghost use Rattle.log_levels.specs.declared.update.Update.{Update};
 ghost use Rattle.log_levels.specs.Maps.{map_after, AreRising, IsFirstStall};
-ghost use Rattle.log_levels.specs.Shapes.{Held, StandsFor, capacity_with};
+ghost use Rattle.log_levels.specs.Shapes.{Held, IsMapOf, StandsFor, capacity_with};
 ghost use Rattle.kuldebiq.specs.Answers.{gives, refuses, IsDone};
 ghost use Rattle.kuldebiq.specs.Loading.{CanBeLoaded, IsLevelCount};
-ghost use Rattle.kuldebiq.specs.Loading.{IsMapOf, HoldsMapOf, HasCompacted};
+ghost use Rattle.kuldebiq.specs.Loading.{HoldsMapOf, HasCompacted};
 ghost use Rattle.kuldebiq.specs.Loading.{IsLoadRefusal, RefusesPairs, RefusesCompact};
 ghost use Rattle.kuldebiq.specs.Pairs.{tuples_of};
 

@@ -5,7 +5,8 @@ use Rattle.std.specs.Int.{bit_at}
 use Rattle.tombstones.specs.declared.entry.Entry.{Entry}
 use Rattle.map_level.specs.Levels.{IsLastOfEach}
 use Rattle.log_levels.specs.declared.update.Update.{Update}
-use Rattle.log_levels.specs.Accepted.{entries_of}
+use Rattle.log_levels.specs.Accepted.{entries_of, puts_of}
+use Rattle.log_levels.specs.Maps.{map_after}
 
 -- what a map by the logarithmic method holds: how many entries it accepted, those since the last flush, and its levels, the lowest first; one that isn't occupied is None
 pub record Held : Type 0 where
@@ -48,3 +49,10 @@ pub record IsCutOf (held : Held) (entries : List Entry) : Type 0 where
 -- the map stands for these updates: their entries, cut
 abbrev pub StandsFor : Held → List Update → Type 0
 StandsFor held updates = IsCutOf held (entries_of updates)
+
+-- a map of these pairs: it stands for a put of each, after which the ordered map is these pairs; it has so many levels, and has accepted nothing else
+pub record IsMapOf (levels : ℕ) (pairs : List (ℕ × ℕ)) (map : Held) : Type 0 where
+  pub stands : StandsFor map (puts_of pairs)
+  pub same : map_after (puts_of pairs) ≡ pairs
+  pub accepted : map.accepted ≡ length pairs
+  pub level_count : length map.levels ≡ levels

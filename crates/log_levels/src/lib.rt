@@ -9,9 +9,8 @@
 //! Main clauses: of [`LogMap::put`], [`LogMap::del`], [`LogMap::sweep`] and [`LogMap::apply`] that
 //! the map stands for these updates too, or is as it was, and when it is `Full` (`AreApplied`); the
 //! answers of [`LogMap::get`], [`LogMap::next`], [`LogMap::previous`], [`LogMap::count`] and
-//! [`LogMap::range`], by the map after the updates; `puts` and `pairs` of [`LogMap::of_sorted`];
-//! `puts` and `same` of [`LogMap::compacted`]; and the law [`one_map`]. The words of the clauses
-//! are in `specs/`.
+//! [`LogMap::range`], by the map after the updates; `made` of [`LogMap::of_sorted`] and
+//! [`LogMap::compacted`]; and the law [`one_map`]. The words of the clauses are in `specs/`.
 #![tactic(auto)]
 
 mod apply;

@@ -1,15 +1,14 @@
 // Maps of pairs, made at once.
 ghost use Rattle.std.specs.Prelude.{◌≡◌, ◌+◌, ◌*◌, ◌/◌, ◌<◌, ◌≤◌, ◌^◌, ◌⊎◌, ◌++◌};
-ghost use Rattle.std.specs.Prelude.{ℕ, List, length, map, IfOk, OnOk, Err, IfSome, IsNone};
+ghost use Rattle.std.specs.Prelude.{ℕ, List, length, map, IfOk, Err, IfSome, IsNone};
 ghost use Rattle.std.specs.Prelude.{vec_len, vec_capacity};
 ghost use Rattle.options.specs.declared.map.TheConstants.{MAX_LEVELS};
 ghost use Rattle.tombstones.specs.declared.entry.Entry.{Entry};
 ghost use Rattle.log_levels.specs.declared.update.Update.{Update};
 ghost use Rattle.log_levels.specs.declared.fault.MapFault.TheVariants.{Full};
 ghost use Rattle.log_levels.specs.declared.fault.LoadFault.TheVariants.{Unsorted};
-ghost use Rattle.log_levels.specs.Shapes.{IsCutOf, IsLevelFor, StandsFor, capacity_with};
+ghost use Rattle.log_levels.specs.Shapes.{IsCutOf, IsLevelFor, IsMapOf, StandsFor, capacity_with};
 ghost use Rattle.log_levels.specs.Maps.{map_after, AreRising, IsFirstStall};
-ghost use Rattle.log_levels.specs.Accepted.{puts_of};
 ghost use Rattle.log_levels.specs.Kept.{entries_put, shared_of};
 
 use crate::fault::{LoadFault, MapFault};
@@ -37,10 +36,7 @@ impl LogMap {
     pub fn of_sorted(alloc: Global, levels: u32, pairs: &[(u64, u64)]) -> Result<LogMap, LoadFault>
         requires some { 1 ≤ levels }
         requires few { levels ≤ MAX_LEVELS }
-        ensures puts { IfOk result (λ map. StandsFor map (puts_of pairs.now)) }
-        ensures pairs { OnOk result (map_after (puts_of pairs.now) ≡ pairs.now) }
-        ensures accepted { IfOk result (λ map. map.accepted ≡ length pairs.now) }
-        ensures levels { IfOk result (λ map. length map.levels ≡ levels) }
+        ensures made { IfOk result (IsMapOf levels pairs.now) }
         ensures unsorted { (place : ℕ) → IsFirstStall pairs.now place →
             result ≡ Err (Unsorted place) }
         ensures unsorted_only { (place : ℕ) → result ≡ Err (Unsorted place) →
@@ -74,13 +70,8 @@ impl LogMap {
     pub fn compacted(&self, alloc: Global, levels: u32) -> Result<LogMap, MapFault>
         requires some { 1 ≤ levels }
         requires few { levels ≤ MAX_LEVELS }
-        ensures puts { IfOk result (λ map. (updates : List Update) → StandsFor self.now updates →
-            StandsFor map (puts_of (map_after updates))) }
-        ensures same { (updates : List Update) →
-            map_after (puts_of (map_after updates)) ≡ map_after updates }
-        ensures accepted { IfOk result (λ map. (updates : List Update) →
-            StandsFor self.now updates → map.accepted ≡ length (map_after updates)) }
-        ensures levels { IfOk result (λ map. length map.levels ≡ levels) }
+        ensures made { IfOk result (λ map. (updates : List Update) → StandsFor self.now updates →
+            IsMapOf levels (map_after updates) map) }
         ensures full { (updates : List Update) → StandsFor self.now updates →
             capacity_with levels < length (map_after updates) →
             (result ≡ Err (Full (capacity_with levels))) ⊎ (result ≡ Err MapFault.NoMemory) }

@@ -1,5 +1,5 @@
 // A saved index: reading it, and judging it over the keys of a file.
-ghost use Rattle.std.specs.Prelude.{◌≡◌, ℕ, Err};
+ghost use Rattle.std.specs.Prelude.{◌≡◌, ℕ};
 ghost use Rattle.commands.specs.Tasks.{task_of};
 ghost use Rattle.program.specs.Inputs.{judges, reads_saved};
 ghost use Rattle.program.specs.Stops.{Answers};

@@ -10,11 +10,10 @@ returns-then-pairs-accepted-clause-full_only c = λ accepted is.
     let same : 64 * 2 ^ c.args.levels % 2 ^ 64 - 1 ≡ accepted = cc in
     (omega (arith, whole, same), omega (arith, same, c.if-pairs-accepted.true))
 
-pub returns-clause-puts : goal.returns-clause-puts
-returns-clause-puts c = subst (IsCutOf c.in_ok-map.map) (sym (entries-puts c.args.pairs.now)) c.in_ok-map.ensures.cut
-
-pub returns-clause-pairs : goal.returns-clause-pairs
-returns-clause-pairs c = map-puts c.args.pairs.now (rises-pairs c.args.pairs.now (c.in_default.ensures.rising refl))
-
-pub returns-clause-accepted : goal.returns-clause-accepted
-returns-clause-accepted c = c.in_ok-map.ensures.cut.accepted ∙ length-put c.args.pairs.now
+pub returns-clause-made : goal.returns-clause-made
+returns-clause-made c = record {
+  stands = subst (IsCutOf c.in_ok-map.map) (sym (entries-puts c.args.pairs.now)) c.in_ok-map.ensures.cut;
+  same = map-puts c.args.pairs.now (rises-pairs c.args.pairs.now (c.in_default.ensures.rising refl));
+  accepted = c.in_ok-map.ensures.cut.accepted ∙ length-put c.args.pairs.now;
+  level_count = c.in_ok-map.ensures.levels;
+}
