@@ -40,16 +40,19 @@ impl Inputs {
     /// `NoMemory` alone.
     pub fn drawn(alloc: Global, drill: Drill) -> Result<Inputs, NoMemory>
         ensures keys { IfOk result (λ inputs. inputs.keys.items ≡ keys_of drill.number drill.seed) }
-        ensures finds { IfOk result (λ inputs. inputs.finds.items ≡ finds_of drill.number drill.seed) }
+        ensures finds { IfOk result
+            (λ inputs. inputs.finds.items ≡ finds_of drill.number drill.seed) }
         ensures coordinates { IfOk result
             (λ inputs. inputs.coordinates.items ≡ coordinates_of drill.number drill.seed) }
-        ensures updates { IfOk result (λ inputs. inputs.updates.items ≡ updates_of drill.number drill.seed) }
+        ensures updates { IfOk result
+            (λ inputs. inputs.updates.items ≡ updates_of drill.number drill.seed) }
         ensures key_count { IfOk result (λ inputs. vec_len inputs.keys ≡ drill.number) }
         ensures never_falls { IfOk result (λ inputs. IsNonDecreasing inputs.keys.items) }
         ensures small { IfOk result (λ inputs. All (λ key. key < 2 ^ 24) inputs.keys.items) }
         ensures find_count { IfOk result (λ inputs. vec_len inputs.finds ≡ drill.number) }
         ensures points { IfOk result (λ inputs. ArePoints 2 inputs.coordinates.items) }
-        ensures point_count { IfOk result (λ inputs. vec_len inputs.coordinates ≡ 2 * drill.number) }
+        ensures point_count { IfOk result
+            (λ inputs. vec_len inputs.coordinates ≡ 2 * drill.number) }
         ensures near { IfOk result
             (λ inputs. All (λ value. value < 256) inputs.coordinates.items) }
         ensures plain { IfOk result (λ inputs. All IsPlain inputs.updates.items) }

@@ -45,7 +45,8 @@ pub extern "C" fn kuldebiq_map_new(alloc: Global, handle: &mut MapHandle, levels
     ensures done { IsDone result → HoldsEmpty levels handle.new.map }
     ensures number { (map : Held) → handle.new.map ≡ Some map → IsDone result →
         result.number ≡ capacity_of map }
-    ensures outside { (levels ≡ 0) ⊎ (MAX_LEVELS < levels) → result ≡ refuses LEVELS_OUT_OF_RANGE levels }
+    ensures outside { (levels ≡ 0) ⊎ (MAX_LEVELS < levels) →
+        result ≡ refuses LEVELS_OUT_OF_RANGE levels }
     ensures inside { 1 ≤ levels → levels ≤ MAX_LEVELS →
         IsDone result ⊎ (result ≡ refuses NO_MEMORY 0) }
     ensures unchanged { result.status ≢ 0 → handle.new.map ≡ handle.old.map }

@@ -4,6 +4,7 @@ ghost use Rattle.std.specs.Prelude.{ℕ, List, length, map, IfOk, Err, IfSome, I
 ghost use Rattle.std.specs.Prelude.{vec_len, vec_capacity};
 ghost use Rattle.options.specs.declared.map.TheConstants.{MAX_LEVELS};
 ghost use Rattle.tombstones.specs.declared.entry.Entry.{Entry};
+ghost use Rattle.log_levels.specs.Accepted.{puts_of};
 ghost use Rattle.log_levels.specs.declared.update.Update.{Update};
 ghost use Rattle.log_levels.specs.declared.fault.MapFault.TheVariants.{Full};
 ghost use Rattle.log_levels.specs.declared.fault.LoadFault.TheVariants.{Unsorted};
@@ -72,6 +73,9 @@ impl LogMap {
         requires few { levels ≤ MAX_LEVELS }
         ensures made { IfOk result (λ map. (updates : List Update) → StandsFor self.now updates →
             IsMapOf levels (map_after updates) map) }
+        ensures same { (updates : List Update) →
+            map_after (puts_of (map_after updates)) ≡ map_after updates }
+        ensures levels { IfOk result (λ map. length map.levels ≡ levels) }
         ensures full { (updates : List Update) → StandsFor self.now updates →
             capacity_with levels < length (map_after updates) →
             (result ≡ Err (Full (capacity_with levels))) ⊎ (result ≡ Err MapFault.NoMemory) }

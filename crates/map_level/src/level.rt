@@ -21,7 +21,8 @@ use std::alloc::Global;
 use std::marker::Model;
 use tombstones::Entry;
 
-/// How many groups of eight entries are looked at where a grid leads.
+/// How many groups of eight entries are looked at where a grid leads. The rows of grids in
+/// `map_tests` look at as many.
 const GROUPS: usize = 1;
 
 /// The entries of a level, by rising key, with the index of their keys, a filter of them, and a
@@ -121,7 +122,8 @@ impl Level {
         }
     }
 
-    /// Whether the level may have an entry with a key, by its filter: some keys pass that it hasn't.
+    /// Whether the level may have an entry with a key, by its filter: some keys pass that it
+    /// hasn't.
     #[inline(always)]
     pub fn may_have(&self, key: &HashedKey) -> bool
         ensures { OnFalse result (entry_at self.now key.now ≡ None) }

@@ -61,8 +61,8 @@ pub fn send_all<R: Wait, G: Gate>(
         progress result }
     ensures whole { (origin : Origin) (number : ℕ) →
         IsOnItsWay origin assignment.entry.dealing.senders.count assignment.entry.updates.now number
-        progress → result.sender.sent
-        ≡ of_sender number (dealt assignment.entry.dealing.senders.count assignment.entry.updates.now) }
+        progress → result.sender.sent ≡ of_sender number
+        (dealt assignment.entry.dealing.senders.count assignment.entry.updates.now) }
 {
     for _turn in rt.forever() {
         if assignment.updates.len() <= progress.place {

@@ -2,6 +2,7 @@
 //! of a program in another language.
 
 ghost use Rattle.std.specs.Prelude.{◌≡◌, ◌<◌, ◌≤◌, ◌^◌, length};
+ghost use Rattle.options.specs.declared.map.TheConstants.{MAX_LEVELS};
 
 use drill_inputs::Generator;
 use edge::{Gate, OpenGate, Place};

@@ -2,7 +2,7 @@
 --
 -- Main results: updates have at most two entries each (`few_entries`), since a sweep has one for each key that it takes away,
 -- and each of those was put before; and a script has no more lines than its text has bytes (`few_lines`).
-use Rattle.std.proofs.Common.{◌≡◌, ℕ, ◌+◌, ◌*◌, ◌-◌, ◌^◌, ◌<◌, ◌≤◌, ◌==◌, Bool, true, false, not, cond, List, [], ◌∷◌, ◌++◌, length, map, filter, Option, Some, None, Ok, refl, sym, ap, ◌∙◌, subst, arith, nat_cmp, Less, Equal, Greater, length-append}
+use Rattle.std.proofs.Common.{◌≡◌, ℕ, ◌+◌, ◌*◌, ◌-◌, ◌<◌, ◌≤◌, ◌==◌, Bool, true, false, not, cond, List, [], ◌∷◌, ◌++◌, length, map, filter, Option, Some, None, Ok, refl, sym, ap, ◌∙◌, subst, arith, nat_cmp, Less, Equal, Greater, length-append}
 use Rattle.std.proofs.lemmas.List.{length-map}
 use Rattle.std.proofs.lemmas.List.Filters.{length-filter_both}
 use Rattle.std.specs.List.{cons_option, filter_map, fold}
@@ -14,7 +14,8 @@ use Rattle.log_levels.specs.declared.update.Update.{Update}
 use Rattle.log_levels.specs.declared.update.Update.TheVariants.{Put, Del, Sweep}
 use Rattle.log_levels.specs.Maps.{is_between, pairs_between, updated}
 use Rattle.log_levels.specs.Accepted.{del_entry, entries_for, entries_from, entries_of, keys_between}
-use Rattle.log_levels.specs.Shapes.{Held, capacity_of}
+use Rattle.log_levels.specs.Shapes.{Held, capacity_of, capacity_with}
+use Rattle.options.specs.declared.map.TheConstants.{MAX_LEVELS}
 use Rattle.pgm_script.specs.declared.script.ScriptKind.{ScriptKind}
 use Rattle.pgm_script.specs.declared.script.ScriptLine.{ScriptLine}
 use Rattle.pgm_script.specs.Words.{lines_of, put_first}

@@ -6,8 +6,7 @@ ghost use Rattle.command_line.specs.Requests.{replayed_of};
 ghost use Rattle.log_levels.specs.declared.update.Update.{Update};
 ghost use Rattle.log_levels.specs.Accepted.{IsPlain, entries_of};
 ghost use Rattle.log_levels.specs.Maps.{map_after};
-ghost use Rattle.log_levels.specs.Shapes.{Held, StandsFor, capacity_with};
-ghost use Rattle.options.specs.declared.map.TheConstants.{MAX_LEVELS};
+ghost use Rattle.log_levels.specs.Shapes.{Held, StandsFor};
 ghost use Rattle.commands.specs.Tasks.{mix_of, replay_of};
 ghost use Rattle.program.specs.declared.inputs.TheConstants.{SCRIPT_LIMIT};
 ghost use Rattle.program.specs.Inputs.{map_questions_in, reads_history, reads_mixing};
@@ -19,7 +18,7 @@ ghost use Rattle.pgm_script.specs.Scripts.{IsLineOf};
 use crate::refusal::{Refusal, Stopped};
 use command_line::Replaying;
 use commands::{History, Mixing, Question};
-use log_levels::{LogMap, MapFault, Update, one_map};
+use log_levels::{LogMap, MapFault, Update, capacity_with, one_map};
 use options::{MAX_LEVELS, Senders};
 use pgm_script::ScriptLine;
 use std::alloc::{AllocError, Global};
@@ -86,14 +85,6 @@ pub fn mixing_in(
         },
         senders,
     })
-}
-
-/// How many entries a map of so many levels can accept.
-fn capacity_with(levels: u32) -> u64
-    requires { levels ≤ MAX_LEVELS }
-    ensures { result ≡ capacity_with levels }
-{
-    (64 << levels) - 1
 }
 
 /// The updates of a script.
