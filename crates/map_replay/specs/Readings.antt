@@ -33,10 +33,7 @@ pub record IsWholeReadingOf (IsLength : ℕ → Type 0) (updates : List Update) 
   pub beside : IsReadingOf IsLength updates questions reading.sightings.items
   pub last : reading.last ≡ length updates
 
--- what a reader may see beside updates that are published in batches of this size
-abbrev pub IsReading : List Update → (batch : ℕ) → List Question → List Sighting → Type 0
-IsReading updates batch = IsReadingOf (IsPublished batch (length updates)) updates
-
+-- the same beside updates that are published in batches of this size
 abbrev pub IsWholeReading : List Update → (batch : ℕ) → List Question → Reading → Type 0
 IsWholeReading updates batch = IsWholeReadingOf (IsPublished batch (length updates)) updates
 
@@ -44,10 +41,7 @@ IsWholeReading updates batch = IsWholeReadingOf (IsPublished batch (length updat
 abbrev pub IsAmong : (count length : ℕ) → Type 0
 IsAmong count length = length ≤ count
 
--- what a reader may see beside updates that are published as they come
-abbrev pub IsMixedReading : List Update → List Question → List Sighting → Type 0
-IsMixedReading updates = IsReadingOf (IsAmong (length updates)) updates
-
+-- the same beside updates that are published as they come
 abbrev pub IsWholeMixedReading : List Update → List Question → Reading → Type 0
 IsWholeMixedReading updates = IsWholeReadingOf (IsAmong (length updates)) updates
 

@@ -2,13 +2,13 @@
 --
 -- Main results: updates have at most two entries each (`few_entries`), since a sweep has one for each key that it takes away,
 -- and each of those was put before; and a script has no more lines than its text has bytes (`few_lines`).
-use Rattle.std.proofs.Common.{◌≡◌, ℕ, ◌+◌, ◌*◌, ◌-◌, ◌<◌, ◌≤◌, ◌==◌, Bool, true, false, not, cond, List, [], ◌∷◌, ◌++◌, length, map, filter, Option, Some, None, Ok, refl, sym, ap, ◌∙◌, subst, arith, nat_cmp, Less, Equal, Greater, length-append}
+use Rattle.std.proofs.Common.{◌≡◌, ℕ, ◌+◌, ◌*◌, ◌-◌, ◌≤◌, ◌==◌, Bool, true, false, not, cond, List, [], ◌∷◌, length, map, Option, Some, None, Ok, refl, sym, ap, subst, arith, nat_cmp, Less, Equal, Greater, length-append}
 use Rattle.std.proofs.lemmas.List.{length-map}
 use Rattle.std.proofs.lemmas.List.Filters.{length-filter_both}
 use Rattle.std.specs.List.{cons_option, filter_map, fold}
 use Rattle.std.specs.Ordering.{match_ordering}
 use Rattle.std.specs.declared.cmp.Ordering.{Ordering}
-use Rattle.std.specs.Map.{keys_of, remove_entry}
+use Rattle.std.specs.Map.{remove_entry}
 use Rattle.std.specs.BTreeMap.{insert_entry, is_at}
 use Rattle.log_levels.specs.declared.update.Update.{Update}
 use Rattle.log_levels.specs.declared.update.Update.TheVariants.{Put, Del, Sweep}
@@ -19,7 +19,7 @@ use Rattle.options.specs.declared.map.TheConstants.{MAX_LEVELS}
 use Rattle.pgm_script.specs.declared.script.ScriptKind.{ScriptKind}
 use Rattle.pgm_script.specs.declared.script.ScriptLine.{ScriptLine}
 use Rattle.pgm_script.specs.Words.{lines_of, put_first}
-use Rattle.pgm_script.specs.Scripts.{ReadsAs, line_reading, script_line, script_of}
+use Rattle.pgm_script.specs.Scripts.{ReadsAs, line_reading, script_line}
 use Rattle.program.specs.declared.inputs.TheConstants.{SCRIPT_LIMIT}
 use Rattle.program.specs.Inputs.{update_in, updates_in}
 
