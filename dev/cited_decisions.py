@@ -14,7 +14,7 @@ import sys
 TOP = pathlib.Path(__file__).resolve().parent.parent
 PAGE = "docs/DECISIONS.md"
 HEAD = re.compile(r"^- \*\*(\d+(?:, \d+)*)\. ", re.M)
-NUMBERS = r"(\d+(?:(?:,| and|, and)\s+\d+)*)"
+NUMBERS = r"(\d+(?:(?:,|,?\s+and)\s+\d+)*)"
 # What may stand between the words of a citation: blanks, and the marks of a comment or of code.
 GAP = r"[\s/#>`]+"
 DECISION = re.compile(rf"\bdecisions?{GAP}{NUMBERS}", re.I)
