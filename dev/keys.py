@@ -1,171 +1,504 @@
 #!/usr/bin/env python3
 """Makes a key file or a point file of numbers: keys.py [OPTION ..] NUMBERS FILE
 
-NUMBERS is a text with a number a line, a CSV file (its name ends with .csv) or an array of whole
-numbers that numpy saved (.npy); `-` is text from standard input. FILE is what `pgmtool` reads: the
-count, and then the numbers, lowest byte first. Keys are sorted; they are whole numbers from 0 to
-2^64 - 1, or to 2^32 - 1 with --narrow. Empty lines, and lines of a text that begin with #, are left
-out.
+NUMBERS is a text with a number a line; a CSV file (.csv, or .tsv with tabs); an array that numpy
+saved (.npy); a table in Parquet (.parquet), where pandas reads it; or `-`, text from standard
+input. FILE is what `pgmtool` reads: the count, and then the numbers, lowest byte first. Keys are
+sorted; they are whole numbers from 0 to 2^64 - 1, or to 2^32 - 1 with --narrow. Blank lines, and
+lines of a text that begin with #, are left out. A mark of byte order in front is passed over.
 
-    --column C   of a CSV file the column C: a name in its first line, or, where all lines are
-                 numbers, which column, from 1 on
-    --narrow     keys of 4 bytes, for --narrow of `pgmtool`
-    --points     points for `box` and `near`, in the order in which they come: 2 to 4 numbers a line,
-                 as many --column, or an array of so many columns; each below 2^32, 2^21 or 2^16,
-                 as they are 2, 3 or 4
+What isn't such a number is made one by a map that keeps the order:
 
-Tells each line that is wrong by its number on standard error, and then writes nothing and ends with
-1. With 2 where the words are wrong.
+    --scale N         decimals, times N; what isn't whole then is refused, and nothing is rounded
+    --signed          numbers below 0, too: half of the range is added
+    --offset N        N is added; it may be negative
+    --float           doubles, in the order of their values; a text that has more digits is refused
+    --time            ISO dates, with a time or without, as microseconds from the year 1 on; those
+                      with a zone are taken to UTC
+    --nanoseconds     these as nanoseconds, from 1677 to 2262
+    --prefix          the first eight bytes of a text; texts that agree in these have one key
+
+--scale goes with --signed or --offset: the scale comes first. Each has its inverse:
+
+    keys.py [MAP ..] --key VALUE ..     the key of each value, to ask for
+    keys.py [MAP ..] --back KEY ..      the value of each key, to print
+
+The other options:
+
+    --column C        of a table or a CSV file the column C: its name, which is in a CSV file's first
+                      line, or, where no line has names, which column, from 1 on
+    --separator S     what stands between the cells of a CSV file, and not a comma; with --column
+                      also of a file that has another name
+    --skip-empty      leaves out rows with an empty cell, or one that says NaN, NA, NaT, null or None
+    --narrow          keys of 4 bytes, for --narrow of `pgmtool`
+    --points          points for `box` and `near`, in the order in which they come: 2 to 4 numbers a
+                      line, as many --column, or an array of so many columns; each below 2^32, 2^21
+                      or 2^16, as they are 2, 3 or 4
+    --rows ROWS       writes a text with a line for each key, in their order: the key, and the row
+                      that it comes from. For points the code and the row, by rising code. Equal ones
+                      stand in the order of their rows. Rows are lines of a text or a CSV file,
+                      counted from 1, and those of an array or a table from 0
+
+Tells each row that is wrong on standard error, with the option that would help, and then writes
+nothing and ends with 1. With 2 where the words are wrong. A text and a CSV file are read without
+numpy, too; then a million lines take seconds, and half of one with it.
 """
 import argparse
 import array
-import ast
 import csv
-import struct
+import importlib.util
+import io
+import os
+import shutil
+import subprocess
 import sys
 
+import key_maps
+from key_maps import Refused
+
 MOST = (1 << 32) - 1
-# How many wrong lines are told.
+# How many wrong rows are told.
 TOLD = 20
-# By the letter and the width of numpy's types of whole numbers, that of `array`.
-TYPES = {"u1": "B", "u2": "H", "u4": "I", "u8": "Q", "i1": "b", "i2": "h", "i4": "i", "i8": "q"}
 COORDINATES = {2: 1 << 32, 3: 1 << 21, 4: 1 << 16}
+BOM = b"\xef\xbb\xbf"
+SEPARATORS = {".csv": ",", ".tsv": "\t", ".tab": "\t"}
+AGAIN = "KEYS_PY_AGAIN"
 
 
 class Wrong(Exception):
     """What is wrong with the numbers as a whole."""
 
 
-class Rows:
-    """Numbers, line by line, and what is wrong with lines."""
+class Source:
+    """Columns of cells, which are lists of texts, cells of a text or arrays; the row of each; and
+    how a row is told."""
 
-    def __init__(self, points, narrow):
-        self.points, self.below = points, 1 << (32 if narrow else 64)
-        self.width = None if points else 1
-        self.numbers = array.array("I" if points or narrow else "Q")
-        self.wrong = 0
+    def __init__(self, name, columns, rows, is_text):
+        self.name, self.columns, self.rows, self.is_text = name, columns, rows, is_text
 
-    def tell(self, place, text):
-        self.wrong += 1
-        if self.wrong <= TOLD:
-            print(f"{place}: {text}", file=sys.stderr)
-
-    def add(self, place, words):
-        """A line's words, or the numbers of an array's row."""
-        if self.width is None:
-            if len(words) not in COORDINATES:
-                raise Wrong(f"{place}: a point has 2 to 4 numbers, and not {len(words)}")
-            self.width, self.below = len(words), COORDINATES[len(words)]
-        if len(words) != self.width:
-            self.tell(place, f"{len(words)} numbers in place of {self.width}")
-            return
-        values = []
-        for word in words:
-            is_whole = isinstance(word, int) or (word.isascii() and word.isdigit())
-            value = int(word) if is_whole else -1
-            if not 0 <= value < self.below:
-                self.tell(place, f"`{word}` is no whole number from 0 to {self.below - 1}")
-                return
-            values.append(value)
-        self.numbers.extend(values)
+    def place(self, index):
+        row = self.rows[index]
+        return f"{self.name}:{row}" if self.is_text else f"{self.name}: row {row}"
 
 
-def read_text(rows, name):
-    with sys.stdin if name == "-" else open(name, encoding="utf-8", errors="replace") as file:
-        for number, line in enumerate(file, 1):
-            words = line.replace(",", " ").split()
-            if words and not words[0].startswith("#"):
-                rows.add(f"{name}:{number}", words)
+def numpy_or_none():
+    return importlib.import_module("key_columns") if importlib.util.find_spec("numpy") else None
 
 
-def read_csv(rows, name, columns):
-    with open(name, encoding="utf-8", errors="replace", newline="") as file:
-        lines = csv.reader(file)
-        places = [int(column) - 1 for column in columns if column.isdigit()]
-        if len(places) < len(columns):
-            head = [cell.strip() for cell in next(lines, [])]
-            absent = [column for column in columns if not column.isdigit() and column not in head]
-            if absent:
-                raise Wrong(f"{name}:1: no column `{absent[0]}`; there are {', '.join(head)}")
-            places = [int(column) - 1 if column.isdigit() else head.index(column)
-                      for column in columns]
-        for cells in lines:
-            place = f"{name}:{lines.line_num}"
-            if not cells:
-                continue
-            if len(cells) <= max(places):
-                rows.tell(place, f"no column {max(places) + 1}")
-                continue
-            rows.add(place, [cells[place].strip() for place in places])
+def need(module, what):
+    """Goes on with an interpreter that has a module, where this one lacks it; says so where none
+    has it."""
+    if importlib.util.find_spec(module):
+        return
+    tried = [sys.executable]
+    for folder in [*os.environ.get("PATH", "").split(os.pathsep), "/usr/bin"]:
+        python = shutil.which("python3", path=folder)
+        if python and python not in tried and AGAIN not in os.environ:
+            tried.append(python)
+            ran = subprocess.run([python, "-c", f"import {module}"], stderr=subprocess.DEVNULL)
+            if ran.returncode == 0:
+                sys.stdout.flush()
+                os.execve(python, [python, *sys.argv], {**os.environ, AGAIN: "1"})
+    raise Wrong(f"{what} wants {module}, which none of these has: {', '.join(tried)}. Install it, "
+                f"as by `apt-get install python3-{module}`, or call this with a python3 that has it")
 
 
-def read_npy(rows, name):
-    with open(name, "rb") as file:
-        if file.read(6) != b"\x93NUMPY":
-            raise Wrong(f"{name}: no array that numpy saved")
-        major = file.read(2)[0]
-        (size,) = struct.unpack("<H" if major == 1 else "<I", file.read(2 if major == 1 else 4))
-        head = ast.literal_eval(file.read(size).decode("latin-1"))
-        kind, shape = head["descr"], head["shape"]
-        if not isinstance(kind, str) or kind[1:] not in TYPES:
-            raise Wrong(f"{name}: an array of {kind}, and not of whole numbers")
-        if len(shape) != (2 if rows.points else 1) or (rows.points and head["fortran_order"]):
-            raise Wrong(f"{name}: an array of the shape {shape}; points want a row a point, "
-                        "in C's order, and keys a list")
-        values = array.array(TYPES[kind[1:]])
-        values.frombytes(file.read())
-        if (kind[0] == ">") == (sys.byteorder == "little") and values.itemsize > 1:
-            values.byteswap()
-    width = shape[1] if rows.points else 1
-    for row in range(shape[0]):
-        rows.add(f"{name}: row {row}", values[row * width:(row + 1) * width])
+def bytes_of(name):
+    """What a text holds, without its mark of byte order."""
+    if name == "-":
+        data = sys.stdin.buffer.read()
+    else:
+        with open(name, "rb") as file:
+            data = file.read()
+    return data[len(BOM):] if data.startswith(BOM) else data
 
 
-def write(name, rows):
-    numbers = rows.numbers
-    if not rows.points:
-        numbers = array.array(numbers.typecode, sorted(numbers))
-    count = len(numbers) // (rows.width or 1)
+def text_of(data):
+    return data.decode("utf-8", "surrogateescape")
+
+
+def read_text(name, is_points):
+    """A text: a cell a line, or for points a cell a word."""
+    data, fast = bytes_of(name), numpy_or_none()
+    if fast and not is_points:
+        text = fast.Text(data)
+        cells = fast.Cells(text, *fast.lines(text)).stripped()
+        kept = fast.numpy.flatnonzero((cells.starts < cells.ends) & (cells.heads() != ord("#")))
+        return Source(name, [cells.take(kept)], kept + 1, True)
+    found, rows, width = [], [], None if is_points else 1
+    for number, line in enumerate(text_of(data).split("\n"), 1):
+        words = line.replace(",", " ").split() if is_points else [line.strip()]
+        if not words or not words[0] or words[0].startswith("#"):
+            continue
+        width = width or len(words)
+        if len(words) != width:
+            raise Wrong(f"{name}:{number}: {len(words)} numbers in place of {width}")
+        found.append(words)
+        rows.append(number)
+    return Source(name, [list(it) for it in zip(*found)] or [[]] * (width or 2), rows, True)
+
+
+def places_of(columns, head, name):
+    """Which columns are meant, counted from 0, and whether the first line has names."""
+    head = [cell.strip() for cell in head]
+    for column in columns:
+        if not column.isdigit() and column not in head:
+            raise Wrong(f"{name}:1: no column `{column}`; there are {', '.join(head)}")
+    places = [int(it) - 1 if it.isdigit() else head.index(it) for it in columns]
+    return places, not all(it.isdigit() for it in columns)
+
+
+def read_csv(name, columns, separator):
+    data, fast = bytes_of(name), numpy_or_none()
+    first = next(csv.reader(io.StringIO(text_of(data[:1 << 20])), delimiter=separator), [])
+    places, has_names = places_of(columns, first, name)
+    if fast and b'"' not in data:
+        cells, rows, short = fast.fields(fast.Text(data), separator, places)
+        if has_names:
+            cells, rows, short = [it.take(slice(1, None)) for it in cells], rows[1:], short[short > 0] - 1
+        if len(short):
+            raise Wrong(f"{name}:{rows[short[0]]}: no column {max(places) + 1}")
+        return Source(name, cells, rows, True)
+    found, rows, number = [], [], 1
+    lines = csv.reader(io.StringIO(text_of(data), newline=""), delimiter=separator)
+    for cells in lines:
+        begun, number = number, lines.line_num + 1
+        if not cells or (has_names and begun == 1):
+            continue
+        if len(cells) <= max(places):
+            raise Wrong(f"{name}:{begun}: no column {max(places) + 1}")
+        found.append([cells[place].strip() for place in places])
+        rows.append(begun)
+    made = [list(it) for it in zip(*found)] or [[] for _ in places]
+    return Source(name, [fast.cells_of(it) for it in made] if fast else made, rows, True)
+
+
+def read_npy(name, is_points):
+    need("numpy", f"{name}: an array")
+    numpy = numpy_or_none().numpy
+    try:
+        values = numpy.load(name, allow_pickle=False)
+    except ValueError as wrong:
+        raise Wrong(f"{name}: no array that numpy saved: {wrong}") from None
+    if values.ndim != (2 if is_points else 1):
+        raise Wrong(f"{name}: an array of the shape {values.shape}; points want a row a point, and "
+                    "keys a list")
+    columns = list(values.T) if is_points else [values]
+    return Source(name, columns, range(len(values)), False)
+
+
+def read_parquet(name, columns):
+    need("pandas", f"{name}: a table")
+    import pandas
+    try:
+        # A whole number beside a hole stays one.
+        nullable = ({"use_nullable_dtypes": True} if pandas.__version__ < "2"
+                    else {"dtype_backend": "numpy_nullable"})
+        table = pandas.read_parquet(name, **nullable)
+    except ImportError:
+        raise Wrong(f"{name}: pandas reads Parquet where pyarrow or fastparquet is installed, too: "
+                    "else have it written as CSV") from None
+    for column in columns:
+        if column not in table:
+            raise Wrong(f"{name}: no column `{column}`; there are {', '.join(map(str, table))}")
+    return Source(name, [array_of(table[it]) for it in columns], range(len(table)), False)
+
+
+def array_of(series):
+    """An array of a table's column; one with holes is of objects, and None where one is."""
+    holes = series.isna()
+    if hasattr(series.dtype, "tz"):
+        series = series.dt.tz_convert("UTC").dt.tz_localize(None)
+    if holes.any() and series.dtype.kind != "M":
+        return series.astype(object).where(~holes, None).to_numpy()
+    return series.to_numpy(dtype=getattr(series.dtype, "numpy_dtype", None))
+
+
+def texts_of(values):
+    """Cells of an array whose values are judged one by one; an empty one for what isn't there."""
+    made = []
+    for value in values.tolist() if values.dtype.kind in "US" else values:
+        if value is None or value != value:
+            made.append("")
+        elif isinstance(value, bytes):
+            made.append(text_of(value))
+        elif hasattr(value, "isoformat"):
+            made.append(value.isoformat())
+        else:
+            made.append(str(value))
+    return made
+
+
+def mapped_array(of, values):
+    """An array as cells, or its keys and which of them are keys, the others being cells."""
+    fast = numpy_or_none()
+    numpy, kind = fast.numpy, values.dtype.kind
+    if kind in "ui" and isinstance(of, key_maps.Decimals):
+        keys, good = fast.of_integers(of, values)
+    elif kind == "f" and values.dtype.itemsize <= 8 and isinstance(of, key_maps.Floats):
+        keys, good = fast.of_doubles(values.astype(numpy.float64)), ~numpy.isnan(values)
+    elif values.dtype == numpy.float64 and isinstance(of, key_maps.Decimals) and of.asked:
+        keys, good = fast.of_scaled_doubles(of, values)
+    elif kind == "M":
+        values = numpy.datetime_as_string(values)
+        values = numpy.where(values == "NaT", "", values)
+        return fast.of_cells(of, fast.cells_of(values.tolist())) + (texts_of(values),)
+    elif kind in "iufUSO":
+        cells = texts_of(values)
+        return fast.of_cells(of, fast.cells_of(cells)) + (cells,)
+    else:
+        raise Wrong(f"an array of {values.dtype}, and not of numbers, dates or texts")
+    rest = numpy.flatnonzero(~good)
+    return keys, good, dict(zip(rest.tolist(), texts_of(values[rest])))
+
+
+def mapped(of, column):
+    """The keys of a column, which cells are empty, and what is wrong with others."""
+    if isinstance(column, list):
+        keys, rest, cell = array.array("Q", bytes(8 * len(column))), range(len(column)), column.__getitem__
+        zoned = bytearray(len(column))
+    else:
+        fast = numpy_or_none()
+        if isinstance(column, fast.Cells):
+            keys, good = fast.of_cells(of, column)
+            cell = column.cell
+        else:
+            keys, good, cells = mapped_array(of, column)
+            cell = cells.__getitem__
+        rest = fast.numpy.flatnonzero(~good).tolist()
+        zoned = getattr(of, "zoned", None)
+    empty, wrong = [], []
+    for index in rest:
+        text = cell(index)
+        if key_maps.is_empty(of, text):
+            empty.append((index, key_maps.told_empty(text)))
+            continue
+        try:
+            keys[index] = of.key(text)
+        except Refused as why:
+            wrong.append((index, str(why)))
+        if isinstance(of, key_maps.Times):
+            zoned[index] = of.has_zone
+    return keys, empty, wrong, zoned
+
+
+def zones_apart(of, zoned, left_out):
+    """Where dates with a zone stand beside some without: those that aren't as the first one."""
+    if not isinstance(of, key_maps.Times) or bytes(zoned).count(1) in (0, len(zoned)):
+        return []
+    kept = [index for index in range(len(zoned)) if index not in left_out]
+    says = ("a date without a zone, where the first one has one",
+            "a date with a zone, where the first one has none")
+    return [(index, says[bool(zoned[index])]) for index in kept if zoned[index] != zoned[kept[0]]]
+
+
+def made_of(source, of, skips):
+    """The keys of each column, and the rows that they come from; tells what is wrong."""
+    empty, wrong, columns = {}, {}, []
+    for column in source.columns:
+        keys, holes, refused, zoned = mapped(of, column)
+        empty.update(holes)
+        wrong.update(refused)
+        columns.append(keys)
+        if not refused:
+            wrong.update(zones_apart(of, zoned, {it for it, _ in holes}))
+    if not skips:
+        wrong = {**empty, **wrong}
+    else:
+        wrong = {index: why for index, why in wrong.items() if index not in empty}
+    for index in sorted(wrong)[:TOLD]:
+        print(f"{source.place(index)}: {wrong[index]}", file=sys.stderr)
+    if wrong:
+        more = f", of which {TOLD} are told" if len(wrong) > TOLD else ""
+        raise Wrong(f"{len(wrong)} wrong in all{more}; nothing was written")
+    rows = source.rows
+    if empty:
+        columns = [without(it, empty) for it in columns]
+        rows = without(rows, empty)
+    return columns, rows, len(empty)
+
+
+def without(values, left_out):
+    """An array or a list without these places."""
+    fast = numpy_or_none()
+    if fast:
+        return fast.numpy.delete(fast.numpy.asarray(values), list(left_out))
+    kept = [value for index, value in enumerate(values) if index not in left_out]
+    return array.array("Q", kept) if isinstance(values, array.array) else kept
+
+
+def codes(columns):
+    """The Morton code of each point: bit b of coordinate c is bit b * d + c of it."""
+    fast, width = numpy_or_none(), len(columns)
+    bits = COORDINATES[width].bit_length() - 1
+    if not fast:
+        return [sum((column[index] >> bit & 1) << bit * width + place
+                    for place, column in enumerate(columns) for bit in range(bits))
+                for index in range(len(columns[0]))]
+    numpy = fast.numpy
+    made = numpy.zeros(len(columns[0]), numpy.uint64)
+    for place, column in enumerate(columns):
+        column = numpy.asarray(column, numpy.uint64)
+        for bit in range(bits):
+            made |= (column >> numpy.uint64(bit) & numpy.uint64(1)) << numpy.uint64(bit * width + place)
+    return made
+
+
+def order_of(keys):
+    """The places of keys by rising key, equal ones as they stand."""
+    fast = numpy_or_none()
+    if fast:
+        return fast.numpy.argsort(fast.numpy.asarray(keys), kind="stable")
+    return sorted(range(len(keys)), key=keys.__getitem__)
+
+
+def write_rows(name, keys, rows, order):
+    fast = numpy_or_none()
+    if fast:
+        keys, rows = (fast.numpy.asarray(it)[order].tolist() for it in (keys, rows))
+    else:
+        keys, rows = [keys[it] for it in order], [rows[it] for it in order]
+    with open(name, "w", encoding="ascii") as file:
+        file.writelines(f"{key} {row}\n" for key, row in zip(keys, rows))
+
+
+def write_numbers(name, columns, width):
+    """The count, and then the numbers of each row, in so many bytes."""
+    fast, count = numpy_or_none(), len(columns[0])
     if count > MOST:
         raise Wrong(f"{count} of them, where fewer than 2^32 are taken")
-    if sys.byteorder == "big":
-        numbers.byteswap()
     with open(name, "wb") as file:
-        file.write(struct.pack("<Q", count))
+        file.write(count.to_bytes(8, "little"))
+        if fast:
+            fast.numpy.stack(columns, axis=1).astype(f"<u{width}").tofile(file)
+            return
+        numbers = array.array({4: "I", 8: "Q"}[width], bytes(width * count * len(columns)))
+        for place, column in enumerate(columns):
+            numbers[place::len(columns)] = array.array(numbers.typecode, column)
+        if sys.byteorder == "big":
+            numbers.byteswap()
         numbers.tofile(file)
-    what = "point" if rows.points else "key"
-    print(f"{count} {what}{'' if count == 1 else 's'} written to {name}")
+
+
+def write(given, columns, rows):
+    width = 4 if given.points or given.narrow else 8
+    if given.points:
+        if given.rows:
+            made = codes(columns)
+            write_rows(given.rows, made, rows, order_of(made))
+        write_numbers(given.file, columns, width)
+        return
+    order = order_of(columns[0]) if given.rows or not numpy_or_none() else None
+    if given.rows:
+        write_rows(given.rows, columns[0], rows, order)
+    keys = sorted(columns[0]) if order is not None and not numpy_or_none() else (
+        columns[0][order] if order is not None else numpy_or_none().numpy.sort(columns[0]))
+    write_numbers(given.file, [keys], width)
+
+
+def map_of(given, below):
+    if given.float:
+        return key_maps.Floats()
+    if given.time or given.nanoseconds:
+        return key_maps.Times(given.nanoseconds)
+    if given.prefix:
+        return key_maps.Prefixes()
+    return key_maps.Decimals(below, given.scale, below // 2 if given.signed else given.offset or 0)
+
+
+def translate(given):
+    """The keys of values, or the values of keys: those given, or a line of standard input each."""
+    of = map_of(given, 1 << (32 if given.narrow else 64))
+    words = given.key if given.key is not None else given.back
+    for word in words or (line.strip() for line in sys.stdin):
+        if given.key is not None:
+            print(of.key(word.strip()))
+        elif not (word.isascii() and word.isdigit() and int(word) < of.below):
+            raise Refused(f"{key_maps.shown(word)} is no key")
+        else:
+            print(of.back(int(word)))
+
+
+def words():
+    asked = argparse.ArgumentParser(description=__doc__, usage=argparse.SUPPRESS, allow_abbrev=False,
+                                    formatter_class=argparse.RawDescriptionHelpFormatter)
+    for name in ("numbers", "file"):
+        asked.add_argument(name, nargs="?")
+    asked.add_argument("--column", action="append", default=[])
+    for option in ("--separator", "--rows"):
+        asked.add_argument(option)
+    for option in ("--scale", "--offset"):
+        asked.add_argument(option, type=int)
+    for flag in ("narrow", "points", "skip-empty", "signed", "float", "time", "nanoseconds", "prefix"):
+        asked.add_argument(f"--{flag}", action="store_true")
+    # Behind --key and --back all words are values, also those with a hyphen in front.
+    said = sys.argv[1:]
+    cut = next((at for at, word in enumerate(said) if word in ("--key", "--back")), len(said))
+    given = asked.parse_intermixed_args(said[:cut])
+    given.key, given.back = (said[cut + 1:] if said[cut:cut + 1] == [it] else None for it in ("--key", "--back"))
+    refuse_words(asked, given)
+    return given
+
+
+def refuse_words(asked, given):
+    kinds = [given.float, given.time or given.nanoseconds, given.prefix,
+             given.signed or given.scale is not None or given.offset is not None]
+    if sum(kinds) > 1 or (given.signed and given.offset is not None):
+        asked.error("one map is taken: --float, --time, --prefix, or --scale with --signed or --offset")
+    if any(kinds[:3]) and (given.narrow or given.points):
+        asked.error("--float, --time and --prefix make keys of 8 bytes: no --narrow and no --points")
+    if given.scale is not None and not 0 < given.scale < 1 << 64:
+        asked.error("--scale wants a whole number from 1 to 2^64 - 1")
+    if given.points and given.narrow:
+        asked.error("--narrow is of keys")
+    if given.key is not None or given.back is not None:
+        if given.numbers or given.points:
+            asked.error("--key and --back take values or keys alone, which come last")
+        return
+    if not given.file:
+        asked.error("NUMBERS and FILE are wanted")
+    ending = os.path.splitext(given.numbers)[1].lower()
+    if ending == ".npz":
+        asked.error(f"{given.numbers} is an archive of arrays (.npz): save one of them by numpy.save")
+    given.kind = "npy" if ending == ".npy" else "parquet" if ending == ".parquet" else (
+        "csv" if ending in SEPARATORS or given.column else "text")
+    given.separator = given.separator or SEPARATORS.get(ending, ",")
+    if len(given.separator.encode()) != 1:
+        asked.error("--separator wants one character")
+    if given.column and given.kind == "npy" or "0" in given.column:
+        asked.error("--column is for a CSV file or a table, and counts from 1")
+    if given.kind in ("csv", "parquet") and len(given.column) not in (COORDINATES if given.points else (1,)):
+        asked.error("a CSV file and a table want --column for each number")
+
+
+def read(given):
+    if given.kind == "csv":
+        return read_csv(given.numbers, given.column, given.separator)
+    if given.kind == "npy":
+        return read_npy(given.numbers, given.points)
+    if given.kind == "parquet":
+        return read_parquet(given.numbers, given.column)
+    return read_text(given.numbers, given.points)
+
+
+def make(given):
+    source = read(given)
+    width = len(source.columns)
+    if given.points and width not in COORDINATES:
+        raise Wrong(f"{given.numbers}: a point has 2 to 4 numbers, and not {width}")
+    below = COORDINATES[width] if given.points else 1 << (32 if given.narrow else 64)
+    columns, rows, skipped = made_of(source, map_of(given, below), given.skip_empty)
+    write(given, columns, rows)
+    count, what = len(columns[0]), "point" if given.points else "key"
+    also = f", {skipped} empty left out" if skipped else ""
+    print(f"{count} {what}{'' if count == 1 else 's'} written to {given.file}{also}")
 
 
 def main():
-    asked = argparse.ArgumentParser(description=__doc__, usage=argparse.SUPPRESS,
-                                    formatter_class=argparse.RawDescriptionHelpFormatter)
-    for name in ("numbers", "file"):
-        asked.add_argument(name)
-    asked.add_argument("--column", action="append", default=[])
-    for flag in ("--narrow", "--points"):
-        asked.add_argument(flag, action="store_true")
-    given = asked.parse_args()
-    is_csv = given.numbers.lower().endswith(".csv")
-    if given.column and not is_csv or "0" in given.column:
-        asked.error("--column is for a CSV file, and counts from 1")
-    if given.points and given.narrow:
-        asked.error("--narrow is of keys")
-    if is_csv and len(given.column) not in ((2, 3, 4) if given.points else (1,)):
-        asked.error("a CSV file wants --column for each number")
-    rows = Rows(given.points, given.narrow)
+    given = words()
     try:
-        if is_csv:
-            read_csv(rows, given.numbers, given.column)
-        elif given.numbers.lower().endswith(".npy"):
-            read_npy(rows, given.numbers)
-        else:
-            read_text(rows, given.numbers)
-        if rows.wrong:
-            more = f", of which {TOLD} are told" if rows.wrong > TOLD else ""
-            raise Wrong(f"{rows.wrong} wrong in all{more}; nothing was written")
-        write(given.file, rows)
-    except (OSError, Wrong) as wrong:
+        translate(given) if given.key is not None or given.back is not None else make(given)
+    except (OSError, Wrong, Refused) as wrong:
         print(f"keys.py: {wrong}", file=sys.stderr)
         return 1
     return 0

@@ -1,0 +1,98 @@
+# What `pgmtool` and `examples/install.sh` say of their steps: sourced by both. How a long one goes is
+# one line on standard error, where that is a terminal; elsewhere it isn't written.
+
+# What wipes that line, for those who write others between.
+wipe=
+[ ! -t 2 ] || wipe=$'\r\e[K'
+shower=
+
+# The kit that all was proved with.
+kit=rattle-kit-13f
+
+# Says for the script of this name what `rt` is and how it is had, where there is none, and fails
+# then; says where it is of another kit.
+has_rt() {
+  if ! command -v rt >/dev/null; then
+    {
+      echo "$1: there is no \`rt\` on the PATH. It is the tool of the Rattle kit, which proves and builds"
+      echo "$1: the crates; nothing here is built without it. Unpack the kit and put its folder bin on"
+      echo "$1: the PATH; \`rt version\` then tells its name. This was proved with $kit."
+    } >&2
+    return 1
+  fi
+  case $(rt version 2>/dev/null || true) in
+    "$kit "*) ;;
+    *) echo "$1: this was proved with $kit, and \`rt version\` tells another kit" >&2 ;;
+  esac
+}
+
+# Shows what the words behind the first two write, from the third second on and so many seconds
+# apart, until they fail or `hide_progress` is called: the step and how far it is; and for how long
+# it goes.
+show_progress() {
+  [ -n "$wipe" ] || return 0
+  local who=$1 apart=$2 begun=$SECONDS width
+  shift 2
+  width=$(tput cols 2>/dev/null || echo 80)
+  (
+    trap - EXIT
+    set +e
+    sleep 2
+    while kill -0 $$ 2>/dev/null; do
+      text=$("$@") || break
+      text="$who: $text"
+      time=$(clock $((SECONDS - begun)))
+      printf '%s%s, %s' "$wipe" "${text:0:$((width - 10))}" "$time" >&2
+      sleep "$apart"
+    done
+    printf '%s' "$wipe" >&2
+  ) >/dev/null &
+  shower=$!
+}
+
+hide_progress() {
+  [ -n "$shower" ] || return 0
+  kill "$shower" 2>/dev/null || true
+  wait "$shower" 2>/dev/null || true
+  shower=
+  printf '%s' "$wipe" >&2
+}
+
+# Seconds, as minutes and seconds.
+clock() { printf '%d:%02d' $(($1 / 60)) $(($1 % 60)); }
+
+# The crates that a crate stands on and that crate, in the order in which `rt` takes them.
+crates_below() {
+  awk -v top="$2" '
+    { sub(/#.*/, "") }
+    index($0, ":") { split($0, halves, ":"); split(halves[1], words, " "); uses[words[1]] = halves[2] }
+    function visit(name,   deps, count, i) {
+      if (name in seen || !(name in uses)) return
+      seen[name] = 1
+      count = split(uses[name], deps, " ")
+      for (i = 1; i <= count; i++) visit(deps[i])
+      print name
+    }
+    END { visit(top) }' "$1/crates.txt"
+}
+
+# Of what `rt` writes while it proves crates, a line for each that is proved, behind the first word.
+proved_crates() {
+  sed -un "/^crate /{s/^crate \([a-z_0-9]*\):.*/$1: \1 is proved/;h};/^logic=proved /{x;s/^..*/$wipe&/p}"
+}
+
+# How far `rt` is, of what it wrote to a file and of the crates in their order, in another: the
+# crate of which it wrote last, and how many functions of it are proved.
+proof_so_far() {
+  awk '
+    FNR == NR { place[$1] = ++all; next }
+    /^(fn|struct|enum|impl|trait|const|type) [a-z_0-9]+::.*: proved/ {
+      split($2, path, "::")
+      if (path[1] in place) { if (path[1] != at) functions = 0; at = path[1]; functions += $1 == "fn" }
+    }
+    /^rt: chose --jobs/ && ($NF in place) { at = $NF; functions = 0 }
+    END {
+      if (at == "") printf "reading the sources of %d crates", all
+      else printf "proving %s, crate %d of %d, functions %d", at, place[at], all, functions
+    }' "$2" "$1"
+}
