@@ -5,16 +5,29 @@ KEYS is a file of 64-bit keys, EXPLAINED what `pgmtool explain` wrote for it (do
 stand the places of the keys, with the segments' lines, each with its band of ε places to either side,
 and of each run that is cut the three places that no line fits. Below stands how far each place is
 from its segment's line, with the same band: there a witness's last place, the next run's first, lies
-outside the band of the run that it ends. A list of more than a thousand points is thinned above, and
-nowhere below.
+outside the band of the run that it ends. The heights are worked out exactly, in whole numbers, and
+rounded once; axes and paths are by matplotlib (Debian's python3-matplotlib). A list of more than a
+thousand points is thinned above, and nowhere below.
 """
 import struct
 import sys
 
-WIDTH, ABOVE, BELOW = 760, 300, 170
-LEFT, RIGHT, TOP, GAP, BOTTOM = 64, 16, 34, 48, 40
+try:
+    import matplotlib
+except ImportError:
+    sys.exit("picture.py: matplotlib is wanted: apt-get install python3-matplotlib, and /usr/bin/python3")
+matplotlib.use("svg")
+import matplotlib.pyplot as plot  # noqa: E402 (the way of drawing is chosen before)
+
 COLOURS = ("#1b6ca8", "#2e8b57")
 BAND, WITNESS, GREY = "#f2d16b", "#c0392b", "#666666"
+SMALL = 60  # so many points are drawn as dots
+# Texts stay texts, the same index gives the same file, and no point of a path is left out.
+plot.rcParams.update({"svg.fonttype": "none", "svg.hashsalt": "kuldebiq", "font.size": 9,
+                      "path.simplify": False, "axes.edgecolor": "#bbbbbb", "axes.labelcolor": GREY,
+                      "xtick.color": GREY, "ytick.color": GREY, "grid.color": "#e6e6e6",
+                      "axes.axisbelow": True, "axes.titlecolor": GREY, "axes.titlesize": 9,
+                      "axes.formatter.useoffset": False, "axes.formatter.limits": (-20, 20)})
 
 
 def read_keys(name):
@@ -55,151 +68,85 @@ def read_levels(name):
 
 
 def height(line, x):
+    """The height of a line, rounded once: Python divides whole numbers so."""
     x0, y0, rise, run = line
-    return y0 + rise * (x - x0) / run
+    return (y0 * run + rise * (x - x0)) / run
 
 
-def plain(value):
-    return f"{value:.1f}".rstrip("0").rstrip(".")
+def above_line(point, line):
+    """How far a point is above a line, rounded once."""
+    (x, y), (x0, y0, rise, run) = point, line
+    return ((y - y0) * run - rise * (x - x0)) / run
 
 
-class Panel:
-    """A rectangle of the picture, with the range of x and of y that it shows."""
-
-    def __init__(self, top, tall, xs, ys):
-        self.top, self.tall, self.xs, self.ys = top, tall, xs, ys
-
-    def x(self, x):
-        low, high = self.xs
-        return LEFT + (x - low) / ((high - low) or 1) * (WIDTH - LEFT - RIGHT)
-
-    def y(self, y):
-        low, high = self.ys
-        return self.top + self.tall - (y - low) / ((high - low) or 1) * self.tall
-
-    def at(self, x, y):
-        return f"{plain(self.x(x))},{plain(self.y(y))}"
+def across(points):
+    """The x and the y of points, as lists."""
+    return [x for x, _ in points], [y for _, y in points]
 
 
-def text(x, y, words, anchor="start", colour=GREY):
-    return f'<text x="{plain(x)}" y="{plain(y)}" text-anchor="{anchor}" fill="{colour}">{words}</text>'
-
-
-def path(points, colour, width, more=""):
-    return f'<polyline points="{" ".join(points)}" fill="none" stroke="{colour}" stroke-width="{width}"{more}/>'
-
-
-def area(points, colour):
-    return f'<polygon points="{" ".join(points)}" fill="{colour}" fill-opacity="0.55"/>'
-
-
-def dot(panel, x, y, colour, radius, filled=True):
-    paint = f'fill="{colour}"' if filled else f'fill="none" stroke="{colour}" stroke-width="1.6"'
-    return f'<circle cx="{plain(panel.x(x))}" cy="{plain(panel.y(y))}" r="{radius}" {paint}/>'
-
-
-def steps(low, high, most):
-    """Round numbers from low to high, at most so many."""
-    step, factors = 1, (2, 2.5, 2)
-    at = 0
-    while (high - low) / step > most:
-        step *= factors[at % 3]
-        at += 1
-    step = max(int(step), 1)
-    return range(-(-int(low) // step) * step, int(high) + 1, step)
-
-
-def axes(panel, label):
-    low, high = panel.xs
-    made = [f'<rect x="{LEFT}" y="{panel.top}" width="{WIDTH - LEFT - RIGHT}" height="{panel.tall}" '
-            'fill="none" stroke="#bbbbbb"/>']
-    for value in steps(*panel.ys, 6):
-        made.append(path([panel.at(low, value), panel.at(high, value)], "#e6e6e6", 1))
-        made.append(text(LEFT - 6, panel.y(value) + 4, value, "end"))
-    for value in steps(low, high, 10):
-        made.append(text(panel.x(value), panel.top + panel.tall + 15, value, "middle"))
-    made.append(text(LEFT, panel.top - 8, label))
-    return made
-
-
-def band(panel, xs, ys, eps):
-    """The band of ε places about the polyline of a line at these x."""
-    return area([panel.at(x, y + eps) for x, y in zip(xs, ys)] + [panel.at(x, y - eps) for x, y in zip(xs[::-1], ys[::-1])],
-                BAND)
-
-
-def segments(panel, points, runs, eps):
-    made = []
+def segments(axes, points, runs, eps):
+    """Of each run its line, with the band of ε places about it."""
     for number, run in enumerate(runs):
         xs = [points[run["start"]][0], points[run["end"] - 1][0]]
         ys = [height(run["line"], x) for x in xs]
-        colour = COLOURS[number % 2]
-        made.append(band(panel, xs, ys, eps))
-        made.append(path([panel.at(x, y) for x, y in zip(xs, ys)], colour, 2))
-    return made
+        axes.fill_between(xs, [y - eps for y in ys], [y + eps for y in ys], color=BAND, alpha=0.55,
+                          linewidth=0)
+        axes.plot(xs, ys, color=COLOURS[number % 2], linewidth=1.6)
 
 
-def witnesses(panel, points, runs, eps):
+def circles(axes, points):
+    axes.plot(*across(points), "o", color=WITNESS, fillstyle="none", markersize=7, markeredgewidth=1.2)
+
+
+def witnesses(axes, points, runs, eps):
     """Of each cut the chord between its outer places, ε below or above them, and the three points."""
-    made = []
     for run in runs:
         if run["witness"]:
             shift = eps if run["side"] == "under" else -eps
             p, q, r = (points[place] for place in run["witness"])
-            made.append(path([panel.at(p[0], p[1] + shift), panel.at(r[0], r[1] + shift)], WITNESS, 1.2,
-                             ' stroke-dasharray="5 4"'))
-            made += [dot(panel, *point, WITNESS, 5, False) for point in (p, q, r)]
-    return made
+            axes.plot([p[0], r[0]], [p[1] + shift, r[1] + shift], "--", color=WITNESS, linewidth=1)
+            circles(axes, (p, q, r))
 
 
-def offsets(panel, points, runs, eps):
+def offsets(axes, points, runs, eps):
     """How far each place is from its segment's line, and of each cut the three places."""
-    made = [band(panel, list(panel.xs), [0, 0], eps), path([panel.at(panel.xs[0], 0), panel.at(panel.xs[1], 0)], GREY, 1)]
+    axes.axhspan(-eps, eps, color=BAND, alpha=0.55, linewidth=0)
+    axes.axhline(0, color=GREY, linewidth=0.8)
     for number, run in enumerate(runs):
-        shown = [(x, y - height(run["line"], x)) for x, y in points[run["start"]:run["end"]]]
+        shown = [(point[0], above_line(point, run["line"])) for point in points[run["start"]:run["end"]]]
         colour = COLOURS[number % 2]
-        if len(shown) > 60:
-            made.append(path([panel.at(*point) for point in shown], colour, 0.7))
+        if len(shown) > SMALL:
+            axes.plot(*across(shown), color=colour, linewidth=0.6)
         else:
-            made += [dot(panel, *point, colour, 3) for point in shown]
+            axes.plot(*across(shown), "o", color=colour, markersize=4)
     for run in runs:
-        for x, y in (points[place] for place in run["witness"] or ()):
-            made.append(dot(panel, x, y - height(run["line"], x), WITNESS, 4.5, False))
-    return made
+        circles(axes, [(points[place][0], above_line(points[place], run["line"]))
+                       for place in run["witness"] or ()])
 
 
-def off(points, run):
-    """How far the places that a run's picture shows are from its line, at most."""
-    places = list(range(run["start"], run["end"])) + list(run["witness"] or ())
-    return max(abs(points[place][1] - height(run["line"], points[place][0])) for place in places)
-
-
-def heights(points, eps, runs):
-    """The least and the greatest y that the points and the bands reach."""
-    ends = [height(run["line"], points[place][0]) for run in runs for place in (run["start"], run["end"] - 1)]
-    return min([points[0][1]] + [y - eps for y in ends]), max([points[-1][1]] + [y + eps for y in ends])
-
-
-def picture(points, eps, runs, title):
-    xs = (points[0][0], points[-1][0])
-    far = max([off(points, run) for run in runs] + [eps, 0.5]) * 1.15
-    above = Panel(TOP, ABOVE, xs, heights(points, eps, runs))
-    below = Panel(TOP + ABOVE + GAP, BELOW, xs, (-far, far))
-    thin = points[::max(len(points) // 500, 1)]
-    small = len(points) <= 60
-    made = axes(above, title) + axes(below, "how far each place is from its segment's line, in places")
-    if not small:
-        made.append(path([above.at(*point) for point in thin], "#999999", 5, ' stroke-opacity="0.6"'))
-    made += segments(above, points, runs, eps)
+def picture(points, eps, runs, title, x_label, y_label):
+    figure, (above, below) = plot.subplots(2, 1, sharex=True, figsize=(8, 6), layout="constrained",
+                                           height_ratios=(300, 170))
+    small = len(points) <= SMALL
     if small:
-        made += [dot(above, *point, "#222222", 3) for point in points]
-    made += witnesses(above, points, runs, eps) + offsets(below, points, runs, eps)
-    tall = TOP + ABOVE + GAP + BELOW + BOTTOM
+        above.plot(*across(points), "o", color="#222222", markersize=4, zorder=3)
+    else:
+        thin = points[::max(len(points) // 500, 1)]
+        above.plot(*across(thin), color="#999999", linewidth=4, alpha=0.6)
+    segments(above, points, runs, eps)
+    witnesses(above, points, runs, eps)
+    offsets(below, points, runs, eps)
     legend = f"yellow: the band of {eps} places; " if eps else ""
-    made.append(text(WIDTH - RIGHT, tall - 8, legend + "red: three places that no line fits, for each run that is cut", "end"))
-    return "\n".join([f'<svg xmlns="http://www.w3.org/2000/svg" width="{WIDTH}" height="{tall}" '
-                      f'viewBox="0 0 {WIDTH} {tall}" font-family="sans-serif" font-size="12">',
-                      f'<rect width="{WIDTH}" height="{tall}" fill="#ffffff"/>', *made, "</svg>"])
+    above.set(title=title, ylabel=y_label)
+    below.set(xlabel=f"{x_label}\n{legend}red: three places that no line fits, for each run that is cut",
+              ylabel="from its line, in places", xlim=(points[0][0], points[-1][0]) if len(points) > 1 else None)
+    for axes in (above, below):
+        axes.grid()
+        axes.margins(y=0.08)
+    if small:
+        above.margins(x=0.02)
+        below.autoscale(axis="x")
+    return figure
 
 
 def main():
@@ -213,8 +160,10 @@ def main():
     for _, runs in levels[:level]:
         points = [(points[run["start"]][0], place) for place, run in enumerate(runs)]
     eps, runs = levels[level]
-    what = "place in the file, against key" if level == 0 else "segment of the level below, against its first key"
-    print(picture(points, eps, runs, f"{what}: {len(points)} points, ε = {eps}, segments: {len(runs)}"))
+    kind = "points" if level == 0 else "segments of the level below"
+    labels = ("key", "place in the file") if level == 0 else ("first key of the segment", "segment")
+    figure = picture(points, eps, runs, f"{len(points)} {kind}, ε = {eps}, segments: {len(runs)}", *labels)
+    figure.savefig(sys.stdout.buffer, format="svg", metadata={"Date": None})
 
 
 if __name__ == "__main__":

@@ -5,15 +5,11 @@
 // Each box is about one of the points. Prints for each script how many boxes it has, how many
 // points are in them, the sum of the coordinates of all these, the first taken once, the second
 // three times, the third five times, in 64 bits, and the nanoseconds of a box.
+#include "points.hpp"
 #include "searches.hpp"
-#include <array>
-#include <fstream>
 #include <immintrin.h>
 
 using std::size_t;
-
-template <int D> using Point = std::array<u32, D>;
-template <int D> struct Box { Point<D> low, high; };
 
 // The bits that each coordinate has in a code.
 template <int D> constexpr std::array<u64, D> MASKS = [] {
@@ -77,18 +73,13 @@ static size_t gallop(const std::vector<u64> &codes, u64 code, size_t from) {
     return low + halve(codes.data() + low, high - low, code);
 }
 
-struct Found {
-    u64 points = 0, sum = 0;
-};
-
 template <int D> static void visit(const std::vector<u64> &codes, const Box<D> &box, Found &found) {
     u64 low = encode<D>(box.low), high = encode<D>(box.high);
     size_t i = gallop(codes, low, 0);
     for (int passed = 0; i < codes.size() && codes[i] <= high;) {
         u64 code = codes[i];
         if (is_inside<D>(code, low, high)) {
-            ++found.points;
-            for (int d = 0; d < D; ++d) found.sum += _pext_u64(code, MASKS<D>[d]) * (2 * d + 1);
+            add_point<D>(found, [&](int d) { return _pext_u64(code, MASKS<D>[d]); });
             passed = 0;
         } else if (++passed > PASSED) {
             passed = 0;
@@ -99,47 +90,12 @@ template <int D> static void visit(const std::vector<u64> &codes, const Box<D> &
     }
 }
 
-template <int D> static std::vector<Point<D>> read_points(const std::string &name) {
-    std::ifstream in(name, std::ios::binary);
-    u64 count = 0;
-    in.read((char *)&count, 8);
-    std::vector<Point<D>> points(in ? count : 0);
-    in.read((char *)points.data(), (std::streamsize)(points.size() * sizeof(Point<D>)));
-    if (!in) fail("no point file: " + name);
-    return points;
-}
-
-template <int D> static std::vector<Box<D>> read_boxes(const std::string &name) {
-    std::ifstream in(name);
-    std::vector<Box<D>> boxes;
-    for (std::string word; in >> word;) {
-        Box<D> box;
-        for (u32 &low : box.low) in >> low;
-        for (u32 &high : box.high) in >> high;
-        if (word != "box" || !in) fail("no script: " + name);
-        boxes.push_back(box);
-    }
-    return boxes;
-}
-
 template <int D> static void time_all(char **words, int rounds) {
     std::vector<u64> codes;
     for (const Point<D> &point : read_points<D>(words[0])) codes.push_back(encode<D>(point));
     std::sort(codes.begin(), codes.end());
-    for (char **script = words + 3; *script; ++script) {
-        auto boxes = read_boxes<D>(*script);
-        double least = 1e99;
-        Found found;
-        for (int round = 0; round < rounds; ++round) {
-            found = Found();
-            double start = seconds();
-            for (const Box<D> &box : boxes) visit<D>(codes, box, found);
-            least = std::min(least, seconds() - start);
-        }
-        std::printf("script %s boxes %zu found %llu checksum %llu nanoseconds %.0f\n", *script,
-                    boxes.size(), (unsigned long long)found.points, (unsigned long long)found.sum,
-                    least * 1e9 / (double)boxes.size());
-    }
+    time_boxes<D>(words + 3, rounds,
+                  [&](const Box<D> &box, Found &found) { visit<D>(codes, box, found); });
 }
 
 // The greatest coordinate; of two the last number stays free.

@@ -1,57 +1,74 @@
-// The k points nearest to each centre of a script, by a k-d tree: kd_tree POINTS DIMS SCRIPT..
-// The files and the distance (the greatest difference of a coordinate) are those of `pgmtool near`.
-// An answer is sorted by distance; points equally far come in any order. Prints, for each script,
-// how many questions and points there are, the sum of all distances, and nanoseconds a question.
-#include <algorithm>
-#include <chrono>
-#include <cstdint>
-#include <cstdio>
-#include <cstdlib>
-#include <fstream>
-#include <string>
-#include <vector>
+// The points nearest to each centre of a script, by a k-d tree of leaves of 16 points:
+//   kd_tree POINTS DIMS ROUNDS SCRIPT..            by the greatest difference of a coordinate
+//   kd_tree euclid POINTS DIMS ROUNDS SCRIPT..     by Euclid's distance
+// The files are those of `pgmtool near`, and so is the first distance. An answer is sorted by
+// distance; points equally far come in any order. Prints, for each script, how many questions and
+// points there are, the sum of all distances, and nanoseconds a question.
+#include "points.hpp"
 
 using std::size_t;
-using std::uint32_t;
-using std::uint64_t;
 
-constexpr int ROUNDS = 3;
 constexpr size_t LEAF = 16;
 
-template <int D> struct Point { uint32_t at[D]; };
-
-template <int D> struct Node {
-    uint32_t low[D], high[D]; // the least box that has its points
-    uint32_t first, last;     // its points: first..last
-    uint32_t right;           // the right child, and 0 in a leaf; the left one follows the node
+// The greatest difference of a coordinate; a point that is found is its distance and its place in
+// one number.
+struct Greatest {
+    using Far = u32;
+    using Found = u64;
+    static void take(u32 &far, u32 apart) { far = std::max(far, apart); }
+    static Found found(u32 far, u32 place) { return u64(far) << 32 | place; }
+    static u32 far_of(Found found) { return found >> 32; }
+    static u32 place_of(Found found) { return (u32)found; }
 };
 
-template <int D> class Tree {
+// The square of Euclid's distance.
+struct Euclid {
+    using Far = double;
+    using Found = std::pair<double, u32>;
+    static void take(double &far, u32 apart) { far += (double)apart * (double)apart; }
+    static Found found(double far, u32 place) { return {far, place}; }
+    static double far_of(Found found) { return found.first; }
+    static u32 place_of(Found found) { return found.second; }
+};
+
+template <int D> struct Node {
+    u32 low[D], high[D]; // the least box that has its points
+    u32 first, last;     // its points: first..last
+    u32 right;           // the right child, and 0 in a leaf; the left one follows the node
+};
+
+template <int D, class Distance> class Tree {
 public:
+    using Far = typename Distance::Far;
+    using Heap = std::vector<typename Distance::Found>;
+
     explicit Tree(std::vector<Point<D>> of) : points(std::move(of)) {
         if (!points.empty()) build(0, points.size());
     }
 
-    // The k nearest points by distance, each as its distance and, in the low half, its place.
-    void nearest(const Point<D> &centre, size_t k, std::vector<uint64_t> &heap) const {
+    // The k nearest points by distance.
+    void nearest(const Point<D> &centre, size_t k, Heap &heap) const {
         heap.clear();
         if (k > 0 && !nodes.empty()) search(0, to_box(nodes[0], centre), centre, k, heap);
         std::sort_heap(heap.begin(), heap.end());
     }
 
+    // The points in the order of their places.
+    const std::vector<Point<D>> &placed() const { return points; }
+
 private:
     std::vector<Point<D>> points;
     std::vector<Node<D>> nodes;
 
-    uint32_t build(size_t first, size_t last) {
-        uint32_t here = nodes.size();
+    u32 build(size_t first, size_t last) {
+        u32 here = nodes.size();
         Node<D> node;
         for (int c = 0; c < D; c++) {
             node.low[c] = UINT32_MAX;
             node.high[c] = 0;
             for (size_t i = first; i < last; i++) {
-                node.low[c] = std::min(node.low[c], points[i].at[c]);
-                node.high[c] = std::max(node.high[c], points[i].at[c]);
+                node.low[c] = std::min(node.low[c], points[i][c]);
+                node.high[c] = std::max(node.high[c], points[i][c]);
             }
         }
         node.first = first;
@@ -63,45 +80,44 @@ private:
         for (int c = 1; c < D; c++)
             if (node.high[c] - node.low[c] > node.high[widest] - node.low[widest]) widest = c;
         size_t middle = first + (last - first) / 2;
-        std::nth_element(
-            points.begin() + first, points.begin() + middle, points.begin() + last,
-            [widest](const Point<D> &a, const Point<D> &b) { return a.at[widest] < b.at[widest]; });
+        auto less = [widest](const auto &a, const auto &b) { return a[widest] < b[widest]; };
+        std::nth_element(points.begin() + first, points.begin() + middle, points.begin() + last,
+                         less);
         build(first, middle);
-        uint32_t right = build(middle, last);
+        u32 right = build(middle, last);
         nodes[here].right = right;
         return here;
     }
 
-    static uint32_t to_box(const Node<D> &node, const Point<D> &centre) {
-        uint32_t far = 0;
+    static Far to_box(const Node<D> &node, const Point<D> &centre) {
+        Far far = 0;
         for (int c = 0; c < D; c++) {
-            uint32_t below = centre.at[c] < node.low[c] ? node.low[c] - centre.at[c] : 0;
-            uint32_t above = centre.at[c] > node.high[c] ? centre.at[c] - node.high[c] : 0;
-            far = std::max(far, std::max(below, above));
+            u32 below = centre[c] < node.low[c] ? node.low[c] - centre[c] : 0;
+            u32 above = centre[c] > node.high[c] ? centre[c] - node.high[c] : 0;
+            Distance::take(far, std::max(below, above));
         }
         return far;
     }
 
-    static uint32_t to_point(const Point<D> &point, const Point<D> &centre) {
-        uint32_t far = 0;
+    static Far to_point(const Point<D> &point, const Point<D> &centre) {
+        Far far = 0;
         for (int c = 0; c < D; c++) {
-            uint32_t a = point.at[c], b = centre.at[c];
-            far = std::max(far, a < b ? b - a : a - b);
+            u32 a = point[c], b = centre[c];
+            Distance::take(far, a < b ? b - a : a - b);
         }
         return far;
     }
 
     // The nearer child first; a box no nearer than the furthest of k points has none to add.
-    void search(uint32_t at, uint32_t away, const Point<D> &centre, size_t k,
-                std::vector<uint64_t> &heap) const {
-        if (heap.size() == k && away >= heap.front() >> 32) return;
+    void search(u32 at, Far away, const Point<D> &centre, size_t k, Heap &heap) const {
+        if (heap.size() == k && away >= Distance::far_of(heap.front())) return;
         const Node<D> &node = nodes[at];
         if (node.right == 0) {
-            for (uint32_t i = node.first; i < node.last; i++)
-                add(uint64_t(to_point(points[i], centre)) << 32 | i, k, heap);
+            for (u32 i = node.first; i < node.last; i++)
+                add(Distance::found(to_point(points[i], centre), i), k, heap);
             return;
         }
-        uint32_t left = to_box(nodes[at + 1], centre), right = to_box(nodes[node.right], centre);
+        Far left = to_box(nodes[at + 1], centre), right = to_box(nodes[node.right], centre);
         if (left <= right) {
             search(at + 1, left, centre, k, heap);
             search(node.right, right, centre, k, heap);
@@ -111,7 +127,7 @@ private:
         }
     }
 
-    static void add(uint64_t found, size_t k, std::vector<uint64_t> &heap) {
+    static void add(typename Distance::Found found, size_t k, Heap &heap) {
         if (heap.size() < k) {
             heap.push_back(found);
         } else if (found < heap.front()) {
@@ -124,77 +140,49 @@ private:
     }
 };
 
-template <int D> std::vector<Point<D>> read_points(const char *name) {
-    std::ifstream in(name, std::ios::binary);
-    uint64_t count = 0;
-    in.read(reinterpret_cast<char *>(&count), 8);
-    std::vector<Point<D>> points(in ? count : 0);
-    in.read(reinterpret_cast<char *>(points.data()), points.size() * sizeof(Point<D>));
-    if (!in) std::exit((std::fprintf(stderr, "no point file: %s\n", name), 1));
-    return points;
-}
-
-template <int D> struct Question {
-    Point<D> centre;
-    size_t k;
-};
-
-template <int D> std::vector<Question<D>> read_script(const char *name) {
-    std::ifstream in(name);
-    std::vector<Question<D>> questions;
-    std::string word;
-    while (in >> word) {
-        Question<D> question;
-        for (int c = 0; c < D; c++) in >> question.centre.at[c];
-        if (word == "near" && in >> question.k)
-            questions.push_back(question);
-        else
-            std::exit((std::fprintf(stderr, "no script: %s\n", name), 1));
-    }
-    return questions;
-}
-
-double seconds() {
-    auto now = std::chrono::steady_clock::now().time_since_epoch();
-    return std::chrono::duration<double>(now).count();
-}
-
-template <int D> void run(const char *points_name, char **scripts) {
-    std::vector<Point<D>> points = read_points<D>(points_name);
-    size_t many = points.size();
-    double start = seconds();
-    Tree<D> tree(std::move(points));
-    std::printf("points %zu build %f\n", many, seconds() - start);
-    std::vector<uint64_t> heap;
+template <int D> void by_greatest(const char *name, int rounds, char **scripts) {
+    const Tree<D, Greatest> tree(read_points<D>(name));
+    std::vector<u64> heap;
     for (; *scripts; scripts++) {
-        auto questions = read_script<D>(*scripts);
+        auto centres = read_centres<D>(*scripts);
         double least = 1e99;
-        uint64_t found = 0, distances = 0;
-        for (int round = 0; round < ROUNDS; round++) {
+        u64 found = 0, distances = 0;
+        for (int round = 0; round < rounds; round++) {
             found = distances = 0;
-            start = seconds();
-            for (const auto &question : questions) {
-                tree.nearest(question.centre, question.k, heap);
+            double start = seconds();
+            for (const auto &centre : centres) {
+                tree.nearest(centre.at, centre.k, heap);
                 found += heap.size();
-                for (uint64_t point : heap) distances += point >> 32;
+                for (u64 point : heap) distances += Greatest::far_of(point);
             }
             least = std::min(least, seconds() - start);
         }
-        double each = least * 1e9 / std::max<size_t>(questions.size(), 1);
         std::printf("script %s questions %zu found %llu distances %llu nanoseconds %.1f\n",
-                    *scripts, questions.size(), (unsigned long long)found,
-                    (unsigned long long)distances, each);
+                    *scripts, centres.size(), (unsigned long long)found,
+                    (unsigned long long)distances,
+                    least * 1e9 / (double)std::max<size_t>(centres.size(), 1));
     }
 }
 
+template <int D> void by_euclid(const char *name, int rounds, char **scripts) {
+    const Tree<D, Euclid> tree(read_points<D>(name));
+    std::vector<Euclid::Found> heap;
+    time_nearest<D>(scripts, rounds, tree.placed(), [&](const auto &centre, auto &places) {
+        tree.nearest(centre.at, centre.k, heap);
+        places.clear();
+        for (const Euclid::Found &found : heap) places.push_back(Euclid::place_of(found));
+    });
+}
+
 int main(int count, char **words) {
-    int dims = count > 2 ? std::atoi(words[2]) : 0;
-    if (dims == 2)
-        run<2>(words[1], words + 3);
-    else if (dims == 3)
-        run<3>(words[1], words + 3);
-    else if (dims == 4)
-        run<4>(words[1], words + 3);
+    bool is_euclid = count > 1 && std::string(words[1]) == "euclid";
+    char **given = words + (is_euclid ? 2 : 1);
+    std::string dims = given + 2 < words + count ? given[1] : "";
+    int rounds = dims.empty() ? 0 : std::atoi(given[2]);
+    if (dims == "2")
+        (is_euclid ? by_euclid<2> : by_greatest<2>)(given[0], rounds, given + 3);
+    else if (dims == "3")
+        (is_euclid ? by_euclid<3> : by_greatest<3>)(given[0], rounds, given + 3);
     else
-        return std::fprintf(stderr, "usage: kd_tree POINTS 2|3|4 SCRIPT..\n"), 1;
+        fail("usage: kd_tree [euclid] POINTS 2|3 ROUNDS SCRIPT..");
 }

@@ -1,29 +1,10 @@
-// Updates of several senders through one std::deque behind a lock, beside `pgmtool mix`.
-//   locked_deque UPDATES SENDERS WAY
-// The updates are dealt out in turn to senders, each in a thread of its own, and one thread takes
-// all of them. The deque holds at most 64. WAY is `yield`, where who finds it full or empty lets
-// others run and tries again, as `mix` does, or `wait`, where two condition variables wake him.
-// Seconds, and millions of updates a second.
-#include <chrono>
+// Updates of several senders through one std::deque behind a lock: locked_deque UPDATES SENDERS WAY
+// The deque holds at most 64. WAY is `yield`, where who finds it full or empty lets others run and
+// tries again, as `mix` does, or `wait`, where two condition variables wake him.
+#include "senders.hpp"
 #include <condition_variable>
-#include <cstdint>
-#include <cstdio>
-#include <cstdlib>
-#include <cstring>
 #include <deque>
 #include <mutex>
-#include <thread>
-#include <vector>
-
-struct Update {
-    std::uint64_t kind, key, value;
-};
-struct Item {
-    std::uint32_t sender;
-    Update update;
-};
-
-static const std::size_t ROOM = 64;
 
 struct Queue {
     std::deque<Item> items;
@@ -70,31 +51,11 @@ struct Queue {
     }
 };
 
-int main(int, char **words) {
-    const std::size_t count = std::strtoull(words[1], nullptr, 10),
-                      senders = std::strtoull(words[2], nullptr, 10);
-    std::vector<Update> updates(count);
-    std::uint64_t state = 88172645463325252ull;
-    for (Update &update : updates) {
-        state ^= state << 13, state ^= state >> 7, state ^= state << 17;
-        update = {state % 4 == 0, state % count, state};
-    }
+int main(int count, char **words) {
+    if (count != 4) fail("usage: locked_deque UPDATES SENDERS yield|wait");
     Queue queue;
-    queue.waits = std::strcmp(words[3], "wait") == 0;
-    std::vector<Item> came;
-    came.reserve(count);
-    const auto start = std::chrono::steady_clock::now();
-    std::vector<std::thread> threads;
-    for (std::size_t number = 0; number < senders; ++number) {
-        threads.emplace_back([&, number] {
-            for (std::size_t place = number; place < count; place += senders)
-                queue.send({std::uint32_t(number), updates[place]});
-        });
-    }
-    while (came.size() < count) came.push_back(queue.take());
-    for (std::thread &thread : threads) thread.join();
-    const double seconds =
-        std::chrono::duration<double>(std::chrono::steady_clock::now() - start).count();
-    std::printf("%.3f seconds, %.2f million updates a second\n", seconds,
-                double(count) / seconds / 1e6);
+    queue.waits = std::string(words[3]) == "wait";
+    auto send = [&](std::size_t) { return [&](const Item &item) { queue.send(item); }; };
+    time_senders(std::strtoull(words[1], nullptr, 10), std::strtoull(words[2], nullptr, 10), send,
+                 [&] { return queue.take(); });
 }

@@ -36,6 +36,29 @@ static Keys dense(Random &random, u64 n) {
     return keys;
 }
 
+// Numbers of rows, with a hole of 2 to 200 behind one in fifty, where rows went.
+static Keys ids(Random &random, u64 n) {
+    Keys keys(n);
+    u64 next = 1;
+    for (u64 &key : keys) {
+        key = next;
+        next += random.below(50) ? 1 : random.between(2, 200);
+    }
+    return keys;
+}
+
+// A reading each minute, in seconds, with a gap behind one in a thousand: the device was off for 2
+// to 10,000 minutes.
+static Keys minutes(Random &random, u64 n) {
+    Keys keys(n);
+    u64 next = 1500000000;
+    for (u64 &key : keys) {
+        key = next;
+        next += 60 * (random.below(1000) ? 1 : random.between(2, 10000));
+    }
+    return keys;
+}
+
 static Keys lognormal(Random &random, u64 n) {
     std::normal_distribution<double> normal(0, 2);
     Keys keys(n);
@@ -120,9 +143,9 @@ struct Kind {
 };
 
 static const Kind KINDS[] = {
-    {"uniform", uniform},     {"cascade", cascade}, {"events", events},
-    {"dense", dense},         {"pareto", pareto},   {"outliers", outliers},
-    {"lognormal", lognormal}, {"normal", normal},   {"numbers", numbers},
+    {"uniform", uniform}, {"cascade", cascade},   {"events", events},       {"dense", dense},
+    {"pareto", pareto},   {"outliers", outliers}, {"lognormal", lognormal}, {"normal", normal},
+    {"numbers", numbers}, {"ids", ids},           {"minutes", minutes},
 };
 
 static Keys keys_of(const std::string &kind, u64 n, u64 seed) {
