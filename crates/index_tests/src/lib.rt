@@ -34,6 +34,8 @@ mod piece_join_rows;
 #[cfg(test)]
 mod radix_table_rows;
 #[cfg(test)]
+mod readme_examples;
+#[cfg(test)]
 mod segmenter_rows;
 #[cfg(test)]
 mod window_search_rows;

@@ -3,15 +3,18 @@
 use crate::tombstones_rows::{del, put};
 use boxes::Boxes;
 use cut_witness::check_cover;
+use drill_inputs::Inputs;
 use exact_cross::PointList;
 use levels::{Bounds, Index, Keys, OpenGate};
 use lines::{lines_of, position, upper_bound};
 use log_levels::{LogMap, Update};
 use map_level::{HashedKey, Here, Level, latest_of};
-use options::Workers;
+use options::{Drill, Senders, Workers};
 use published::start_map;
 use segmenter::segment;
+use senders::start_senders;
 use std::test::Fail;
+use tombstones::merge;
 use zorder::Region;
 
 #[test]
@@ -103,5 +106,43 @@ fn cut_witness_example(rt: HostRuntime) -> Result<(), Fail> {
     let segments = segment(rt.alloc(), points, 0, 0, 4)?;
     assert_eq!(rt; segments.len(), 2);
     assert!(rt; check_cover(points, 0, &segments));
+    Ok(())
+}
+
+#[test]
+fn tombstones_example(rt: HostRuntime) -> Result<(), Fail> {
+    let newer = [put(1, 11), del(2)];
+    let older = [put(2, 20), put(3, 30)];
+    let merged = merge(rt.alloc(), &newer, &older, false)?;
+    assert_eq!(rt;
+        merged.as_slice(),
+        [put(1, 11), del(2), put(3, 30)].as_slice()
+    );
+    let deepest = merge(rt.alloc(), &newer, &older, true)?;
+    assert_eq!(rt; deepest.as_slice(), [put(1, 11), put(3, 30)].as_slice());
+    Ok(())
+}
+
+#[test]
+fn drill_inputs_example(rt: HostRuntime) -> Result<(), Fail> {
+    let drill = Drill { number: 2, seed: 1 };
+    let inputs = Inputs::drawn(rt.alloc(), drill)?;
+    assert_eq!(rt; inputs.keys.as_slice(), [6, 20].as_slice());
+    let updates = [Update::Put(0, 4086), Update::Put(1, 12767)];
+    assert_eq!(rt; inputs.updates.as_slice(), updates.as_slice());
+    Ok(())
+}
+
+#[test]
+fn senders_example(rt: HostRuntime) -> Result<(), Fail> {
+    let (mut inbox, mut senders) = start_senders(rt.alloc(), Senders { count: 1 }, 1)?;
+    let Some(mut sender) = senders.pop() else {
+        unreachable!()
+    };
+    assert_eq!(rt; sender.send(&rt, Update::Put(1, 10)), Ok(()));
+    assert_eq!(rt; sender.send(&rt, Update::Del(1)), Err(Update::Del(1)));
+    assert_eq!(rt; inbox.take(&rt), Some((0, Update::Put(1, 10))));
+    senders.push(sender)?;
+    assert_eq!(rt; inbox.close(senders), 0);
     Ok(())
 }

@@ -14,6 +14,8 @@ mod expected;
 #[cfg(test)]
 mod pgm_script_rows;
 #[cfg(test)]
+mod readme_examples;
+#[cfg(test)]
 mod shelves;
 #[cfg(test)]
 mod sosd_reader_rows;
