@@ -6,7 +6,7 @@ use Rattle.std.proofs.Math.Nat.{pow-suc, pow-zero}
 use Rattle.std.proofs.lemmas.Nat.{pow-add, mul-le}
 use Rattle.window_search.specs.Brackets.{IsBracket, IsReached, ReadsNear}
 use Rattle.window_search.specs.Searches.{lb, HalvesPlaces}
-use Rattle.window_search.proofs.LowerBounds.{lb-is}
+use Rattle.window_search.proofs.LowerBounds.{lb-is, IsLowerBound-lb}
 
 -- from `before` to `now` the steps that led to this reach
 pub record IsDoubled (reach before now : ℕ) : Type 0 where
@@ -67,3 +67,13 @@ bracket-lb keys q place bracket order =
     sym (lb-is keys q place bracket.within
     (λ k less. omega (arith, order k (place - 1) 0 (omega arith) (omega (arith, bracket.within)), bracket.before (omega arith)))
     (λ k high inside. omega (arith, order place k 0 high inside, bracket.at (omega arith))))
+
+-- and the lower bound is a bracket
+pub lb-brackets : (keys : List ℕ) (q : ℕ) → IsNonDecreasing keys → IsBracket keys q (lb keys q)
+lb-brackets keys q order =
+    let bound = IsLowerBound-lb keys q order in
+    record {
+      within = bound.within;
+      before = λ some. bound.before (lb keys q - 1) (omega arith);
+      at = λ inside. bound.from (lb keys q) (omega arith) inside;
+    }

@@ -54,16 +54,22 @@ pub fn bracket_of<K: KeyList, L: Ledger>(
     halve(keys, 0, keys.len(), q, steps)
 }
 
-/// Whether a place brackets `q`. At most two keys are read, and no step is counted.
+/// Whether a place brackets `q`. One step is one key read, and at most two are taken.
 #[inline(always)]
-pub fn is_bracket<K: KeyList>(keys: K, place: usize, q: u64) -> bool
-    ensures { IsTrue result ↔ IsBracket (K.listed keys) q place }
+pub fn is_bracket<K: KeyList, L: Ledger>(
+    keys: &CountedKeys<K, L>,
+    place: usize,
+    q: u64,
+    steps: &mut Steps<L>,
+) -> bool
+    ensures exact { IsTrue result ↔ IsBracket keys.now q place }
+    ensures cost { steps.new ≤ steps.old + 2 }
 {
     let count = keys.len();
-    if place > count || (place > 0 && keys.at(place - 1) >= q) {
+    if place > count || (place > 0 && keys.read(place - 1, steps) >= q) {
         return false;
     }
-    place == count || keys.at(place) >= q
+    place == count || keys.read(place, steps) >= q
 }
 
 /// Places on one side of `from` among which a bracket is.
