@@ -1,5 +1,5 @@
 -- Words that are made of a cover's lines. No public clause cites it.
-use Rattle.std.specs.Prelude.{◌≡◌, ℕ, ◌+◌, ◌-◌, ◌*◌, ◌/◌, ◌%◌, ◌^◌, ◌<◌, ◌≤◌, ℤ, pos, ◌+ℤ◌, ◌≤ℤ◌, ◌<ℤ◌, List, [], ◌∷◌, ◌++◌, length, slice_index}
+use Rattle.std.specs.Prelude.{◌≡◌, ℕ, ◌+◌, ◌-◌, ◌*◌, ◌/◌, ◌%◌, ◌^◌, ◌<◌, ◌≤◌, ℤ, pos, ◌+ℤ◌, ◌≤ℤ◌, ◌<ℤ◌, List, ◌++◌, length, slice_index}
 use Rattle.exact_cross.specs.declared.line.Line.{Line}
 use Rattle.exact_cross.specs.declared.segment.Segment.{Segment}
 use Rattle.exact_cross.specs.Points.{Points}
