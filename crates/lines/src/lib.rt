@@ -10,8 +10,8 @@
 //! below the question, and the key there isn't.
 //!
 //! Main clauses: `bracket`, `found`, `worst` and `near` of [`position_counted`], which [`position`]
-//! is with nothing counted, and `lead` and `least` of [`lines_of`], which makes the words. The words
-//! of the clauses are in `specs/`. No lookup takes memory, and none fails.
+//! is with nothing counted, and `lead`, `least` and `small` of [`lines_of`], which makes the words.
+//! The words of the clauses are in `specs/`. No lookup takes memory, and none fails.
 #![tactic(auto)]
 
 mod line_list;
