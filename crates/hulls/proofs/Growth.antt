@@ -35,33 +35,37 @@ under_left q h j i r right hj ji ir inside inner outer =
     record { under = rw (abc, bc) (chord_left (q.y h) (q.y i) (q.y j) (q.y r) a b c (omega arith) (rw ab at inner.under) (rw (abc, ab) at outer.under)) }
 
 -- the vertices up to `kept` stay, and each one after it was under the chord from the one before it to the new point
-pub record IsKept (q : Points) (v : ℕ → ℕ) (t last e kept : ℕ) : Type 0 where
+pub record IsKept (q : Points) (v : ℕ → ℕ) (t last m kept : ℕ) : Type 0 where
   pub from_tangent : t ≤ kept
   pub inside : kept ≤ last
-  pub dropped : (k : ℕ) → kept ≤ k → k < last → IsUnderChord q (v k) (v (k + 1)) e
-  pub turns : (k : ℕ) → t ≤ k → k + 1 ≡ kept → IsUnderChord q (v k) (v (k + 1)) e → ⊥
+  pub dropped : (k : ℕ) → kept ≤ k → k < last → IsUnderChord q (v k) (v (k + 1)) m
+  pub turns : (k : ℕ) → t ≤ k → k + 1 ≡ kept → IsUnderChord q (v k) (v (k + 1)) m → ⊥
 
 -- each point from a dropped vertex on lies under the chord from it to the new point
-under_new_edge : (q : Points) (eps s : ℕ) (v : ℕ → ℕ) (t last e kept : ℕ) → RiseRight q → e < q.count → IsUpperHull q eps s v t last e → IsKept q v t last e kept →
-    (gap k : ℕ) → k + gap ≡ last → kept ≤ k → (j : ℕ) → v k ≤ j → j < e → IsUnderChord q (v k) j e ⊎ IsShadowed q eps s j
-under_new_edge q eps s v t last e kept right inside hull kept_to zero k here from j low high =
+under_new_edge : (q : Points) (eps s : ℕ) (v : ℕ → ℕ) (t last e m kept : ℕ) → RiseRight q → e ≤ m → m < q.count → IsUpperHull q eps s v t last e → IsKept q v t last m kept →
+    ((j : ℕ) → e ≤ j → j < m → IsUnderChord q (v last) j m) →
+    (gap k : ℕ) → k + gap ≡ last → kept ≤ k → (j : ℕ) → v k ≤ j → j < m → IsUnderChord q (v k) j m ⊎ IsShadowed q eps s j
+under_new_edge q eps s v t last e m kept right further inside hull kept_to spanned zero k here from j low high =
     let same : k ≡ last = omega arith in
-    elim (hull.under j (omega (arith, low, place_rises q eps s v t last e t k hull (omega arith) (omega (arith, kept_to.from_tangent)) (omega arith))) high) [
-      | inr shadow ↦ inr shadow
-      | inl (inl end) ↦ let only : j ≡ v k = omega (arith, end, ap v same) in inl (rw only (record { under = omega arith }))
-      | inl (inr edge) ↦ absurd (omega (arith, edge.4, low, ap v same, place_rises q eps s v t last e (edge.0 + 1) last hull (omega (arith, edge.1)) (omega (arith, edge.2)) (omega arith)))
+    elim (cases_lt j e) [
+      | inr late ↦ inl (subst (λ (n : ℕ). IsUnderChord q (v n) j m) (sym same) (spanned j late high))
+      | inl before ↦ elim (hull.under j (omega (arith, low, place_rises q eps s v t last e t k hull (omega arith) (omega (arith, kept_to.from_tangent)) (omega arith))) before) [
+        | inr shadow ↦ inr shadow
+        | inl (inl end) ↦ let only : j ≡ v k = omega (arith, end, ap v same) in inl (rw only (record { under = omega arith }))
+        | inl (inr edge) ↦ absurd (omega (arith, edge.4, low, ap v same, place_rises q eps s v t last e (edge.0 + 1) last hull (omega (arith, edge.1)) (omega (arith, edge.2)) (omega arith)))
+      ]
     ]
-under_new_edge q eps s v t last e kept right inside hull kept_to (suc gap) k here from j low high =
+under_new_edge q eps s v t last e m kept right further inside hull kept_to spanned (suc gap) k here from j low high =
     let from_t : t ≤ k = omega (arith, kept_to.from_tangent) in
     let rises = hull.rise k from_t (omega arith) in
     let next_before = place_before q eps s v t last e (k + 1) hull (omega arith) (omega arith) in
     let chord = kept_to.dropped k from (omega arith) in
     elim (cases_lt j (v (k + 1))) [
-      | inr on ↦ elim (under_new_edge q eps s v t last e kept right inside hull kept_to gap (k + 1) (omega arith) (omega arith) j on high) [
-        | inl under ↦ inl (under_right q (v k) (v (k + 1)) j e right (omega arith) on high inside under chord)
+      | inr on ↦ elim (under_new_edge q eps s v t last e m kept right further inside hull kept_to spanned gap (k + 1) (omega arith) (omega arith) j on high) [
+        | inl under ↦ inl (under_right q (v k) (v (k + 1)) j m right (omega arith) on high inside under chord)
         | inr shadow ↦ inr shadow
       ]
-      | inl early ↦ elim (hull.under j (omega (arith, low, place_rises q eps s v t last e t k hull (omega arith) from_t (omega arith))) high) [
+      | inl early ↦ elim (hull.under j (omega (arith, low, place_rises q eps s v t last e t k hull (omega arith) from_t (omega arith))) (omega arith)) [
         | inr shadow ↦ inr shadow
         | inl (inl end) ↦ absurd (omega (arith, end, early, place_rises q eps s v t last e (k + 1) last hull (omega arith) (omega arith) (omega arith)))
         | inl (inr edge) ↦
@@ -72,7 +76,7 @@ under_new_edge q eps s v t last e kept right inside hull kept_to (suc gap) k her
                 | inr not_more ↦ omega arith
               ]
             ] in
-            inl (under_left q (v k) j (v (k + 1)) e right low early next_before inside
+            inl (under_left q (v k) j (v (k + 1)) m right low early (omega arith) inside
             (subst (λ (n : ℕ). IsUnderChord q (v n) j (v (n + 1))) here_edge edge.5) chord)
       ]
     ]
@@ -96,23 +100,25 @@ IsUpperHull-later q eps s v t last e at hull onward within = record {
   ];
 }
 
--- a hull with one more point that is shadowed
-pub IsUpperHull-skips : (q : Points) (eps s : ℕ) (v : ℕ → ℕ) (t last e : ℕ) → IsUpperHull q eps s v t last e → IsShadowed q eps s e → IsUpperHull q eps s v t last (e + 1)
-IsUpperHull-skips q eps s v t last e hull shadow = record {
+-- a hull with more points that are shadowed
+pub IsUpperHull-skips : (q : Points) (eps s : ℕ) (v : ℕ → ℕ) (t last e m : ℕ) → e ≤ m → IsUpperHull q eps s v t last e → ((j : ℕ) → e ≤ j → j ≤ m → IsShadowed q eps s j) →
+    IsUpperHull q eps s v t last (m + 1)
+IsUpperHull-skips q eps s v t last e m further hull shadows = record {
   some = hull.some;
   rise = hull.rise;
   end = omega (arith, hull.end);
   turns = hull.turns;
   under = λ j low high. elim (cases_lt j e) [
     | inl before ↦ hull.under j low before
-    | inr here ↦ let same : j ≡ e = omega arith in inr (subst (λ (n : ℕ). IsShadowed q eps s n) (sym same) shadow)
+    | inr late ↦ inr (shadows j late (omega arith))
   ];
 }
 
--- the hull of the places v' at, .., v' kept, e
-pub IsUpperHull-grows : (q : Points) (eps s : ℕ) (v v' : ℕ → ℕ) (t last e at kept : ℕ) → RiseRight q → e < q.count → IsUpperHull q eps s v t last e → t ≤ at → at ≤ last →
-    IsKept q v at last e kept → ((k : ℕ) → k ≤ kept → v' k ≡ v k) → v' (kept + 1) ≡ e → IsUpperHull q eps s v' at (kept + 1) (e + 1)
-IsUpperHull-grows q eps s v v' t last e at kept right inside whole onward within kept_to same new =
+-- the hull of the places v' at, .., v' kept, m
+pub IsUpperHull-grows : (q : Points) (eps s : ℕ) (v v' : ℕ → ℕ) (t last e m at kept : ℕ) → RiseRight q → e ≤ m → m < q.count → IsUpperHull q eps s v t last e → t ≤ at → at ≤ last →
+    IsKept q v at last m kept → ((j : ℕ) → e ≤ j → j < m → IsUnderChord q (v last) j m) → ((k : ℕ) → k ≤ kept → v' k ≡ v k) → v' (kept + 1) ≡ m →
+    IsUpperHull q eps s v' at (kept + 1) (m + 1)
+IsUpperHull-grows q eps s v v' t last e m at kept right further inside whole onward within kept_to spanned same new =
     let hull : IsUpperHull q eps s v at last e = IsUpperHull-later q eps s v t last e at whole onward within in
     record {
       some = omega (arith, kept_to.from_tangent);
@@ -126,19 +132,19 @@ IsUpperHull-grows q eps s v v' t last e at kept right inside whole onward within
         | inl old ↦ rw (same k (omega arith), same (k + 1) (omega arith), same (k + 2) (omega arith)) (hull.turns k low (omega (arith, kept_to.inside)))
         | inr edge ↦
             let here : k + 1 ≡ kept = omega arith in
-            let third : v' (k + 2) ≡ e = omega (arith, new, ap (λ (n : ℕ). v' (n + 1)) here, ap v' (two k)) in
+            let third : v' (k + 2) ≡ m = omega (arith, new, ap (λ (n : ℕ). v' (n + 1)) here, ap v' (two k)) in
             rw (same k (omega arith), same (k + 1) (omega arith), third) (kept_to.turns k low here)
       ];
-      under = λ j low high. elim (cases_lt j e) [
+      under = λ j low high. elim (cases_lt j m) [
         | inr here ↦ inl (inl (omega (arith, new)))
         | inl before ↦
             let low_old : v at ≤ j = omega (arith, low, same at (omega (arith, kept_to.from_tangent))) in
             elim (cases_lt j (v kept)) [
-              | inr late ↦ elim (under_new_edge q eps s v at last e kept right inside hull kept_to (last - kept) kept (omega (arith, kept_to.inside)) (omega arith) j late before) [
+              | inr late ↦ elim (under_new_edge q eps s v at last e m kept right further inside hull kept_to spanned (last - kept) kept (omega (arith, kept_to.inside)) (omega arith) j late before) [
                 | inl under ↦ inl (inr (kept, kept_to.from_tangent, omega arith, omega (arith, same kept (omega arith)), omega (arith, new), rw (same kept (omega arith), new) under))
                 | inr shadow ↦ inr shadow
               ]
-              | inl early ↦ elim (hull.under j low_old before) [
+              | inl early ↦ elim (hull.under j low_old (omega (arith, place_before q eps s v at last e kept hull kept_to.from_tangent kept_to.inside))) [
                 | inr shadow ↦ inr shadow
                 | inl (inl end) ↦ absurd (omega (arith, end, early, place_rises q eps s v at last e kept last hull kept_to.from_tangent kept_to.inside (omega arith)))
                 | inl (inr edge) ↦

@@ -5,5 +5,6 @@ pub mod PairSteps
 pub mod Growth
 pub mod HullSteps
 pub mod Mirrored
+pub mod Stretches
 pub mod NewPoint
 pub mod PairLine

@@ -10,18 +10,34 @@ use Rattle.hulls.specs.Hull.{IsUnderChord, IsUnderHull, IsShadowed, IsUpperHull,
 use Rattle.hulls.proofs.Chords.{chord_under, chord_strictly_under, later_slope, slope_behind}
 use Rattle.hulls.proofs.RaisedSlopes.{at_most-out, at_most-in, at_least-out, at_least-in}
 
+-- vertices before the place m that rise and turn down
+pub record IsBent (q : Points) (v : ℕ → ℕ) (t last m : ℕ) : Type 0 where
+  pub some : t ≤ last
+  pub rise : (k : ℕ) → t ≤ k → k < last → v k < v (k + 1)
+  pub end : v last < m
+  pub turns : (k : ℕ) → t ≤ k → k + 2 ≤ last → IsUnderChord q (v k) (v (k + 1)) (v (k + 2)) → ⊥
+
+pub IsBent-from_hull : (q : Points) (eps s : ℕ) (v : ℕ → ℕ) (t last e m : ℕ) → e ≤ m → IsUpperHull q eps s v t last e → IsBent q v t last m
+IsBent-from_hull q eps s v t last e m further hull = record { some = hull.some; rise = hull.rise; end = omega (arith, hull.end); turns = hull.turns }
+
 -- the places of a hull rise from each to each later one
-pub places_rise : (q : Points) (eps s : ℕ) (v : ℕ → ℕ) (t last e : ℕ) → IsUpperHull q eps s v t last e → (i gap j : ℕ) → t ≤ i → j ≡ i + gap → j ≤ last → v i ≤ v j
-places_rise q eps s v t last e hull i zero j low far inside = let same : i ≡ j = omega arith in omega (arith, ap v same)
-places_rise q eps s v t last e hull i (suc gap) j low far inside =
+places_rise : (q : Points) (v : ℕ → ℕ) (t last m : ℕ) → IsBent q v t last m → (i gap j : ℕ) → t ≤ i → j ≡ i + gap → j ≤ last → v i ≤ v j
+places_rise q v t last m bent i zero j low far inside = let same : i ≡ j = omega arith in omega (arith, ap v same)
+places_rise q v t last m bent i (suc gap) j low far inside =
     let next : i + gap + 1 ≡ j = omega arith in
-    omega (arith, places_rise q eps s v t last e hull i gap (i + gap) low refl (omega arith), hull.rise (i + gap) (omega arith) (omega arith), ap v next)
+    omega (arith, places_rise q v t last m bent i gap (i + gap) low refl (omega arith), bent.rise (i + gap) (omega arith) (omega arith), ap v next)
+
+pub bent_rises : (q : Points) (v : ℕ → ℕ) (t last m i j : ℕ) → IsBent q v t last m → t ≤ i → i ≤ j → j ≤ last → v i ≤ v j
+bent_rises q v t last m i j bent low order inside = places_rise q v t last m bent i (j - i) j low (omega arith) inside
+
+pub bent_before : (q : Points) (v : ℕ → ℕ) (t last m k : ℕ) → IsBent q v t last m → t ≤ k → k ≤ last → v k < m
+bent_before q v t last m k bent low inside = omega (arith, bent_rises q v t last m k last bent low inside (omega arith), bent.end)
 
 pub place_rises : (q : Points) (eps s : ℕ) (v : ℕ → ℕ) (t last e i j : ℕ) → IsUpperHull q eps s v t last e → t ≤ i → i ≤ j → j ≤ last → v i ≤ v j
-place_rises q eps s v t last e i j hull low order inside = places_rise q eps s v t last e hull i (j - i) j low (omega arith) inside
+place_rises q eps s v t last e i j hull low order inside = bent_rises q v t last e i j (IsBent-from_hull q eps s v t last e e (omega arith) hull) low order inside
 
 pub place_before : (q : Points) (eps s : ℕ) (v : ℕ → ℕ) (t last e k : ℕ) → IsUpperHull q eps s v t last e → t ≤ k → k ≤ last → v k < e
-place_before q eps s v t last e k hull low inside = omega (arith, place_rises q eps s v t last e k last hull low inside (omega arith), hull.end)
+place_before q eps s v t last e k hull low inside = bent_before q v t last e k (IsBent-from_hull q eps s v t last e e (omega arith) hull) low inside
 
 -- a chord's fact, by the two gaps
 pub chord_gaps : (q : Points) (i j k : ℕ) → q.x i ≤ q.x j → q.x j ≤ q.x k → IsUnderChord q i j k → q.y j * ((q.x j - q.x i) + (q.x k - q.x j)) ≤ q.y i * (q.x k - q.x j) + q.y k * (q.x j - q.x i)
@@ -95,12 +111,12 @@ run_to : (q : Points) (eps i e : ℕ) → RiseRight q → i < e → e < q.count 
 run_to q eps i e right before inside = let less : q.x i < q.x e = right.rises i e before inside in omega arith
 
 -- on from the tangent's vertex each slope is at most the next, and so the tangent's is the least of them
-rises_on : (q : Points) (eps s : ℕ) (v : ℕ → ℕ) (t last e at : ℕ) → RiseRight q → e < q.count → IsUpperHull q eps s v t last e → IsTangent q eps v t last e at →
+rises_on : (q : Points) (eps : ℕ) (v : ℕ → ℕ) (t last e at : ℕ) → RiseRight q → e < q.count → IsBent q v t last e → IsTangent q eps v t last e at →
     (gap k : ℕ) → k ≡ at + gap → k + 1 ≤ last → IsAtMost (steep_slope q eps (v k) e) (steep_slope q eps (v (k + 1)) e)
-rises_on q eps s v t last e at right inside hull tangent zero k here more =
+rises_on q eps v t last e at right inside hull tangent zero k here more =
     let same : at ≡ k = omega arith in
     subst (λ (n : ℕ). IsAtMost (steep_slope q eps (v n) e) (steep_slope q eps (v (n + 1)) e)) same (tangent.stops (omega arith))
-rises_on q eps s v t last e at right inside hull tangent (suc gap) k here more =
+rises_on q eps v t last e at right inside hull tangent (suc gap) k here more =
     let low = at + gap in
     let next : low + 1 ≡ k = omega arith in
     let from : t ≤ low = omega (arith, tangent.onward) in
@@ -108,109 +124,109 @@ rises_on q eps s v t last e at right inside hull tangent (suc gap) k here more =
     let moved = subst (λ (n : ℕ). IsAtMost (steep_slope q eps (v (low + 1)) e) (steep_slope q eps (v n) e)) after
     (still_rises q eps (v low) (v (low + 1)) (v (low + 2)) e right (hull.rise low from (omega arith))
     (subst (λ (n : ℕ). v (low + 1) < v n) (omega arith) (hull.rise (low + 1) (omega arith) (omega arith)))
-    (place_before q eps s v t last e (low + 2) hull (omega arith) (omega arith)) inside (hull.turns low from (omega arith))
-    (rises_on q eps s v t last e at right inside hull tangent gap low refl (omega arith))) in
+    (bent_before q v t last e (low + 2) hull (omega arith) (omega arith)) inside (hull.turns low from (omega arith))
+    (rises_on q eps v t last e at right inside hull tangent gap low refl (omega arith))) in
     subst (λ (n : ℕ). IsAtMost (steep_slope q eps (v n) e) (steep_slope q eps (v (k + 1)) e)) next moved
 
-least_on : (q : Points) (eps s : ℕ) (v : ℕ → ℕ) (t last e at : ℕ) → RiseRight q → e < q.count → IsUpperHull q eps s v t last e → IsTangent q eps v t last e at →
+least_on : (q : Points) (eps : ℕ) (v : ℕ → ℕ) (t last e at : ℕ) → RiseRight q → e < q.count → IsBent q v t last e → IsTangent q eps v t last e at →
     (gap k : ℕ) → k ≡ at + gap → k ≤ last → IsAtMost (steep_slope q eps (v at) e) (steep_slope q eps (v k) e)
-least_on q eps s v t last e at right inside hull tangent zero k here within =
+least_on q eps v t last e at right inside hull tangent zero k here within =
     let same : at ≡ k = omega arith in
     subst (λ (n : ℕ). IsAtMost (steep_slope q eps (v at) e) (steep_slope q eps (v n) e)) same (IsAtMost-refl (steep_slope q eps (v at) e))
-least_on q eps s v t last e at right inside hull tangent (suc gap) k here within =
+least_on q eps v t last e at right inside hull tangent (suc gap) k here within =
     let low = at + gap in
     let next : low + 1 ≡ k = omega arith in
     subst (λ (n : ℕ). IsAtMost (steep_slope q eps (v at) e) (steep_slope q eps (v n) e)) next
     (IsAtMost-trans (steep_slope q eps (v at) e) (steep_slope q eps (v low) e) (steep_slope q eps (v (low + 1)) e)
-    (run_to q eps (v low) e right (place_before q eps s v t last e low hull (omega (arith, tangent.onward)) (omega arith)) inside)
-    (least_on q eps s v t last e at right inside hull tangent gap low refl (omega arith))
-    (rises_on q eps s v t last e at right inside hull tangent gap low refl (omega arith)))
+    (run_to q eps (v low) e right (bent_before q v t last e low hull (omega (arith, tangent.onward)) (omega arith)) inside)
+    (least_on q eps v t last e at right inside hull tangent gap low refl (omega arith))
+    (rises_on q eps v t last e at right inside hull tangent gap low refl (omega arith)))
 
 -- before it each slope is greater
-less_before : (q : Points) (eps s : ℕ) (v : ℕ → ℕ) (t last e at : ℕ) → RiseRight q → e < q.count → IsUpperHull q eps s v t last e → IsTangent q eps v t last e at →
+less_before : (q : Points) (eps : ℕ) (v : ℕ → ℕ) (t last e at : ℕ) → RiseRight q → e < q.count → IsBent q v t last e → IsTangent q eps v t last e at →
     (gap k : ℕ) → k + gap ≡ at → t ≤ k → IsAtMost (steep_slope q eps (v at) e) (steep_slope q eps (v k) e)
-less_before q eps s v t last e at right inside hull tangent zero k here from =
+less_before q eps v t last e at right inside hull tangent zero k here from =
     let same : at ≡ k = omega arith in
     subst (λ (n : ℕ). IsAtMost (steep_slope q eps (v at) e) (steep_slope q eps (v n) e)) same (IsAtMost-refl (steep_slope q eps (v at) e))
-less_before q eps s v t last e at right inside hull tangent (suc gap) k here from =
+less_before q eps v t last e at right inside hull tangent (suc gap) k here from =
     let below : IsAtMost (steep_slope q eps (v (k + 1)) e) (steep_slope q eps (v k) e) =
     elim (IsAtMost-total (steep_slope q eps (v (k + 1)) e) (steep_slope q eps (v k) e)) [ inl less ↦ less | inr more ↦ absurd (tangent.falls k from (omega arith) more) ] in
     IsAtMost-trans (steep_slope q eps (v at) e) (steep_slope q eps (v (k + 1)) e) (steep_slope q eps (v k) e)
-    (run_to q eps (v (k + 1)) e right (place_before q eps s v t last e (k + 1) hull (omega arith) (omega (arith, tangent.inside))) inside)
-    (less_before q eps s v t last e at right inside hull tangent gap (k + 1) (omega arith) (omega arith)) below
+    (run_to q eps (v (k + 1)) e right (bent_before q v t last e (k + 1) hull (omega arith) (omega (arith, tangent.inside))) inside)
+    (less_before q eps v t last e at right inside hull tangent gap (k + 1) (omega arith) (omega arith)) below
 
-least_vertex : (q : Points) (eps s : ℕ) (v : ℕ → ℕ) (t last e at k : ℕ) → RiseRight q → e < q.count → IsUpperHull q eps s v t last e → IsTangent q eps v t last e at →
+least_vertex : (q : Points) (eps : ℕ) (v : ℕ → ℕ) (t last e at k : ℕ) → RiseRight q → e < q.count → IsBent q v t last e → IsTangent q eps v t last e at →
     t ≤ k → k ≤ last → IsAtMost (steep_slope q eps (v at) e) (steep_slope q eps (v k) e)
-least_vertex q eps s v t last e at k right inside hull tangent from within = elim (cases_lt k at) [
-  | inl before ↦ less_before q eps s v t last e at right inside hull tangent (at - k) k (omega arith) from
-  | inr on ↦ least_on q eps s v t last e at right inside hull tangent (k - at) k (omega arith) within
+least_vertex q eps v t last e at k right inside hull tangent from within = elim (cases_lt k at) [
+  | inl before ↦ less_before q eps v t last e at right inside hull tangent (at - k) k (omega arith) from
+  | inr on ↦ least_on q eps v t last e at right inside hull tangent (k - at) k (omega arith) within
 ]
 
-strictly_before : (q : Points) (eps s : ℕ) (v : ℕ → ℕ) (t last e at k : ℕ) → RiseRight q → e < q.count → IsUpperHull q eps s v t last e → IsTangent q eps v t last e at →
+strictly_before : (q : Points) (eps : ℕ) (v : ℕ → ℕ) (t last e at k : ℕ) → RiseRight q → e < q.count → IsBent q v t last e → IsTangent q eps v t last e at →
     t ≤ k → k < at → IsAtMost (steep_slope q eps (v k) e) (steep_slope q eps (v at) e) → ⊥
-strictly_before q eps s v t last e at k right inside hull tangent from before most =
+strictly_before q eps v t last e at k right inside hull tangent from before most =
     tangent.falls k from before
     (IsAtMost-trans (steep_slope q eps (v k) e) (steep_slope q eps (v at) e) (steep_slope q eps (v (k + 1)) e)
-    (run_to q eps (v at) e right (place_before q eps s v t last e at hull tangent.onward tangent.inside) inside) most
-    (less_before q eps s v t last e at right inside hull tangent (at - (k + 1)) (k + 1) (omega arith) (omega arith)))
+    (run_to q eps (v at) e right (bent_before q v t last e at hull tangent.onward tangent.inside) inside) most
+    (less_before q eps v t last e at right inside hull tangent (at - (k + 1)) (k + 1) (omega arith) (omega arith)))
 
 -- the first vertex lies under the hull
-pub first_under : (q : Points) (eps s : ℕ) (v : ℕ → ℕ) (t last e : ℕ) → IsUpperHull q eps s v t last e → IsUnderHull q v t last (v t)
-first_under q eps s v t last e hull = elim (cases_lt t last) [
+pub first_under : (q : Points) (v : ℕ → ℕ) (t last e : ℕ) → IsBent q v t last e → IsUnderHull q v t last (v t)
+first_under q v t last e hull = elim (cases_lt t last) [
   | inl more ↦ inr (t, omega arith, more, omega arith, hull.rise t (omega arith) more, record { under = omega arith })
   | inr only ↦ let same : t ≡ last = omega (arith, hull.some) in inl (ap v same)
 ]
 
 -- the tangent's slope is at most that of each point under the hull
-pub least_under_hull : (q : Points) (eps s : ℕ) (v : ℕ → ℕ) (t last e at c : ℕ) → RiseRight q → e < q.count → IsUpperHull q eps s v t last e → IsTangent q eps v t last e at →
+pub least_under_hull : (q : Points) (eps : ℕ) (v : ℕ → ℕ) (t last e at c : ℕ) → RiseRight q → e < q.count → IsBent q v t last e → IsTangent q eps v t last e at →
     IsUnderHull q v t last c → IsAtMost (steep_slope q eps (v at) e) (steep_slope q eps c e)
-least_under_hull q eps s v t last e at c right inside hull tangent under = elim under [
-  | inl end ↦ rw end (least_vertex q eps s v t last e at last right inside hull tangent hull.some (omega arith))
+least_under_hull q eps v t last e at c right inside hull tangent under = elim under [
+  | inl end ↦ rw end (least_vertex q eps v t last e at last right inside hull tangent hull.some (omega arith))
   | inr edge ↦
       let k = edge.0 in
-      at_most-chord q eps (v k) c (v (k + 1)) e (steep_slope q eps (v at) e) right edge.3 edge.4 (place_before q eps s v t last e (k + 1) hull (omega (arith, edge.1)) (omega (arith, edge.2))) inside edge.5
-      (least_vertex q eps s v t last e at k right inside hull tangent edge.1 (omega (arith, edge.2)))
-      (least_vertex q eps s v t last e at (k + 1) right inside hull tangent (omega (arith, edge.1)) (omega (arith, edge.2)))
+      at_most-chord q eps (v k) c (v (k + 1)) e (steep_slope q eps (v at) e) right edge.3 edge.4 (bent_before q v t last e (k + 1) hull (omega (arith, edge.1)) (omega (arith, edge.2))) inside edge.5
+      (least_vertex q eps v t last e at k right inside hull tangent edge.1 (omega (arith, edge.2)))
+      (least_vertex q eps v t last e at (k + 1) right inside hull tangent (omega (arith, edge.1)) (omega (arith, edge.2)))
 ]
 
 -- and less than that of each point under it before the tangent's place
-pub less_under_hull : (q : Points) (eps s : ℕ) (v : ℕ → ℕ) (t last e at c : ℕ) → RiseRight q → e < q.count → IsUpperHull q eps s v t last e → IsTangent q eps v t last e at →
+pub less_under_hull : (q : Points) (eps : ℕ) (v : ℕ → ℕ) (t last e at c : ℕ) → RiseRight q → e < q.count → IsBent q v t last e → IsTangent q eps v t last e at →
     IsUnderHull q v t last c → c < v at → IsAtMost (steep_slope q eps c e) (steep_slope q eps (v at) e) → ⊥
-less_under_hull q eps s v t last e at c right inside hull tangent under before most = elim under [
-  | inl end ↦ omega (arith, place_rises q eps s v t last e at last hull tangent.onward tangent.inside (omega arith))
+less_under_hull q eps v t last e at c right inside hull tangent under before most = elim under [
+  | inl end ↦ omega (arith, bent_rises q v t last e at last hull tangent.onward tangent.inside (omega arith))
   | inr edge ↦
       let k = edge.0 in
       elim (cases_lt k at) [
-        | inl early ↦ less-chord q eps (v k) c (v (k + 1)) e (steep_slope q eps (v at) e) right edge.3 edge.4 (place_before q eps s v t last e (k + 1) hull (omega (arith, edge.1)) (omega (arith, edge.2))) inside edge.5
-            (strictly_before q eps s v t last e at k right inside hull tangent edge.1 early)
-            (least_vertex q eps s v t last e at (k + 1) right inside hull tangent (omega (arith, edge.1)) (omega (arith, edge.2))) most
-        | inr late ↦ omega (arith, edge.3, place_rises q eps s v t last e at k hull tangent.onward late (omega (arith, edge.2)))
+        | inl early ↦ less-chord q eps (v k) c (v (k + 1)) e (steep_slope q eps (v at) e) right edge.3 edge.4 (bent_before q v t last e (k + 1) hull (omega (arith, edge.1)) (omega (arith, edge.2))) inside edge.5
+            (strictly_before q eps v t last e at k right inside hull tangent edge.1 early)
+            (least_vertex q eps v t last e at (k + 1) right inside hull tangent (omega (arith, edge.1)) (omega (arith, edge.2))) most
+        | inr late ↦ omega (arith, edge.3, bent_rises q v t last e at k hull tangent.onward late (omega (arith, edge.2)))
       ]
 ]
 
 -- a shadowed point has a place before it from which the slope to the new point is no greater
-pub shadow-from : (q : Points) (eps s j e : ℕ) → RiseRight q → j < e → e < q.count → IsFittable q eps s e → IsShadowed q eps s j →
-    (d : ℕ) × (s ≤ d) × (d < j) × IsAtMost (steep_slope q eps d e) (steep_slope q eps j e)
-shadow-from q eps s j e right before inside servable shadow =
+pub shadow-from : (q : Points) (eps s j e m : ℕ) → RiseRight q → j < e → e ≤ m → m < q.count → IsFittable q eps s e m → IsShadowed q eps s j →
+    (d : ℕ) × (s ≤ d) × (d < j) × IsAtMost (steep_slope q eps d m) (steep_slope q eps j m)
+shadow-from q eps s j e m right before further inside servable shadow =
     let c = shadow.0 in
     let d = shadow.1 in
     let pair = shadow.2 in
     let cd = right.rises c d pair.rises (omega (arith, pair.to_end)) in
     let dj = right.rises d j pair.to_end (omega arith) in
-    let je = right.rises j e before inside in
+    let je = right.rises j m (omega arith) inside in
     let g = q.x d - q.x c in
     let u = q.x j - q.x d in
-    let w = q.x e - q.x j in
+    let w = q.x m - q.x j in
     let cj : q.x j - q.x c ≡ g + u = omega arith in
-    let de : q.x e - q.x d ≡ u + w = omega arith in
+    let de : q.x m - q.x d ≡ u + w = omega arith in
     let falls = products_le-out (q.y j) (q.y c + 2 * eps) (q.x d - q.x c) (q.y d) (q.y c + 2 * eps) (q.x j - q.x c) shadow.3.at_most in
-    let onward = products_le-out (q.y d) (q.y c + 2 * eps) (q.x e - q.x d) (q.y e + 2 * eps) (q.y d) (q.x d - q.x c)
+    let onward = products_le-out (q.y d) (q.y c + 2 * eps) (q.x m - q.x d) (q.y m + 2 * eps) (q.y d) (q.x d - q.x c)
     (servable.not_under c d (record { from_start = pair.from_start; rises = pair.rises; to_end = omega (arith, pair.to_end) })).at_most in
     let first : q.y j * g + (q.y c + 2 * eps) * u ≤ q.y d * g + q.y d * u = omega (arith, rw cj at falls) in
-    let second : q.y d * (u + w) + q.y d * g ≤ (q.y e + 2 * eps) * g + (q.y c + 2 * eps) * (u + w) = omega (arith, rw de at onward) in
-    let behind = slope_behind (q.y c + 2 * eps) (q.y d) (q.y j) (q.y e + 2 * eps) g u w (omega arith) first second in (
+    let second : q.y d * (u + w) + q.y d * g ≤ (q.y m + 2 * eps) * g + (q.y c + 2 * eps) * (u + w) = omega (arith, rw de at onward) in
+    let behind = slope_behind (q.y c + 2 * eps) (q.y d) (q.y j) (q.y m + 2 * eps) g u w (omega arith) first second in (
       d,
       omega (arith, pair.from_start, pair.rises),
       pair.to_end,
-      record { at_most = products_le-in (q.y e + 2 * eps) (q.y d) (q.x e - q.x j) (q.y e + 2 * eps) (q.y j) (q.x e - q.x d) (rw de (omega (arith, behind))) },
+      record { at_most = products_le-in (q.y m + 2 * eps) (q.y d) (q.x m - q.x j) (q.y m + 2 * eps) (q.y j) (q.x m - q.x d) (rw de (omega (arith, behind))) },
     )

@@ -64,6 +64,10 @@ pub record IsHullOn (q : Points) (eps s hulled paired : ℕ) (vertices : List Ve
 abbrev pub lower_of : Hull → ℕ
 lower_of hull = (vertex_at hull.vertices.items hull.tangent).place
 
+-- the place of the last vertex
+abbrev pub last_of : Hull → ℕ
+last_of hull = (vertex_at hull.vertices.items (length hull.vertices.items - 1)).place
+
 -- how many vertices stand past the tangent's
 abbrev pub spare_of : Hull → ℕ
 spare_of hull = length hull.vertices.items - 1 - hull.tangent
@@ -82,6 +86,19 @@ pub record IsNextVertex (q : Points) (e : ℕ) (vertex : Vertex) : Type 0 where
   pub point : IsVertexOf q vertex
   pub low : vertex.height < 2 ^ 32
 
--- the place e lies under no pair of the run s..e
-pub record IsFittable (q : Points) (eps s e : ℕ) : Type 0 where
-  pub not_under : (c d : ℕ) → IsPair s e c d → IsAtMost (flat_slope q eps c d) (steep_slope q eps d e)
+-- the place m lies under no pair of the run s..e
+pub record IsFittable (q : Points) (eps s e m : ℕ) : Type 0 where
+  pub not_under : (c d : ℕ) → IsPair s e c d → IsAtMost (flat_slope q eps c d) (steep_slope q eps d m)
+
+-- what the places e - 1 and m ask of a line or of a slope, those between them ask as well, so that the run s..e may go on to the place m past them
+pub record IsPassed (q : Points) (eps s e m : ℕ) : Type 0 where
+  pub order : e ≤ m
+  pub under : (a : ℕ) (slope : Slope) → IsUnderLine q a slope (e - 1) → IsUnderLine q a slope m → (c : ℕ) → e ≤ c → c < m → IsUnderLine q a slope c
+  pub least : (slope : Slope) → ((c d : ℕ) → IsPair s e c d → IsAtMost slope (steep_slope q eps c d)) → ((c : ℕ) → s ≤ c → c < e → IsAtMost slope (steep_slope q eps c m)) →
+      (c d : ℕ) → IsPair s (m + 1) c d → e ≤ d → (d ≡ m → e ≤ c) → IsAtMost slope (steep_slope q eps c d)
+  pub less : (slope : Slope) → ((c d : ℕ) → IsPair s e c d → IsAtMost (steep_slope q eps c d) slope → ⊥) → ((c : ℕ) → s ≤ c → c < e → IsAtMost slope (steep_slope q eps c m)) →
+      (c d : ℕ) → IsPair s (m + 1) c d → e ≤ d → (d ≡ m → e ≤ c) → IsAtMost (steep_slope q eps c d) slope → ⊥
+
+-- the places e..m - 1 lie under the chord from the hull's last vertex to the place m
+abbrev pub AreSpanned : Points → Hull → ℕ → ℕ → Type 0
+AreSpanned q hull e m = (j : ℕ) → e ≤ j → j < m → IsUnderChord q (last_of hull) j m

@@ -1,5 +1,5 @@
 -- What two hulls stand for: a run of points, given place by place.
-use Rattle.std.specs.Prelude.{◌≡◌, ℕ, ◌+◌, ◌-◌, ◌^◌, ◌<◌, ◌≤◌, min, vec_capacity}
+use Rattle.std.specs.Prelude.{◌≡◌, ℕ, ◌+◌, ◌*◌, ◌-◌, ◌^◌, ◌<◌, ◌≤◌, min, vec_capacity}
 use Rattle.exact_cross.specs.declared.TheConstants.{MAX_EPSILON}
 use Rattle.exact_cross.specs.declared.segment.Witness.{Witness}
 use Rattle.exact_cross.specs.Points.{Points, IsAscending}
@@ -7,7 +7,7 @@ use Rattle.exact_cross.specs.Lines.{SomeLineFits}
 use Rattle.hulls.specs.declared.fitting.Hulls.{Hulls}
 use Rattle.hulls.specs.declared.fitting.Offer.{Offer}
 use Rattle.hulls.specs.declared.fitting.Offer.TheVariants.{Extended, Cut}
-use Rattle.hulls.specs.Hull.{IsHullOf, spare_of}
+use Rattle.hulls.specs.Hull.{IsHullOf, spare_of, last_of}
 
 -- what holds where the point was taken in, and what of the witness where it wasn't
 abbrev pub MatchOffer : Offer → Type 0 → (Witness → Type 0) → Type 0
@@ -41,6 +41,28 @@ pub record StandsFor (hulls : Hulls) (p : Points) (eps s e : ℕ) : Type 0 where
   pub fits : SomeLineFits p eps s e
   pub steep : IsHullOf p eps s e hulls.steep
   pub flat : IsHullOf (mirrored p) eps s e hulls.flat
+
+-- the places i..j are at even steps: from each to the next x rises by the same, and y climbs by the same and falls by the same
+pub record AreEven (p : Points) (i j : ℕ) : Type 0 where
+  pub step : ℕ
+  pub climb : ℕ
+  pub fall : ℕ
+  pub x : (k : ℕ) → i ≤ k → k ≤ j → p.x k ≡ p.x i + (k - i) * step
+  pub y : (k : ℕ) → i ≤ k → k ≤ j → p.y k + (k - i) * fall ≡ p.y i + (k - i) * climb
+
+-- the last place stands on both hulls
+pub record EndOn (hulls : Hulls) : Type 0 where
+  pub steep : last_of hulls.steep ≡ hulls.last
+  pub flat : last_of hulls.flat ≡ hulls.last
+
+-- the hulls stand for the run s..e, and the place m of the points, its next one or a later one that lies at even steps with all between and the run's last two, is (x, y)
+pub record IsAhead (hulls : Hulls) (p : Points) (eps s e m x y : ℕ) : Type 0 where
+  pub stands : StandsFor hulls p eps s e
+  pub order : e ≤ m
+  pub even : e < m → (s + 2 ≤ e) × AreEven p (e - 2) m
+  pub more : m < p.count
+  pub at_x : p.x m ≡ x
+  pub at_y : p.y m ≡ y
 
 -- they do, and the next place of the points is (x, y)
 pub record IsNext (hulls : Hulls) (p : Points) (eps s e x y : ℕ) : Type 0 where

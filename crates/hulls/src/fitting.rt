@@ -1,11 +1,12 @@
 // Fitting a line to a run of points that grows.
+ghost use Rattle.std.specs.Bool.{OnTrue, OnFalse};
 ghost use Rattle.std.specs.Prelude.{◌≡◌, ℕ, ◌+◌, ◌-◌, ◌*◌, ◌^◌, ◌<◌, ◌≤◌, IfOk};
 ghost use Rattle.exact_cross.specs.Points.{Points, IsAscending};
 ghost use Rattle.exact_cross.specs.Lines.{SomeLineFits};
 ghost use Rattle.exact_cross.specs.Steep.{IsSteepOf, line_of_pair};
 ghost use Rattle.exact_cross.specs.Cuts.{IsCutOf};
 ghost use Rattle.hulls.specs.Hulls.{MatchOffer, mirrored, bound_of, room_of, spare, StandsFor};
-ghost use Rattle.hulls.specs.Hulls.{IsNext};
+ghost use Rattle.hulls.specs.Hulls.{IsNext, IsAhead, EndOn};
 
 use crate::hull::Hull;
 use crate::vertex::Vertex;
@@ -97,8 +98,11 @@ impl Hulls {
     /// more as fewer points stand on the two hulls past the tangents afterwards (`spare`). So all
     /// points of a run together take at most 10 steps each. Takes no memory.
     ///
+    /// With `stays` the point is put on both hulls also where it needn't be, so that the run may go
+    /// on past what lies at even steps with it ([`extend_to`](Hulls::extend_to)).
+    ///
     /// Source: O'Rourke, CACM 24(9), 1981.
-    pub fn offer<L: Ledger>(&mut self, x: u64, y: u32, steps: &mut Steps<L>) -> Offer
+    pub fn offer<L: Ledger>(&mut self, x: u64, y: u32, stays: bool, steps: &mut Steps<L>) -> Offer
         requires { (p : Points) × (eps : ℕ) × (s : ℕ) × (e : ℕ) × IsNext self.old p eps s e x y ×
             (e < 2 ^ 32) × (e < s + room_of self.old) }
         ensures fits { MatchOffer result
@@ -113,6 +117,7 @@ impl Hulls {
         ensures witness { MatchOffer result (Unit {0})
             (λ w. (p : Points) (eps s e : ℕ) → IsNext self.old p eps s e x y →
             IsCutOf p eps s e w) }
+        ensures end { MatchOffer result (OnTrue stays (EndOn self.new)) (λ _. Unit {0}) }
         ensures cost { MatchOffer result
             (steps.new + spare self.new ≤ steps.old + spare self.old + 10)
             (λ _. steps.new ≤ steps.old + 2) }
@@ -136,15 +141,88 @@ impl Hulls {
         if self.flat.is_over(mirrored, steps) {
             return Offer::Cut(self.flat.cut_before(place, Side::Under));
         }
+        self.extend_to(place, x, y, stays, steps);
+        Offer::Extended
+    }
+
+    /// Whether some line fits the run with all up to the point `(x, y)` at `place`, exactly, where
+    /// what lies between is at even steps with it and the run's last two points.
+    ///
+    /// A line within `ε` of the run's last point and of this one is so between them. Takes at most
+    /// two steps and leaves the run as it is.
+    pub fn fits<L: Ledger>(&self, place: u32, x: u64, y: u32, steps: &mut Steps<L>) -> bool
+        requires { (p : Points) × (eps : ℕ) × (s : ℕ) × (e : ℕ) ×
+            IsAhead self.now p eps s e place x y }
+        ensures fits { OnTrue result ((p : Points) (eps s e : ℕ) →
+            IsAhead self.now p eps s e place x y → SomeLineFits p eps s (place + 1)) }
+        ensures fits_not { OnFalse result ((p : Points) (eps s e : ℕ) →
+            IsAhead self.now p eps s e place x y → SomeLineFits p eps s (place + 1) → ⊥) }
+        ensures cost { steps.new ≤ steps.old + 2 }
+    {
+        let point = Vertex {
+            x,
+            height: y,
+            place,
+        };
+        if self.steep.is_over(point, steps) {
+            return false;
+        }
+        let mirrored = Vertex {
+            x,
+            height: u32::MAX - y,
+            place,
+        };
+        if self.flat.is_over(mirrored, steps) {
+            return false;
+        }
+        true
+    }
+
+    /// Takes in the point `(x, y)` at `place` and all before it, which some line fits with the run,
+    /// where what lies between is at even steps with it and the run's last two points.
+    ///
+    /// Of these points this one alone is looked at: those between lie on the chord from the run's
+    /// last point, which stands on both hulls where there are any. Takes at most 8 steps, and as
+    /// many more as fewer points stand on the two hulls past the tangents afterwards. `stays` is as
+    /// in [`offer`](Hulls::offer).
+    #[inline(always)]
+    pub fn extend_to<L: Ledger>(
+        &mut self,
+        place: u32,
+        x: u64,
+        y: u32,
+        stays: bool,
+        steps: &mut Steps<L>,
+    )
+        requires ahead { (p : Points) × (eps : ℕ) × (s : ℕ) × (e : ℕ) ×
+            IsAhead self.old p eps s e place x y × SomeLineFits p eps s (place + 1) ×
+            (e < s + room_of self.old) }
+        requires end { self.old.last + 1 < place → EndOn self.old }
+        ensures stands { (p : Points) (eps s e : ℕ) → IsAhead self.old p eps s e place x y →
+            SomeLineFits p eps s (place + 1) → StandsFor self.new p eps s (place + 1) }
+        ensures end { OnTrue stays (EndOn self.new) }
+        ensures cost { steps.new + spare self.new ≤ steps.old + spare self.old + 8 }
+        ensures room { room_of self.old ≤ room_of self.new }
+        ensures bound { bound_of self.new ≡ bound_of self.old }
+    {
+        let point = Vertex {
+            x,
+            height: y,
+            place,
+        };
+        let mirrored = Vertex {
+            x,
+            height: u32::MAX - y,
+            place,
+        };
         let lift = 2 * self.eps;
         let falls = self.steep.turn_to(point, lift, steps);
         let rises = self.flat.turn_to(mirrored, lift, steps);
         // A point that leaves the flat line as it is can be no lower place of a later steep pair,
         // and the other way round.
-        self.steep.take_in(point, rises, steps);
-        self.flat.take_in(mirrored, falls, steps);
+        self.steep.take_in(point, rises | stays, steps);
+        self.flat.take_in(mirrored, falls | stays, steps);
         self.last = place;
-        Offer::Extended
     }
 
     /// The steep pair of the run and its line.

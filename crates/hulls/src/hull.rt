@@ -3,11 +3,11 @@ ghost use Rattle.std.specs.Prelude.{◌≡◌, ℕ, ◌+◌, ◌*◌, ◌-◌, �
 ghost use Rattle.std.specs.Prelude.{vec_capacity};
 ghost use Rattle.std.specs.Bool.{OnTrue, OnFalse};
 ghost use Rattle.exact_cross.specs.Points.{Points};
-ghost use Rattle.exact_cross.specs.Slopes.{IsAtMost, steep_slope};
 ghost use Rattle.hulls.specs.Slopes.{steepest};
 ghost use Rattle.hulls.specs.Vertices.{vertex_at};
 ghost use Rattle.hulls.specs.Hull.{IsHullOf, IsHullUpTo, IsFittable, IsShadowed, IsUnderLine};
 ghost use Rattle.hulls.specs.Hull.{IsNextVertex, IsVertexOf, lower_of, spare_of};
+ghost use Rattle.hulls.specs.Hull.{IsPassed, AreSpanned, last_of};
 
 use crate::search::{kept_before, tangent_to};
 use crate::slope::CountedSlope;
@@ -102,17 +102,19 @@ impl Hull {
         }
     }
 
-    /// Whether the next point lies above the line of the pair.
+    /// Whether a later point lies above the line of the pair.
     #[inline(always)]
     pub fn is_over<L: Ledger>(&self, next: Vertex, steps: &mut Steps<L>) -> bool
-        requires { (q : Points) × (eps : ℕ) × (s : ℕ) × (e : ℕ) × IsHullOf q eps s e self.now ×
-            IsNextVertex q e next }
+        requires { (q : Points) × (eps : ℕ) × (s : ℕ) × (e : ℕ) × (m : ℕ) × (e ≤ m) ×
+            IsHullOf q eps s e self.now × IsNextVertex q m next }
         ensures over { OnTrue result
-            ((q : Points) (eps s e : ℕ) → IsHullOf q eps s e self.now → IsNextVertex q e next
-            → IsUnderLine q (lower_of self.now) self.now.slope.slope e → ⊥) }
+            ((q : Points) (eps s e m : ℕ) → e ≤ m → IsHullOf q eps s e self.now →
+            IsNextVertex q m next
+            → IsUnderLine q (lower_of self.now) self.now.slope.slope m → ⊥) }
         ensures not_over { OnFalse result
-            ((q : Points) (eps s e : ℕ) → IsHullOf q eps s e self.now → IsNextVertex q e next
-            → IsUnderLine q (lower_of self.now) self.now.slope.slope e) }
+            ((q : Points) (eps s e m : ℕ) → e ≤ m → IsHullOf q eps s e self.now →
+            IsNextVertex q m next
+            → IsUnderLine q (lower_of self.now) self.now.slope.slope m) }
         ensures step { steps.new ≡ steps.old + 1 }
     {
         let low = self.vertices[self.tangent];
@@ -121,22 +123,20 @@ impl Hull {
             .is_below(&CountedSlope::between(low, next, 0), steps)
     }
 
-    /// Finds the pair of the run with the next point, which no pair of the run lies above or below
-    /// of, and says whether it is another one.
+    /// Finds the pair of the run that goes on to the point, which no pair of the run lies above or
+    /// below of, and says whether it is another one.
     ///
     /// `lift` is twice the error bound.
     #[inline(always)]
     pub fn turn_to<L: Ledger>(&mut self, next: Vertex, lift: u32, steps: &mut Steps<L>) -> bool
-        requires { (q : Points) × (eps : ℕ) × (s : ℕ) × (e : ℕ) × IsHullOf q eps s e self.old ×
-            IsNextVertex q e next × (lift ≡ 2 * eps) × (eps ≤ MAX_EPSILON) }
-        ensures pair { (q : Points) (eps s e : ℕ) → IsHullOf q eps s e self.old →
-            IsNextVertex q e next → lift ≡ 2 * eps → eps ≤ MAX_EPSILON
-            → IsFittable q eps s e → IsUnderLine q (lower_of self.old) self.old.slope.slope e →
-            IsHullUpTo q eps s e (e + 1) self.new }
-        ensures stays { OnFalse result
-            ((q : Points) (eps s e : ℕ) → IsHullOf q eps s e self.old → IsNextVertex q e next →
-            lift ≡ 2 * eps
-            → IsAtMost self.old.slope.slope (steep_slope q eps (lower_of self.old) e)) }
+        requires { (q : Points) × (eps : ℕ) × (s : ℕ) × (e : ℕ) × (m : ℕ) × (e ≤ m) ×
+            IsHullOf q eps s e self.old × IsNextVertex q m next × (lift ≡ 2 * eps) ×
+            (eps ≤ MAX_EPSILON) }
+        ensures pair { (q : Points) (eps s e m : ℕ) → IsHullOf q eps s e self.old →
+            IsPassed q eps s e m → IsNextVertex q m next → lift ≡ 2 * eps → eps ≤ MAX_EPSILON
+            → IsFittable q eps s e m → IsUnderLine q (lower_of self.old) self.old.slope.slope m →
+            IsHullUpTo q eps s e (m + 1) self.new }
+        ensures stays { OnFalse result (self.new ≡ self.old) }
         ensures cost { steps.new + spare_of self.new ≤ steps.old + spare_of self.old + 2 }
         ensures vertices { self.new.vertices ≡ self.old.vertices }
     {
@@ -154,12 +154,14 @@ impl Hull {
     /// Puts the next point on the hull, if it can be the lower place of a later pair.
     #[inline(always)]
     pub fn take_in<L: Ledger>(&mut self, next: Vertex, stands_out: bool, steps: &mut Steps<L>)
-        requires next { (q : Points) × (eps : ℕ) × (s : ℕ) × (e : ℕ) × IsHullUpTo q eps s e
-            (e + 1) self.old × IsNextVertex q e next }
+        requires next { (q : Points) × (eps : ℕ) × (s : ℕ) × (e : ℕ) × (m : ℕ) × (e ≤ m) ×
+            IsHullUpTo q eps s e (m + 1) self.old × IsNextVertex q m next }
         requires room { length self.old.vertices.items < vec_capacity self.old.vertices }
-        ensures hull { (q : Points) (eps s e : ℕ) → IsHullUpTo q eps s e (e + 1) self.old →
-            IsNextVertex q e next
-            → OnFalse stands_out (IsShadowed q eps s e) → IsHullOf q eps s (e + 1) self.new }
+        ensures hull { (q : Points) (eps s e m : ℕ) → e ≤ m → IsHullUpTo q eps s e (m + 1) self.old →
+            IsNextVertex q m next → AreSpanned q self.old e m
+            → OnFalse stands_out ((j : ℕ) → e ≤ j → j ≤ m → IsShadowed q eps s j)
+            → IsHullOf q eps s (m + 1) self.new }
+        ensures end { OnTrue stands_out (last_of self.new ≡ next.place) }
         ensures cost { steps.new + spare_of self.new ≤ steps.old + spare_of self.old + 2 }
         ensures capacity { vec_capacity self.old.vertices ≤ vec_capacity self.new.vertices }
     {
@@ -171,12 +173,14 @@ impl Hull {
     /// Puts the next point on the hull, and takes off what it covers.
     #[inline(never)]
     fn cover<L: Ledger>(&mut self, next: Vertex, steps: &mut Steps<L>)
-        requires next { (q : Points) × (eps : ℕ) × (s : ℕ) × (e : ℕ) × IsHullUpTo q eps s e
-            (e + 1) self.old × IsNextVertex q e next }
+        requires next { (q : Points) × (eps : ℕ) × (s : ℕ) × (e : ℕ) × (m : ℕ) × (e ≤ m) ×
+            IsHullUpTo q eps s e (m + 1) self.old × IsNextVertex q m next }
         requires room { length self.old.vertices.items < vec_capacity self.old.vertices }
-        ensures hull { (q : Points) (eps s e : ℕ) → IsHullUpTo q eps s e (e + 1) self.old →
-            IsNextVertex q e next → IsHullOf q eps s (e + 1) self.new }
+        ensures hull { (q : Points) (eps s e m : ℕ) → e ≤ m → IsHullUpTo q eps s e (m + 1) self.old →
+            IsNextVertex q m next → AreSpanned q self.old e m → IsHullOf q eps s (m + 1) self.new }
+        ensures end { last_of self.new ≡ next.place }
         ensures tangent { self.new.tangent ≡ self.old.tangent }
+        ensures inside { self.new.tangent < length self.new.vertices.items }
         ensures cost { steps.new + length self.new.vertices.items
             ≤ steps.old + length self.old.vertices.items + 2 }
         ensures capacity { vec_capacity self.old.vertices ≤ vec_capacity self.new.vertices }

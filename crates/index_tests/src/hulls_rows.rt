@@ -32,7 +32,7 @@ fn fit<L: Ledger>(
     let mut hulls = Hulls::new(alloc, eps, len)?;
     hulls.start(0, xs[0], ys[0]);
     for place in 1..len {
-        let offer = hulls.offer(xs[place as usize], ys[place as usize], &mut steps);
+        let offer = hulls.offer(xs[place as usize], ys[place as usize], false, &mut steps);
         if let Offer::Cut(witness) = offer {
             return Ok((place, Some(witness), hulls.line()));
         }

@@ -1,4 +1,5 @@
 pub mod LeastLemmas
 pub mod Runs
+pub mod Stretched
 pub mod SegmentsExist
 pub mod WholeLemmas
