@@ -147,9 +147,10 @@ def digits(text, starts, ends):
 
 
 def scanned(cells):
-    """Digits without their point and sign, as one number; how many stand behind the point; whether a
-    minus stands in front; how many digits there are; and whether that is all and below 2^64."""
-    made = [numpy.zeros(len(cells), it) for it in (numpy.uint64, numpy.int64, bool, numpy.int64, bool)]
+    """Digits without their point and sign, as one number; how many stand behind the point; whether
+    a minus stands in front; how many digits there are; and whether that is all and below 2^64."""
+    kinds = numpy.uint64, numpy.int64, bool, numpy.int64, bool
+    made = [numpy.zeros(len(cells), it) for it in kinds]
     points = numpy.flatnonzero(cells.text.bytes == 46)
     for part, block in cells.blocks():
         for whole, of_block in zip(made, scanned_block(block, points)):
@@ -226,11 +227,12 @@ def has_point(cells, where):
     places = numpy.flatnonzero(cells.text.bytes == 46)
     if not len(places):
         return numpy.zeros(len(cells), bool)
-    return where & (numpy.searchsorted(places, cells.starts) < numpy.searchsorted(places, cells.ends))
+    first, last = (numpy.searchsorted(places, it) for it in (cells.starts, cells.ends))
+    return where & (first < last)
 
 
 def floats(_, cells):
-    """A double of at most 15 digits is their whole number, divided by a power of ten, rounded once."""
+    """A double of at most 15 digits is their whole number by a power of ten, rounded once."""
     value, places, negative, count, good = scanned(cells)
     good &= count <= 15
     power = POWERS[numpy.clip(places, 0, DIGITS - 1)].astype(numpy.float64)
@@ -317,7 +319,8 @@ def clock_block(of, cells, middle, length):
     good &= (hour < 24) & (minute < 60) & (second < 60) & (length >= 19)
     zoned = cells.text.eight(cells.ends - 1) & u64(255) == 90
     places = length - zoned - 20
-    good &= (places == -1) | (tail >> u64(24) & u64(255) == 46) & (places >= 1) & (places <= of.places)
+    has_part = (tail >> u64(24) & u64(255) == 46) & (places >= 1) & (places <= of.places)
+    good &= (places == -1) | has_part
     places = numpy.clip(numpy.where(good, places, 0), 0, of.places)
     part, right = digits(cells.text, cells.starts + 20, cells.starts + 20 + places)
     part = part.astype(numpy.int64) * POWERS.astype(numpy.int64)[of.places - places]

@@ -1,8 +1,8 @@
 """What `keys.py` makes keys of, and back: each map keeps the order of what it takes.
 
 A map's `key` gives the key of one cell of a text, exactly, or raises `Refused` with the option that
-would help; `back` gives the value of a key, as a text. `key_columns.py` makes the same keys of whole
-columns.
+would help; `back` gives the value of a key, as a text. `key_columns.py` makes the same keys of
+whole columns.
 """
 import datetime
 import decimal
@@ -158,7 +158,8 @@ class Times:
         found = TIME.fullmatch(cell)
         if not found:
             helps = ": --scale takes decimals" if NUMBER.fullmatch(cell) else ""
-            raise Refused(f"{shown(cell)} is no date as 2026-02-28 or 2026-02-28T23:59:59.5Z{helps}")
+            raise Refused(f"{shown(cell)} is no date as 2026-02-28 or 2026-02-28T23:59:59.5Z"
+                          + helps)
         year, month, day, hour, minute, second = (int(it or 0) for it in found.groups()[:6])
         part, zone = (found[7] or "").rstrip("0"), found[8]
         try:
@@ -176,7 +177,8 @@ class Times:
             if hours > 23 or minutes > 59:
                 raise Refused(f"{shown(cell)} is no date: there is no such zone")
             seconds -= (hours * 3600 + minutes * 60) * (-1 if zone[0] == "-" else 1)
-        return self.counted(cell, seconds * 10 ** self.places + int(part.ljust(self.places, "0") or 0))
+        part = int(part.ljust(self.places, "0"))
+        return self.counted(cell, seconds * 10 ** self.places + part)
 
     def counted(self, cell, since_1970):
         if not 0 <= since_1970 + self.offset < self.below:

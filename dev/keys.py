@@ -25,18 +25,19 @@ What isn't such a number is made one by a map that keeps the order:
 
 The other options:
 
-    --column C        of a table or a CSV file the column C: its name, which is in a CSV file's first
-                      line, or, where no line has names, which column, from 1 on
+    --column C        of a table or a CSV file the column C: its name, which is in a CSV file's
+                      first line, or, where no line has names, which column, from 1 on
     --separator S     what stands between the cells of a CSV file, and not a comma; with --column
                       also of a file that has another name
-    --skip-empty      leaves out rows with an empty cell, or one that says NaN, NA, NaT, null or None
+    --skip-empty      leaves out rows with an empty cell, or one that says NaN, NA, NaT, null or
+                      None
     --narrow          keys of 4 bytes, for --narrow of `pgmtool`
     --points          points for `box` and `near`, in the order in which they come: 2 to 4 numbers a
                       line, as many --column, or an array of so many columns; each below 2^32, 2^21
                       or 2^16, as they are 2, 3 or 4
     --rows ROWS       writes a text with a line for each key, in their order: the key, and the row
-                      that it comes from. For points the code and the row, by rising code. Equal ones
-                      stand in the order of their rows. Rows are lines of a text or a CSV file,
+                      that it comes from. For points the code and the row, by rising code. Equal
+                      ones stand in the order of their rows. Rows are lines of a text or a CSV file,
                       counted from 1, and those of an array or a table from 0
 
 Tells each row that is wrong on standard error, with the option that would help, and then writes
@@ -100,7 +101,7 @@ def need(module, what):
                 sys.stdout.flush()
                 os.execve(python, [python, *sys.argv], {**os.environ, AGAIN: "1"})
     raise Wrong(f"{what} wants {module}, which none of these has: {', '.join(tried)}. Install it, "
-                f"as by `apt-get install python3-{module}`, or call this with a python3 that has it")
+                f"as by `apt-get install python3-{module}`, or call this by a python3 that has it")
 
 
 def bytes_of(name):
@@ -155,7 +156,8 @@ def read_csv(name, columns, separator):
     if fast and b'"' not in data:
         cells, rows, short = fast.fields(fast.Text(data), separator, places)
         if has_names:
-            cells, rows, short = [it.take(slice(1, None)) for it in cells], rows[1:], short[short > 0] - 1
+            cells = [it.take(slice(1, None)) for it in cells]
+            rows, short = rows[1:], short[short > 0] - 1
         if len(short):
             raise Wrong(f"{name}:{rows[short[0]]}: no column {max(places) + 1}")
         return Source(name, cells, rows, True)
@@ -255,8 +257,8 @@ def mapped_array(of, values):
 def mapped(of, column):
     """The keys of a column, which cells are empty, and what is wrong with others."""
     if isinstance(column, list):
-        keys, rest, cell = array.array("Q", bytes(8 * len(column))), range(len(column)), column.__getitem__
-        zoned = bytearray(len(column))
+        keys, rest = array.array("Q", bytes(8 * len(column))), range(len(column))
+        cell, zoned = column.__getitem__, bytearray(len(column))
     else:
         fast = numpy_or_none()
         if isinstance(column, fast.Cells):
@@ -340,7 +342,8 @@ def codes(columns):
     for place, column in enumerate(columns):
         column = numpy.asarray(column, numpy.uint64)
         for bit in range(bits):
-            made |= (column >> numpy.uint64(bit) & numpy.uint64(1)) << numpy.uint64(bit * width + place)
+            is_set = column >> numpy.uint64(bit) & numpy.uint64(1)
+            made |= is_set << numpy.uint64(bit * width + place)
     return made
 
 
@@ -420,8 +423,9 @@ def translate(given):
 
 
 def words():
-    asked = argparse.ArgumentParser(description=__doc__, usage=argparse.SUPPRESS, allow_abbrev=False,
-                                    formatter_class=argparse.RawDescriptionHelpFormatter)
+    asked = argparse.ArgumentParser(
+        description=__doc__, usage=argparse.SUPPRESS, allow_abbrev=False,
+        formatter_class=argparse.RawDescriptionHelpFormatter)
     for name in ("numbers", "file"):
         asked.add_argument(name, nargs="?")
     asked.add_argument("--column", action="append", default=[])
@@ -429,13 +433,15 @@ def words():
         asked.add_argument(option)
     for option in ("--scale", "--offset"):
         asked.add_argument(option, type=int)
-    for flag in ("narrow", "points", "skip-empty", "signed", "float", "time", "nanoseconds", "prefix"):
+    for flag in ("narrow", "points", "skip-empty",
+                 "signed", "float", "time", "nanoseconds", "prefix"):
         asked.add_argument(f"--{flag}", action="store_true")
     # Behind --key and --back all words are values, also those with a hyphen in front.
     said = sys.argv[1:]
     cut = next((at for at, word in enumerate(said) if word in ("--key", "--back")), len(said))
     given = asked.parse_intermixed_args(said[:cut])
-    given.key, given.back = (said[cut + 1:] if said[cut:cut + 1] == [it] else None for it in ("--key", "--back"))
+    given.key, given.back = (said[cut + 1:] if said[cut:cut + 1] == [it] else None
+                             for it in ("--key", "--back"))
     refuse_words(asked, given)
     return given
 
@@ -444,9 +450,10 @@ def refuse_words(asked, given):
     kinds = [given.float, given.time or given.nanoseconds, given.prefix,
              given.signed or given.scale is not None or given.offset is not None]
     if sum(kinds) > 1 or (given.signed and given.offset is not None):
-        asked.error("one map is taken: --float, --time, --prefix, or --scale with --signed or --offset")
+        asked.error("one map is taken: --float, --time, --prefix, or --scale with --signed or "
+                    "--offset")
     if any(kinds[:3]) and (given.narrow or given.points):
-        asked.error("--float, --time and --prefix make keys of 8 bytes: no --narrow and no --points")
+        asked.error("--float, --time and --prefix make keys of 8 bytes: no --narrow, no --points")
     if given.scale is not None and not 0 < given.scale < 1 << 64:
         asked.error("--scale wants a whole number from 1 to 2^64 - 1")
     if given.points and given.narrow:
@@ -459,7 +466,8 @@ def refuse_words(asked, given):
         asked.error("NUMBERS and FILE are wanted")
     ending = os.path.splitext(given.numbers)[1].lower()
     if ending == ".npz":
-        asked.error(f"{given.numbers} is an archive of arrays (.npz): save one of them by numpy.save")
+        asked.error(f"{given.numbers} is an archive of arrays (.npz): save one of them by "
+                    "numpy.save")
     given.kind = "npy" if ending == ".npy" else "parquet" if ending == ".parquet" else (
         "csv" if ending in SEPARATORS or given.column else "text")
     given.separator = given.separator or SEPARATORS.get(ending, ",")
@@ -467,7 +475,8 @@ def refuse_words(asked, given):
         asked.error("--separator wants one character")
     if given.column and given.kind == "npy" or "0" in given.column:
         asked.error("--column is for a CSV file or a table, and counts from 1")
-    if given.kind in ("csv", "parquet") and len(given.column) not in (COORDINATES if given.points else (1,)):
+    wanted = COORDINATES if given.points else (1,)
+    if given.kind in ("csv", "parquet") and len(given.column) not in wanted:
         asked.error("a CSV file and a table want --column for each number")
 
 

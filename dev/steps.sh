@@ -1,5 +1,5 @@
-# What `pgmtool` and `examples/install.sh` say of their steps: sourced by both. How a long one goes is
-# one line on standard error, where that is a terminal; elsewhere it isn't written.
+# What `pgmtool` and `examples/install.sh` say of their steps: sourced by both. How a long one goes
+# is one line on standard error, where that is a terminal; elsewhere it isn't written.
 
 # What wipes that line, for those who write others between.
 wipe=
