@@ -96,6 +96,25 @@ def lines(text):
     return starts, ends
 
 
+def words(text):
+    """Columns of the words of a text, which blanks and commas divide, without lines that begin with
+    #; the number of each line; and of the first line that has another number of words than the
+    first one its number and how many."""
+    is_blank = numpy.zeros(256, bool)
+    is_blank[[9, 10, 11, 12, 13, 32, 44]] = True
+    edges = numpy.flatnonzero(numpy.diff(is_blank[text.bytes], prepend=True, append=True))
+    cells = Cells(text, edges[::2], edges[1::2])
+    of_line = numpy.searchsorted(numpy.flatnonzero(text.bytes == 10), cells.starts)
+    lines, first, counts = numpy.unique(of_line, return_index=True, return_counts=True)
+    kept = cells.take(first).heads() != ord("#")
+    cells = cells.take(numpy.flatnonzero(numpy.repeat(kept, counts)))
+    lines, counts = lines[kept] + 1, counts[kept]
+    width = int(counts[0]) if len(counts) else 2
+    odd = numpy.flatnonzero(counts != width)
+    odd = (int(lines[odd[0]]), int(counts[odd[0]])) if len(odd) else None
+    return [cells.take(slice(it, None, width)) for it in range(width)], lines, odd
+
+
 def fields(text, separator, columns):
     """The cells of some columns of a text without quotes, and the number of each line that they are
     of; and which of these lines are too short."""

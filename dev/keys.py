@@ -64,6 +64,8 @@ COORDINATES = {2: 1 << 32, 3: 1 << 21, 4: 1 << 16}
 BOM = b"\xef\xbb\xbf"
 SEPARATORS = {".csv": ",", ".tsv": "\t", ".tab": "\t"}
 AGAIN = "KEYS_PY_AGAIN"
+# A text of more bytes is worth another interpreter, if that has numpy.
+LARGE = 1 << 20
 
 
 class Wrong(Exception):
@@ -86,20 +88,26 @@ def numpy_or_none():
     return importlib.import_module("key_columns") if importlib.util.find_spec("numpy") else None
 
 
-def need(module, what):
-    """Goes on with an interpreter that has a module, where this one lacks it; says so where none
-    has it."""
-    if importlib.util.find_spec(module):
-        return
+def go_on_with(module):
+    """Goes on with an interpreter that has a module, where this one lacks it and another is found;
+    gives those that were tried."""
     tried = [sys.executable]
+    if importlib.util.find_spec(module) or AGAIN in os.environ:
+        return tried
     for folder in [*os.environ.get("PATH", "").split(os.pathsep), "/usr/bin"]:
         python = shutil.which("python3", path=folder)
-        if python and python not in tried and AGAIN not in os.environ:
+        if python and python not in tried:
             tried.append(python)
             ran = subprocess.run([python, "-c", f"import {module}"], stderr=subprocess.DEVNULL)
             if ran.returncode == 0:
-                sys.stdout.flush()
                 os.execve(python, [python, *sys.argv], {**os.environ, AGAIN: "1"})
+    return tried
+
+
+def need(module, what):
+    tried = go_on_with(module)
+    if importlib.util.find_spec(module):
+        return
     raise Wrong(f"{what} wants {module}, which none of these has: {', '.join(tried)}. Install it, "
                 f"as by `apt-get install python3-{module}`, or call this by a python3 that has it")
 
@@ -109,8 +117,12 @@ def bytes_of(name):
     if name == "-":
         data = sys.stdin.buffer.read()
     else:
+        if os.path.getsize(name) > LARGE:
+            go_on_with("numpy")
         with open(name, "rb") as file:
             data = file.read()
+    if data[:2] in (b"\xff\xfe", b"\xfe\xff"):
+        raise Wrong(f"{name}: a text in UTF-16: have it written in UTF-8")
     return data[len(BOM):] if data.startswith(BOM) else data
 
 
@@ -121,7 +133,12 @@ def text_of(data):
 def read_text(name, is_points):
     """A text: a cell a line, or for points a cell a word."""
     data, fast = bytes_of(name), numpy_or_none()
-    if fast and not is_points:
+    if fast and is_points:
+        columns, rows, odd = fast.words(fast.Text(data))
+        if odd is not None:
+            raise Wrong(f"{name}:{odd[0]}: {odd[1]} numbers in place of {len(columns)}")
+        return Source(name, columns, rows, True)
+    if fast:
         text = fast.Text(data)
         cells = fast.Cells(text, *fast.lines(text)).stripped()
         kept = fast.numpy.flatnonzero((cells.starts < cells.ends) & (cells.heads() != ord("#")))
@@ -151,9 +168,11 @@ def places_of(columns, head, name):
 
 def read_csv(name, columns, separator):
     data, fast = bytes_of(name), numpy_or_none()
-    first = next(csv.reader(io.StringIO(text_of(data[:1 << 20])), delimiter=separator), [])
+    head = io.StringIO(text_of(data[:LARGE]), newline="")
+    first = next(csv.reader(head, delimiter=separator), [])
     places, has_names = places_of(columns, first, name)
-    if fast and b'"' not in data:
+    # Lines may end with a carriage return alone.
+    if fast and b'"' not in data and (b"\n" in data or b"\r" not in data):
         cells, rows, short = fast.fields(fast.Text(data), separator, places)
         if has_names:
             cells = [it.take(slice(1, None)) for it in cells]
@@ -507,7 +526,7 @@ def main():
     given = words()
     try:
         translate(given) if given.key is not None or given.back is not None else make(given)
-    except (OSError, Wrong, Refused) as wrong:
+    except (OSError, csv.Error, Wrong, Refused) as wrong:
         print(f"keys.py: {wrong}", file=sys.stderr)
         return 1
     return 0
