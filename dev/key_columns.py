@@ -54,7 +54,9 @@ class Cells:
         blank = numpy.zeros(256, bool)
         blank[[9, 10, 11, 12, 13, 32]] = True
         for move, first in ((1, starts), (-1, ends)):
-            at = numpy.flatnonzero(starts < ends)
+            # Where a blank may be: most cells have none.
+            byte = self.text.eight(first - (move < 0)) & u64(255)
+            at = numpy.flatnonzero((byte <= 32) & (starts < ends))
             while len(at):
                 at = at[blank[data[first[at] - (move < 0)]]]
                 first[at] += move

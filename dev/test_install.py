@@ -121,7 +121,7 @@ class Install(unittest.TestCase):
         (self.room / "bin/rt").unlink()
         ran = self.run_it("there", PATH=f"{self.room}/bin:/usr/bin:/bin")
         self.assertEqual(ran.returncode, 1)
-        self.assertIn("kuldebiq: there is no `rt` on the PATH. It is the tool of the Rattle kit", ran.stderr)
+        self.assertIn("kuldebiq: there is no `rt` on the PATH. It is the tool of the Rattle", ran.stderr)
 
     def test_a_terminal_shows_how_far_it_is(self):
         master, slave = pty.openpty()

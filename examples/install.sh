@@ -4,11 +4,11 @@
 #     examples/install.sh PREFIX
 #     cc walk.c $(PKG_CONFIG_PATH=PREFIX/lib/pkgconfig pkg-config --cflags --libs kuldebiq)
 #
-# PREFIX/lib/libkuldebiq.a with the three functions of memory inside, PREFIX/lib/libkuldebiq.so, which
-# exports the calls alone, PREFIX/include/kuldebiq.h, and PREFIX/lib/pkgconfig/kuldebiq.pc. With
-# DESTDIR in the environment the files go under DESTDIR/PREFIX and name PREFIX alone. The crates
-# below are proved first, where that wasn't done on this machine: the kit makes no static library of
-# sources that aren't proved. Each is told on standard error as it is done.
+# PREFIX/lib/libkuldebiq.a with the three functions of memory inside, PREFIX/lib/libkuldebiq.so,
+# which exports the calls alone, PREFIX/include/kuldebiq.h, and PREFIX/lib/pkgconfig/kuldebiq.pc.
+# With DESTDIR in the environment the files go under DESTDIR/PREFIX and name PREFIX alone. The
+# crates below are proved first, where that wasn't done on this machine: the kit makes no static
+# library of sources that aren't proved. Each is told on standard error as it is done.
 set -eu
 if [ $# -ne 1 ]; then
     echo 'usage: [DESTDIR=FOLDER] examples/install.sh PREFIX' >&2
@@ -67,9 +67,9 @@ side_so_far() {
 }
 
 # Has `rt` prove side by side, in a copy, the crates below that don't stand on `levels`: those that
-# do stand on one another in a row, and get all processors from `rt lib`, which takes one crate after
-# the other. A crate of the copy's own names them, so that each is built. What is kept of them is
-# then taken here; what wasn't proved there, `rt lib` proves.
+# do stand on one another in a row, and get all processors from `rt lib`, which takes one crate
+# after the other. A crate of the copy's own names them, so that each is built. What is kept of them
+# is then taken here; what wasn't proved there, `rt lib` proves.
 prove_side_by_side() {
     local jobs copy=$made/copy name part wanted=()
     jobs=$(at_once)
@@ -92,7 +92,8 @@ prove_side_by_side() {
         grep "^${name}[ :]" crates.txt
     done >"$copy/crates.txt"
     echo "side_by_side: ${wanted[*]}" >>"$copy/crates.txt"
-    told "$made/side" "$copy" "all check --jobs $jobs" side_so_far "$made/side" "${#wanted[@]}" || true
+    told "$made/side" "$copy" "all check --jobs $jobs" \
+        side_so_far "$made/side" "${#wanted[@]}" || true
     for name in "${wanted[@]}"; do
         for part in rlib incremental; do
             if [ -d "$copy/crates/$name/out/$part" ] && [ ! -e "crates/$name/out/$part" ]; then
