@@ -297,7 +297,7 @@ def mapped(of, column):
         try:
             keys[index] = of.key(text)
         except Refused as why:
-            wrong.append((index, str(why)))
+            wrong.append((index, why))
         if isinstance(of, key_maps.Times):
             zoned[index] = of.has_zone
     return keys, empty, wrong, zoned
@@ -331,7 +331,9 @@ def made_of(source, of, skips):
         print(f"{source.place(index)}: {wrong[index]}", file=sys.stderr)
     if wrong:
         more = f", of which {TOLD} are told" if len(wrong) > TOLD else ""
-        raise Wrong(f"{len(wrong)} wrong in all{more}; nothing was written")
+        scales = [getattr(why, "scale", None) for why in wrong.values()]
+        helps = f"; --scale {max(scales)} takes them all" if len(scales) > 1 and all(scales) else ""
+        raise Wrong(f"{len(wrong)} wrong in all{more}; nothing was written{helps}")
     rows = source.rows
     if empty:
         columns = [without(it, empty) for it in columns]

@@ -155,6 +155,13 @@ class Plain(unittest.TestCase):
                 ("1_000", None, "`1_000` is no number"), ("１", None, "`１` is no number")]:
             self.assertIn(said, self.refused("t", text, *(["--scale", scale] if scale else [])))
 
+    def test_one_scale_for_all(self):
+        said = self.refused("t", "9.99\n12.50\n0.0\n7\n")
+        self.assertIn("t:2: `12.50` is no whole number: --scale 10 takes it", said)
+        self.assertIn("t:3: `0.0` is no whole number: --scale 1 takes it", said)
+        self.assertIn("3 wrong in all; nothing was written; --scale 100 takes them all", said)
+        self.assertNotIn("them all", self.refused("t", "9.99\nx\n"))
+
     def test_doubles(self):
         below = lambda bits: MOST ^ bits
         self.assertEqual(
@@ -336,7 +343,8 @@ class Fast(Plain):
         check = ("import sys; sys.path.insert(0, sys.argv[1]); import key_maps, keys; of = "
                  "key_maps.%s; found = keys.mapped(of, keys.read_csv('a.csv', ['c'], ',').columns[0]); "
                  "bad = {i for i, _ in found[1] + found[2]}; "
-                 "print([None if i in bad else int(k) for i, k in enumerate(found[0])]); print(found[1:3])")
+                 "print([None if i in bad else int(k) for i, k in enumerate(found[0])]); "
+                 "print(found[1], [(i, str(why)) for i, why in found[2]])")
         below = 1 << (32 if "--narrow" in words else 64)
         scale = int(words[words.index("--scale") + 1]) if "--scale" in words else None
         offset = below // 2 if "--signed" in words else 9 if "--offset" in words else 0
