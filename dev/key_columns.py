@@ -54,7 +54,9 @@ class Cells:
         blank = numpy.zeros(256, bool)
         blank[[9, 10, 11, 12, 13, 32]] = True
         for move, first in ((1, starts), (-1, ends)):
-            at = numpy.flatnonzero(starts < ends)
+            # Where a blank may be: most cells have none.
+            byte = self.text.eight(first - (move < 0)) & u64(255)
+            at = numpy.flatnonzero((byte <= 32) & (starts < ends))
             while len(at):
                 at = at[blank[data[first[at] - (move < 0)]]]
                 first[at] += move
@@ -94,6 +96,25 @@ def lines(text):
         ends = numpy.append(ends, len(data))
     starts = numpy.concatenate([numpy.zeros(1, numpy.int64), ends[:-1] + 1]) if len(ends) else ends
     return starts, ends
+
+
+def words(text):
+    """Columns of the words of a text, which blanks and commas divide, without lines that begin with
+    #; the number of each line; and of the first line that has another number of words than the
+    first one its number and how many."""
+    is_blank = numpy.zeros(256, bool)
+    is_blank[[9, 10, 11, 12, 13, 32, 44]] = True
+    edges = numpy.flatnonzero(numpy.diff(is_blank[text.bytes], prepend=True, append=True))
+    cells = Cells(text, edges[::2], edges[1::2])
+    of_line = numpy.searchsorted(numpy.flatnonzero(text.bytes == 10), cells.starts)
+    lines, first, counts = numpy.unique(of_line, return_index=True, return_counts=True)
+    kept = cells.take(first).heads() != ord("#")
+    cells = cells.take(numpy.flatnonzero(numpy.repeat(kept, counts)))
+    lines, counts = lines[kept] + 1, counts[kept]
+    width = int(counts[0]) if len(counts) else 2
+    odd = numpy.flatnonzero(counts != width)
+    odd = (int(lines[odd[0]]), int(counts[odd[0]])) if len(odd) else None
+    return [cells.take(slice(it, None, width)) for it in range(width)], lines, odd
 
 
 def fields(text, separator, columns):
@@ -147,9 +168,10 @@ def digits(text, starts, ends):
 
 
 def scanned(cells):
-    """Digits without their point and sign, as one number; how many stand behind the point; whether a
-    minus stands in front; how many digits there are; and whether that is all and below 2^64."""
-    made = [numpy.zeros(len(cells), it) for it in (numpy.uint64, numpy.int64, bool, numpy.int64, bool)]
+    """Digits without their point and sign, as one number; how many stand behind the point; whether
+    a minus stands in front; how many digits there are; and whether that is all and below 2^64."""
+    kinds = numpy.uint64, numpy.int64, bool, numpy.int64, bool
+    made = [numpy.zeros(len(cells), it) for it in kinds]
     points = numpy.flatnonzero(cells.text.bytes == 46)
     for part, block in cells.blocks():
         for whole, of_block in zip(made, scanned_block(block, points)):
@@ -226,11 +248,12 @@ def has_point(cells, where):
     places = numpy.flatnonzero(cells.text.bytes == 46)
     if not len(places):
         return numpy.zeros(len(cells), bool)
-    return where & (numpy.searchsorted(places, cells.starts) < numpy.searchsorted(places, cells.ends))
+    first, last = (numpy.searchsorted(places, it) for it in (cells.starts, cells.ends))
+    return where & (first < last)
 
 
 def floats(_, cells):
-    """A double of at most 15 digits is their whole number, divided by a power of ten, rounded once."""
+    """A double of at most 15 digits is their whole number by a power of ten, rounded once."""
     value, places, negative, count, good = scanned(cells)
     good &= count <= 15
     power = POWERS[numpy.clip(places, 0, DIGITS - 1)].astype(numpy.float64)
@@ -317,7 +340,8 @@ def clock_block(of, cells, middle, length):
     good &= (hour < 24) & (minute < 60) & (second < 60) & (length >= 19)
     zoned = cells.text.eight(cells.ends - 1) & u64(255) == 90
     places = length - zoned - 20
-    good &= (places == -1) | (tail >> u64(24) & u64(255) == 46) & (places >= 1) & (places <= of.places)
+    has_part = (tail >> u64(24) & u64(255) == 46) & (places >= 1) & (places <= of.places)
+    good &= (places == -1) | has_part
     places = numpy.clip(numpy.where(good, places, 0), 0, of.places)
     part, right = digits(cells.text, cells.starts + 20, cells.starts + 20 + places)
     part = part.astype(numpy.int64) * POWERS.astype(numpy.int64)[of.places - places]

@@ -1,8 +1,8 @@
 """What `keys.py` makes keys of, and back: each map keeps the order of what it takes.
 
 A map's `key` gives the key of one cell of a text, exactly, or raises `Refused` with the option that
-would help; `back` gives the value of a key, as a text. `key_columns.py` makes the same keys of whole
-columns.
+would help; `back` gives the value of a key, as a text. `key_columns.py` makes the same keys of
+whole columns.
 """
 import datetime
 import decimal
@@ -25,7 +25,11 @@ TO_1970 = datetime.date(1970, 1, 1).toordinal() - 1
 
 
 class Refused(Exception):
-    """Why a cell has no key."""
+    """Why a cell has no key, and the scale with which it has one, if that is all."""
+
+    def __init__(self, text, scale=None):
+        super().__init__(text)
+        self.scale = scale
 
 
 def is_time(cell):
@@ -62,24 +66,26 @@ class Decimals:
         number = int((whole or "") + part) * (-1 if sign == "-" else 1)
         is_whole_word = "." not in cell and power is None
         if not is_whole_word and self.asked is None:
-            raise Refused(f"{shown(cell)} is no whole number: {self.help_scale(number, places)}")
+            raise self.unscaled(f"{shown(cell)} is no whole number", number, places)
         if abs(places) > LONGEST:
             raise Refused(f"{shown(cell)} has too many places")
         value = number * self.scale * 10 ** max(-places, 0)
         value, rest = divmod(value, 10 ** max(places, 0))
         if rest:
-            raise Refused(f"{shown(cell)} times {self.scale} is no whole number: "
-                          + self.help_scale(number, places))
+            raise self.unscaled(f"{shown(cell)} times {self.scale} is no whole number", number,
+                                places)
         if not 0 <= value + self.offset < self.below:
             raise Refused(self.outside(cell, value))
         return value + self.offset
 
-    def help_scale(self, number, places):
-        while number and number % 10 == 0 and places > 0:
+    def unscaled(self, text, number, places):
+        """With the least scale that takes the number, if one does."""
+        while number % 10 == 0 and places > 0:
             number, places = number // 10, places - 1
+        if abs(number) >= self.below or places > 19:
+            return Refused(f"{text}: --float takes doubles")
         scale = 10 ** max(places, 0)
-        fits = abs(number) * (scale // 10 ** max(places, 0)) < self.below
-        return f"--scale {scale} takes it" if fits and places <= 19 else "--float takes doubles"
+        return Refused(f"{text}: --scale {scale} takes it", scale)
 
     def outside(self, cell, value):
         if value < 0 and self.offset == 0:
@@ -158,7 +164,8 @@ class Times:
         found = TIME.fullmatch(cell)
         if not found:
             helps = ": --scale takes decimals" if NUMBER.fullmatch(cell) else ""
-            raise Refused(f"{shown(cell)} is no date as 2026-02-28 or 2026-02-28T23:59:59.5Z{helps}")
+            raise Refused(f"{shown(cell)} is no date as 2026-02-28 or 2026-02-28T23:59:59.5Z"
+                          + helps)
         year, month, day, hour, minute, second = (int(it or 0) for it in found.groups()[:6])
         part, zone = (found[7] or "").rstrip("0"), found[8]
         try:
@@ -176,7 +183,8 @@ class Times:
             if hours > 23 or minutes > 59:
                 raise Refused(f"{shown(cell)} is no date: there is no such zone")
             seconds -= (hours * 3600 + minutes * 60) * (-1 if zone[0] == "-" else 1)
-        return self.counted(cell, seconds * 10 ** self.places + int(part.ljust(self.places, "0") or 0))
+        part = int(part.ljust(self.places, "0"))
+        return self.counted(cell, seconds * 10 ** self.places + part)
 
     def counted(self, cell, since_1970):
         if not 0 <= since_1970 + self.offset < self.below:

@@ -25,18 +25,19 @@ What isn't such a number is made one by a map that keeps the order:
 
 The other options:
 
-    --column C        of a table or a CSV file the column C: its name, which is in a CSV file's first
-                      line, or, where no line has names, which column, from 1 on
+    --column C        of a table or a CSV file the column C: its name, which is in a CSV file's
+                      first line, or, where no line has names, which column, from 1 on
     --separator S     what stands between the cells of a CSV file, and not a comma; with --column
                       also of a file that has another name
-    --skip-empty      leaves out rows with an empty cell, or one that says NaN, NA, NaT, null or None
+    --skip-empty      leaves out rows with an empty cell, or one that says NaN, NA, NaT, null or
+                      None
     --narrow          keys of 4 bytes, for --narrow of `pgmtool`
     --points          points for `box` and `near`, in the order in which they come: 2 to 4 numbers a
                       line, as many --column, or an array of so many columns; each below 2^32, 2^21
                       or 2^16, as they are 2, 3 or 4
     --rows ROWS       writes a text with a line for each key, in their order: the key, and the row
-                      that it comes from. For points the code and the row, by rising code. Equal ones
-                      stand in the order of their rows. Rows are lines of a text or a CSV file,
+                      that it comes from. For points the code and the row, by rising code. Equal
+                      ones stand in the order of their rows. Rows are lines of a text or a CSV file,
                       counted from 1, and those of an array or a table from 0
 
 Tells each row that is wrong on standard error, with the option that would help, and then writes
@@ -63,6 +64,8 @@ COORDINATES = {2: 1 << 32, 3: 1 << 21, 4: 1 << 16}
 BOM = b"\xef\xbb\xbf"
 SEPARATORS = {".csv": ",", ".tsv": "\t", ".tab": "\t"}
 AGAIN = "KEYS_PY_AGAIN"
+# A text of more bytes is worth another interpreter, if that has numpy.
+LARGE = 1 << 20
 
 
 class Wrong(Exception):
@@ -85,22 +88,28 @@ def numpy_or_none():
     return importlib.import_module("key_columns") if importlib.util.find_spec("numpy") else None
 
 
-def need(module, what):
-    """Goes on with an interpreter that has a module, where this one lacks it; says so where none
-    has it."""
-    if importlib.util.find_spec(module):
-        return
+def go_on_with(module):
+    """Goes on with an interpreter that has a module, where this one lacks it and another is found;
+    gives those that were tried."""
     tried = [sys.executable]
+    if importlib.util.find_spec(module) or AGAIN in os.environ:
+        return tried
     for folder in [*os.environ.get("PATH", "").split(os.pathsep), "/usr/bin"]:
         python = shutil.which("python3", path=folder)
-        if python and python not in tried and AGAIN not in os.environ:
+        if python and python not in tried:
             tried.append(python)
             ran = subprocess.run([python, "-c", f"import {module}"], stderr=subprocess.DEVNULL)
             if ran.returncode == 0:
-                sys.stdout.flush()
                 os.execve(python, [python, *sys.argv], {**os.environ, AGAIN: "1"})
+    return tried
+
+
+def need(module, what):
+    tried = go_on_with(module)
+    if importlib.util.find_spec(module):
+        return
     raise Wrong(f"{what} wants {module}, which none of these has: {', '.join(tried)}. Install it, "
-                f"as by `apt-get install python3-{module}`, or call this with a python3 that has it")
+                f"as by `apt-get install python3-{module}`, or call this by a python3 that has it")
 
 
 def bytes_of(name):
@@ -108,8 +117,12 @@ def bytes_of(name):
     if name == "-":
         data = sys.stdin.buffer.read()
     else:
+        if os.path.getsize(name) > LARGE:
+            go_on_with("numpy")
         with open(name, "rb") as file:
             data = file.read()
+    if data[:2] in (b"\xff\xfe", b"\xfe\xff"):
+        raise Wrong(f"{name}: a text in UTF-16: have it written in UTF-8")
     return data[len(BOM):] if data.startswith(BOM) else data
 
 
@@ -120,7 +133,12 @@ def text_of(data):
 def read_text(name, is_points):
     """A text: a cell a line, or for points a cell a word."""
     data, fast = bytes_of(name), numpy_or_none()
-    if fast and not is_points:
+    if fast and is_points:
+        columns, rows, odd = fast.words(fast.Text(data))
+        if odd is not None:
+            raise Wrong(f"{name}:{odd[0]}: {odd[1]} numbers in place of {len(columns)}")
+        return Source(name, columns, rows, True)
+    if fast:
         text = fast.Text(data)
         cells = fast.Cells(text, *fast.lines(text)).stripped()
         kept = fast.numpy.flatnonzero((cells.starts < cells.ends) & (cells.heads() != ord("#")))
@@ -150,12 +168,15 @@ def places_of(columns, head, name):
 
 def read_csv(name, columns, separator):
     data, fast = bytes_of(name), numpy_or_none()
-    first = next(csv.reader(io.StringIO(text_of(data[:1 << 20])), delimiter=separator), [])
+    head = io.StringIO(text_of(data[:LARGE]), newline="")
+    first = next(csv.reader(head, delimiter=separator), [])
     places, has_names = places_of(columns, first, name)
-    if fast and b'"' not in data:
+    # Lines may end with a carriage return alone.
+    if fast and b'"' not in data and (b"\n" in data or b"\r" not in data):
         cells, rows, short = fast.fields(fast.Text(data), separator, places)
         if has_names:
-            cells, rows, short = [it.take(slice(1, None)) for it in cells], rows[1:], short[short > 0] - 1
+            cells = [it.take(slice(1, None)) for it in cells]
+            rows, short = rows[1:], short[short > 0] - 1
         if len(short):
             raise Wrong(f"{name}:{rows[short[0]]}: no column {max(places) + 1}")
         return Source(name, cells, rows, True)
@@ -255,8 +276,8 @@ def mapped_array(of, values):
 def mapped(of, column):
     """The keys of a column, which cells are empty, and what is wrong with others."""
     if isinstance(column, list):
-        keys, rest, cell = array.array("Q", bytes(8 * len(column))), range(len(column)), column.__getitem__
-        zoned = bytearray(len(column))
+        keys, rest = array.array("Q", bytes(8 * len(column))), range(len(column))
+        cell, zoned = column.__getitem__, bytearray(len(column))
     else:
         fast = numpy_or_none()
         if isinstance(column, fast.Cells):
@@ -276,7 +297,7 @@ def mapped(of, column):
         try:
             keys[index] = of.key(text)
         except Refused as why:
-            wrong.append((index, str(why)))
+            wrong.append((index, why))
         if isinstance(of, key_maps.Times):
             zoned[index] = of.has_zone
     return keys, empty, wrong, zoned
@@ -310,7 +331,9 @@ def made_of(source, of, skips):
         print(f"{source.place(index)}: {wrong[index]}", file=sys.stderr)
     if wrong:
         more = f", of which {TOLD} are told" if len(wrong) > TOLD else ""
-        raise Wrong(f"{len(wrong)} wrong in all{more}; nothing was written")
+        scales = [getattr(why, "scale", None) for why in wrong.values()]
+        helps = f"; --scale {max(scales)} takes them all" if len(scales) > 1 and all(scales) else ""
+        raise Wrong(f"{len(wrong)} wrong in all{more}; nothing was written{helps}")
     rows = source.rows
     if empty:
         columns = [without(it, empty) for it in columns]
@@ -340,7 +363,8 @@ def codes(columns):
     for place, column in enumerate(columns):
         column = numpy.asarray(column, numpy.uint64)
         for bit in range(bits):
-            made |= (column >> numpy.uint64(bit) & numpy.uint64(1)) << numpy.uint64(bit * width + place)
+            is_set = column >> numpy.uint64(bit) & numpy.uint64(1)
+            made |= is_set << numpy.uint64(bit * width + place)
     return made
 
 
@@ -420,8 +444,9 @@ def translate(given):
 
 
 def words():
-    asked = argparse.ArgumentParser(description=__doc__, usage=argparse.SUPPRESS, allow_abbrev=False,
-                                    formatter_class=argparse.RawDescriptionHelpFormatter)
+    asked = argparse.ArgumentParser(
+        description=__doc__, usage=argparse.SUPPRESS, allow_abbrev=False,
+        formatter_class=argparse.RawDescriptionHelpFormatter)
     for name in ("numbers", "file"):
         asked.add_argument(name, nargs="?")
     asked.add_argument("--column", action="append", default=[])
@@ -429,13 +454,15 @@ def words():
         asked.add_argument(option)
     for option in ("--scale", "--offset"):
         asked.add_argument(option, type=int)
-    for flag in ("narrow", "points", "skip-empty", "signed", "float", "time", "nanoseconds", "prefix"):
+    for flag in ("narrow", "points", "skip-empty",
+                 "signed", "float", "time", "nanoseconds", "prefix"):
         asked.add_argument(f"--{flag}", action="store_true")
     # Behind --key and --back all words are values, also those with a hyphen in front.
     said = sys.argv[1:]
     cut = next((at for at, word in enumerate(said) if word in ("--key", "--back")), len(said))
     given = asked.parse_intermixed_args(said[:cut])
-    given.key, given.back = (said[cut + 1:] if said[cut:cut + 1] == [it] else None for it in ("--key", "--back"))
+    given.key, given.back = (said[cut + 1:] if said[cut:cut + 1] == [it] else None
+                             for it in ("--key", "--back"))
     refuse_words(asked, given)
     return given
 
@@ -444,9 +471,10 @@ def refuse_words(asked, given):
     kinds = [given.float, given.time or given.nanoseconds, given.prefix,
              given.signed or given.scale is not None or given.offset is not None]
     if sum(kinds) > 1 or (given.signed and given.offset is not None):
-        asked.error("one map is taken: --float, --time, --prefix, or --scale with --signed or --offset")
+        asked.error("one map is taken: --float, --time, --prefix, or --scale with --signed or "
+                    "--offset")
     if any(kinds[:3]) and (given.narrow or given.points):
-        asked.error("--float, --time and --prefix make keys of 8 bytes: no --narrow and no --points")
+        asked.error("--float, --time and --prefix make keys of 8 bytes: no --narrow, no --points")
     if given.scale is not None and not 0 < given.scale < 1 << 64:
         asked.error("--scale wants a whole number from 1 to 2^64 - 1")
     if given.points and given.narrow:
@@ -459,7 +487,8 @@ def refuse_words(asked, given):
         asked.error("NUMBERS and FILE are wanted")
     ending = os.path.splitext(given.numbers)[1].lower()
     if ending == ".npz":
-        asked.error(f"{given.numbers} is an archive of arrays (.npz): save one of them by numpy.save")
+        asked.error(f"{given.numbers} is an archive of arrays (.npz): save one of them by "
+                    "numpy.save")
     given.kind = "npy" if ending == ".npy" else "parquet" if ending == ".parquet" else (
         "csv" if ending in SEPARATORS or given.column else "text")
     given.separator = given.separator or SEPARATORS.get(ending, ",")
@@ -467,7 +496,8 @@ def refuse_words(asked, given):
         asked.error("--separator wants one character")
     if given.column and given.kind == "npy" or "0" in given.column:
         asked.error("--column is for a CSV file or a table, and counts from 1")
-    if given.kind in ("csv", "parquet") and len(given.column) not in (COORDINATES if given.points else (1,)):
+    wanted = COORDINATES if given.points else (1,)
+    if given.kind in ("csv", "parquet") and len(given.column) not in wanted:
         asked.error("a CSV file and a table want --column for each number")
 
 
@@ -498,7 +528,7 @@ def main():
     given = words()
     try:
         translate(given) if given.key is not None or given.back is not None else make(given)
-    except (OSError, Wrong, Refused) as wrong:
+    except (OSError, csv.Error, Wrong, Refused) as wrong:
         print(f"keys.py: {wrong}", file=sys.stderr)
         return 1
     return 0

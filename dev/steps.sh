@@ -1,5 +1,5 @@
-# What `pgmtool` and `examples/install.sh` say of their steps: sourced by both. How a long one goes is
-# one line on standard error, where that is a terminal; elsewhere it isn't written.
+# What `pgmtool` and `examples/install.sh` say of their steps: sourced by both. How a long one goes
+# is one line on standard error, where that is a terminal; elsewhere it isn't written.
 
 # What wipes that line, for those who write others between.
 wipe=
@@ -14,9 +14,9 @@ kit=rattle-kit-13f
 has_rt() {
   if ! command -v rt >/dev/null; then
     {
-      echo "$1: there is no \`rt\` on the PATH. It is the tool of the Rattle kit, which proves and builds"
-      echo "$1: the crates; nothing here is built without it. Unpack the kit and put its folder bin on"
-      echo "$1: the PATH; \`rt version\` then tells its name. This was proved with $kit."
+      echo "$1: there is no \`rt\` on the PATH. It is the tool of the Rattle kit, which proves and"
+      echo "$1: builds the crates; nothing here is built without it. Unpack the kit and put its folder"
+      echo "$1: bin on the PATH; \`rt version\` then tells its name. This was proved with $kit."
     } >&2
     return 1
   fi
@@ -65,7 +65,11 @@ clock() { printf '%d:%02d' $(($1 / 60)) $(($1 % 60)); }
 crates_below() {
   awk -v top="$2" '
     { sub(/#.*/, "") }
-    index($0, ":") { split($0, halves, ":"); split(halves[1], words, " "); uses[words[1]] = halves[2] }
+    index($0, ":") {
+      split($0, halves, ":")
+      split(halves[1], words, " ")
+      uses[words[1]] = halves[2]
+    }
     function visit(name,   deps, count, i) {
       if (name in seen || !(name in uses)) return
       seen[name] = 1
@@ -78,7 +82,8 @@ crates_below() {
 
 # Of what `rt` writes while it proves crates, a line for each that is proved, behind the first word.
 proved_crates() {
-  sed -un "/^crate /{s/^crate \([a-z_0-9]*\):.*/$1: \1 is proved/;h};/^logic=proved /{x;s/^..*/$wipe&/p}"
+  sed -un "/^crate /{s/^crate \([a-z_0-9]*\):.*/$1: \1 is proved/;h}
+    /^logic=proved /{x;s/^..*/$wipe&/p}"
 }
 
 # How far `rt` is, of what it wrote to a file and of the crates in their order, in another: the
@@ -88,7 +93,10 @@ proof_so_far() {
     FNR == NR { place[$1] = ++all; next }
     /^(fn|struct|enum|impl|trait|const|type) [a-z_0-9]+::.*: proved/ {
       split($2, path, "::")
-      if (path[1] in place) { if (path[1] != at) functions = 0; at = path[1]; functions += $1 == "fn" }
+      if (!(path[1] in place)) next
+      if (path[1] != at) functions = 0
+      at = path[1]
+      functions += $1 == "fn"
     }
     /^rt: chose --jobs/ && ($NF in place) { at = $NF; functions = 0 }
     END {

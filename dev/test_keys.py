@@ -97,6 +97,9 @@ class Plain(unittest.TestCase):
         self.assertEqual(self.made("a.csv", "1,9\r\n2,8\r\n", "--column", "2"), [8, 9])
         self.assertEqual(self.made("a.csv", "5,9\n\n2,8\n", "--column", "1"), [2, 5])
         self.assertEqual(self.made("other", "2,8\n", "--column", "2"), [8])
+        self.assertEqual(self.made("a.csv", "a,b\r1,2\r3,4\r", "--column", "b"), [2, 4])
+        self.assertEqual(self.made("a.csv", "a,b\n", "--column", "b"), [])
+        self.assertIn("UTF-16", self.refused("a.csv", "a,b\n1,2\n".encode("utf-16"), "--column", "b"))
         self.assertIn("no column `price`; there are id, name",
                       self.refused("a.csv", "id,name\n1,x\n", "--column", "price"))
         self.assertIn("a.csv:3: no column 2", self.refused("a.csv", "a,b\n1,2\n3\n", "--column", "b"))
@@ -151,6 +154,13 @@ class Plain(unittest.TestCase):
                 ("1e9999", "100", "too many places"), ("0x10", "1", "`0x10` is no number"),
                 ("1_000", None, "`1_000` is no number"), ("１", None, "`１` is no number")]:
             self.assertIn(said, self.refused("t", text, *(["--scale", scale] if scale else [])))
+
+    def test_one_scale_for_all(self):
+        said = self.refused("t", "9.99\n12.50\n0.0\n7\n")
+        self.assertIn("t:2: `12.50` is no whole number: --scale 10 takes it", said)
+        self.assertIn("t:3: `0.0` is no whole number: --scale 1 takes it", said)
+        self.assertIn("3 wrong in all; nothing was written; --scale 100 takes them all", said)
+        self.assertNotIn("them all", self.refused("t", "9.99\nx\n"))
 
     def test_doubles(self):
         below = lambda bits: MOST ^ bits
@@ -225,7 +235,13 @@ class Plain(unittest.TestCase):
                                    width=4), [0, 75])
         self.assertEqual(self.made("a.csv", "x,y\n1,\n2,3\n", *words, "--skip-empty", width=4), [2, 3])
         self.assertIn("a.csv:3: `-1` is below 0", self.refused("a.csv", "x,y\n1,2\n0,-1\n", *words))
+        self.assertEqual(self.made("t", "# x y\n\n 7,8\r\n\t9\t1", "--points", "--rows", "rows", width=4),
+                         [7, 8, 9, 1])
+        # (7, 8) is 21 + 128 and (9, 1) is 65 + 2.
+        self.assertEqual(self.rows(), ["67 4", "149 3"])
+        self.assertEqual(self.made("t", "", "--points", width=4), [])
         self.assertIn("t:2: 3 numbers in place of 2", self.refused("t", "1 2\n1 2 3\n", "--points"))
+        self.assertIn("not 1", self.refused("t", "1\n2\n", "--points"))
         self.assertIn("is not from 0 to 2097151", self.refused("t", "1 2 2097152\n", "--points"))
 
     def test_words(self):
@@ -327,7 +343,8 @@ class Fast(Plain):
         check = ("import sys; sys.path.insert(0, sys.argv[1]); import key_maps, keys; of = "
                  "key_maps.%s; found = keys.mapped(of, keys.read_csv('a.csv', ['c'], ',').columns[0]); "
                  "bad = {i for i, _ in found[1] + found[2]}; "
-                 "print([None if i in bad else int(k) for i, k in enumerate(found[0])]); print(found[1:3])")
+                 "print([None if i in bad else int(k) for i, k in enumerate(found[0])]); "
+                 "print(found[1], [(i, str(why)) for i, why in found[2]])")
         below = 1 << (32 if "--narrow" in words else 64)
         scale = int(words[words.index("--scale") + 1]) if "--scale" in words else None
         offset = below // 2 if "--signed" in words else 9 if "--offset" in words else 0

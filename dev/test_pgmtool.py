@@ -245,25 +245,34 @@ class Script(unittest.TestCase):
         self.assertIn("2 passed, 1 failed\n", ran.stdout)
         self.assertIn("error: no such name", ran.stderr)
 
+    def stopped(self, number, terminal):
+        """Stops the script once two crates are tested: both are stopped, and it ends soon."""
+        self.house.log.write_text("")
+        ran = subprocess.Popen([self.house.top / "pgmtool", "test"], env=self.house.environment,
+                               stdout=subprocess.DEVNULL, stderr=terminal)
+        for _ in range(100):
+            time.sleep(0.1)
+            begun = self.house.log.read_text().split()
+            if len(begun) == 2:
+                break
+        self.assertEqual(len(begun), 2)
+        time.sleep(0 if terminal == subprocess.DEVNULL else 3)
+        ran.send_signal(number)
+        self.assertEqual(ran.wait(10), 130)
+        self.assertEqual(self.house.log.read_text().split(), [*begun, "ended", "ended"])
+        for pid in begun:
+            self.assertFalse(os.path.exists(f"/proc/{pid}"))
+
     def test_being_stopped_stops_what_runs(self):
         self.house.rt()
         for name in ("a_tests", "b_tests"):
             self.house.tested(name, PASSED, slow=30)
+        master, slave = pty.openpty()
         for number in (signal.SIGINT, signal.SIGTERM):
-            self.house.log.write_text("")
-            ran = subprocess.Popen([self.house.top / "pgmtool", "test"], env=self.house.environment,
-                                   stdout=subprocess.DEVNULL, stderr=subprocess.DEVNULL)
-            for _ in range(100):
-                time.sleep(0.1)
-                if len(self.house.log.read_text().split()) == 2:
-                    break
-            begun = self.house.log.read_text().split()
-            self.assertEqual(len(begun), 2)
-            ran.send_signal(number)
-            self.assertEqual(ran.wait(10), 130)
-            self.assertEqual(self.house.log.read_text().split(), [*begun, "ended", "ended"])
-            for pid in begun:
-                self.assertFalse(os.path.exists(f"/proc/{pid}"))
+            self.stopped(number, subprocess.DEVNULL)
+            self.stopped(number, slave)
+        os.close(slave)
+        os.close(master)
 
     def test_a_terminal_shows_how_far_it_is(self):
         self.house.rt()

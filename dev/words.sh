@@ -55,7 +55,8 @@ command_named() {
 # fails where the command has none of this name.
 option_of() {
   options | awk -F'|' -v name="$1" -v of="$2" \
-    'name == $1 && index(" " $5 " ", " " of " ") { print $2, $3, $4; found = 1 } END { exit !found }'
+    'name == $1 && index(" " $5 " ", " " of " ") { print $2, $3, $4; found = 1 }
+    END { exit !found }'
 }
 
 # Lines of the table of options, as a person reads them.
@@ -112,7 +113,7 @@ wrong_number() {
     return
   fi
   digits=${digits#"${digits%%[!0]*}"}
-  if [ "${#digits}" -gt 10 ] || [ "${digits:-0}" -lt "$least" ] || [ "${digits:-0}" -gt "$most" ]; then
+  if [ "${#digits}" -gt 10 ] || ((${digits:-0} < least || ${digits:-0} > most)); then
     echo "$said: $word is not from $least to $most"
   fi
 }

@@ -4,32 +4,113 @@
 #     examples/install.sh PREFIX
 #     cc walk.c $(PKG_CONFIG_PATH=PREFIX/lib/pkgconfig pkg-config --cflags --libs kuldebiq)
 #
-# PREFIX/lib/libkuldebiq.a with the three functions of memory inside, PREFIX/lib/libkuldebiq.so, which
-# exports the calls alone, PREFIX/include/kuldebiq.h, and PREFIX/lib/pkgconfig/kuldebiq.pc. The crates
-# below are proved first, where that wasn't done on this machine: the kit makes no static library of
-# sources that aren't proved. Each is told on standard error as it is done.
+# PREFIX/lib/libkuldebiq.a with the three functions of memory inside, PREFIX/lib/libkuldebiq.so,
+# which exports the calls alone, PREFIX/include/kuldebiq.h, and PREFIX/lib/pkgconfig/kuldebiq.pc.
+# With DESTDIR in the environment the files go under DESTDIR/PREFIX and name PREFIX alone. The
+# crates below are proved first, where that wasn't done on this machine: the kit makes no static
+# library of sources that aren't proved. Each is told on standard error as it is done.
 set -eu
 if [ $# -ne 1 ]; then
-    echo 'usage: examples/install.sh PREFIX' >&2
+    echo 'usage: [DESTDIR=FOLDER] examples/install.sh PREFIX' >&2
     exit 2
 fi
-mkdir -p "$1"
-prefix=$(cd "$1" && pwd)
-cd "$(dirname "$(readlink -f "$0")")/.."
+top=$(cd "$(dirname "$(readlink -f "$0")")/.." && pwd)
+source "$top/dev/steps.sh"
+has_rt kuldebiq || exit 1
+prefix=$(realpath -m "$1")
+to=${DESTDIR:+$(realpath -m "$DESTDIR")}$prefix
+mkdir -p "$to"
+cd "$top"
 cc=${CC:-cc}
 
 made=$(mktemp -d)
-trap 'rm -rf "$made"' EXIT
-echo 'kuldebiq: proving and building the library: minutes where its crates are proved on this' >&2
-echo 'kuldebiq: machine already, and half an hour or more on four cores where none is' >&2
-: >"$made/log"
-(cd crates/kuldebiq && rt lib 2>&1 && echo 'rt: built') >"$made/log" &
-built=$!
-tail -f -n +1 --pid=$built "$made/log" |
-    sed -un 's/^rt: \([a-z_0-9]*\) proved$/kuldebiq: \1 is proved/p' >&2
-if ! wait "$built"; then
+end() {
+    hide_progress
+    rm -rf "$made"
+}
+trap end EXIT
+trap 'exit 130' INT TERM HUP
+say() { echo "${wipe}kuldebiq: $*" >&2; }
+
+# How many crates are proved at once: a processor and two gigabytes each.
+at_once() {
+    awk -v cores="$(nproc)" '/^MemAvailable/ { fit = int($2 / 2000000) }
+        END { print fit < cores ? fit : cores }' /proc/meminfo
+}
+
+# Runs words in a folder, and tells on the way which crates are proved: what they write goes to a
+# file. How far that is is told by the words behind.
+told() {
+    local log=$1 folder=$2 words=$3 running follower
+    shift 3
+    : >"$log"
+    # The words are separate ones.
+    # shellcheck disable=SC2086
+    (cd "$folder" && exec rt $words) >"$log" 2>&1 </dev/null &
+    running=$!
+    trap "kill $running 2>/dev/null || true; exit 130" INT TERM HUP
+    tail -f -n +1 -s 0.5 --pid=$running "$log" 2>/dev/null | proved_crates kuldebiq |
+        grep --line-buffered -v ' side_by_side is' >&2 &
+    follower=$!
+    show_progress kuldebiq 1 "$@"
+    wait "$running" || running=
+    wait "$follower" || true
+    hide_progress
+    trap 'exit 130' INT TERM HUP
+    [ -n "$running" ]
+}
+
+# How far crates are that are proved side by side, of how many.
+side_so_far() {
+    awk -v all="$2" '/^== / && !/ (side_by_side|summary)$/ { done++ }
+        END { printf "proving side by side, %d of %d crates done", done, all }' "$1"
+}
+
+# Has `rt` prove side by side, in a copy, the crates below that don't stand on `levels`: those that
+# do stand on one another in a row, and get all processors from `rt lib`, which takes one crate
+# after the other. A crate of the copy's own names them, so that each is built. What is kept of them
+# is then taken here; what wasn't proved there, `rt lib` proves.
+prove_side_by_side() {
+    local jobs copy=$made/copy name part wanted=()
+    jobs=$(at_once)
+    for name in $(crates_below "$top" kuldebiq); do
+        if ! crates_below "$top" "$name" | grep -qx levels; then wanted+=("$name"); fi
+    done
+    for name in "${wanted[@]}"; do
+        [ -d "crates/$name/out/rlib" ] || break
+        name=
+    done
+    if [ "$jobs" -lt 2 ] || [ -z "$name" ]; then return; fi
+    mkdir -p "$copy/crates/side_by_side/src"
+    printf '//! Has the crates that it names built.\n#![tactic(auto)]\n' \
+        >"$copy/crates/side_by_side/src/lib.rt"
+    for name in "${wanted[@]}"; do
+        mkdir "$copy/crates/$name"
+        for part in src specs proofs; do
+            [ ! -d "crates/$name/$part" ] || cp -R "crates/$name/$part" "$copy/crates/$name/"
+        done
+        grep "^${name}[ :]" crates.txt
+    done >"$copy/crates.txt"
+    echo "side_by_side: ${wanted[*]}" >>"$copy/crates.txt"
+    told "$made/side" "$copy" "all check --jobs $jobs" \
+        side_so_far "$made/side" "${#wanted[@]}" || true
+    for name in "${wanted[@]}"; do
+        for part in rlib incremental; do
+            if [ -d "$copy/crates/$name/out/$part" ] && [ ! -e "crates/$name/out/$part" ]; then
+                mkdir -p "crates/$name/out"
+                mv "$copy/crates/$name/out/$part" "crates/$name/out/"
+            fi
+        done
+    done
+}
+
+say 'proving and building the library: minutes where its crates are proved on this machine already,'
+say 'and a quarter of an hour or more on four cores where none is'
+prove_side_by_side
+crates_below "$top" kuldebiq >"$made/order"
+if ! told "$made/log" crates/kuldebiq lib proof_so_far "$made/log" "$made/order"; then
     tail -n 20 "$made/log" >&2
-    echo 'kuldebiq: the library was not built' >&2
+    say 'the library was not built'
     exit 1
 fi
 
@@ -42,12 +123,12 @@ echo '{ global: kuldebiq_*; local: *; };' >"$made/exports"
     -Wl,--no-whole-archive -Wl,--version-script="$made/exports" -Wl,-soname,libkuldebiq.so.0 \
     -Wl,--no-undefined
 
-mkdir -p "$prefix/lib/pkgconfig" "$prefix/include"
-install -m 644 include/kuldebiq.h "$prefix/include/"
-install -m 644 "$made/libkuldebiq.a" "$prefix/lib/"
-install -m 755 "$made/libkuldebiq.so" "$prefix/lib/libkuldebiq.so.0"
-ln -sf libkuldebiq.so.0 "$prefix/lib/libkuldebiq.so"
-cat >"$prefix/lib/pkgconfig/kuldebiq.pc" <<TEXT
+mkdir -p "$to/lib/pkgconfig" "$to/include"
+install -m 644 include/kuldebiq.h "$to/include/"
+install -m 644 "$made/libkuldebiq.a" "$to/lib/"
+install -m 755 "$made/libkuldebiq.so" "$to/lib/libkuldebiq.so.0"
+ln -sf libkuldebiq.so.0 "$to/lib/libkuldebiq.so"
+cat >"$to/lib/pkgconfig/kuldebiq.pc" <<TEXT
 prefix=$prefix
 libdir=\${prefix}/lib
 includedir=\${prefix}/include
@@ -58,4 +139,4 @@ Version: $version
 Libs: -L\${libdir} -lkuldebiq -Wl,-rpath,\${libdir}
 Cflags: -I\${includedir}
 TEXT
-echo "kuldebiq: $version is in $prefix" >&2
+say "$version is in $to"
