@@ -525,10 +525,28 @@ def from_c(runs, record):
                 record.add(row, series, float(each))
 
 
+# The indexes that are drawn: name, key file or how it is made, and what `explain` is told.
+LEVELS = (("primes", TOP / "data/primes.keys", ("--eps", 16)),
+          ("four", TOP / "data/four.keys", ("--eps", 0, "--rec", 0)),
+          ("ids", ("ids.6000.1.keys", "keys", "ids", 6000, 1), ("--eps", 64)))
+
+
+def levels(runs):
+    """Draws indexes: nothing is measured."""
+    folder = (runs.made if runs.given.print else TOP / "docs") / "pictures"
+    folder.mkdir(parents=True, exist_ok=True)
+    for name, keys, options in LEVELS:
+        keys = keys if isinstance(keys, pathlib.Path) else runs.file(*keys)
+        text = runs.made / f"{name}.txt"
+        text.write_text(runs.run(runs.pgmtool, "explain", keys, *options))
+        drawn = runs.run(sys.executable, TOP / "dev/picture.py", keys, text)
+        (folder / f"{name}.svg").write_text(drawn)
+
+
 PARTS = {"lookups": lookups, "lines": lines, "memory": memory, "building": building,
          "segmenting": segmenting, "pieces": pieces, "questions": questions, "boxes": boxes,
          "near": near, "nearest": nearest, "map": ordered_map, "readers": readers,
-         "senders": senders, "explain": explain, "from_c": from_c}
+         "senders": senders, "explain": explain, "from_c": from_c, "levels": levels}
 
 
 def measured(runs, part):
@@ -558,6 +576,16 @@ def written(runs, record):
     pictures.draw(record.part, runs.made if is_try else TOP / "docs", runs.folder())
 
 
+def made(runs, part):
+    """Makes what a part shows: of what it measures now, or of its record."""
+    if part == "levels":
+        levels(runs)
+        return
+    record = records.read(part, runs.folder()) if runs.given.tables else measured(runs, part)
+    if record:
+        written(runs, record)
+
+
 def wanted():
     """What is asked for on the command line."""
     asked_for = argparse.ArgumentParser(description=__doc__)
@@ -584,9 +612,7 @@ def main():
     for part in given.parts or PARTS:
         start = time.monotonic()
         try:
-            record = records.read(part, runs.folder()) if given.tables else measured(runs, part)
-            if record:
-                written(runs, record)
+            made(runs, part)
         except (Missing, OSError, ValueError, subprocess.CalledProcessError) as missing:
             left_out += 1
             print(f"{part}: left out, {missing}", file=sys.stderr)

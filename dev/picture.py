@@ -9,6 +9,8 @@ outside the band of the run that it ends. The heights are worked out exactly, in
 rounded once; axes and paths are by matplotlib (Debian's python3-matplotlib). A list of more than a
 thousand points is thinned above, and nowhere below.
 """
+import io
+import re
 import struct
 import sys
 
@@ -18,6 +20,7 @@ except ImportError:
     sys.exit("picture.py: matplotlib is wanted: apt-get install python3-matplotlib, and /usr/bin/python3")
 matplotlib.use("svg")
 import matplotlib.pyplot as plot  # noqa: E402 (the way of drawing is chosen before)
+from matplotlib.ticker import MaxNLocator  # noqa: E402
 
 COLOURS = ("#1b6ca8", "#2e8b57")
 BAND, WITNESS, GREY = "#f2d16b", "#c0392b", "#666666"
@@ -139,14 +142,19 @@ def picture(points, eps, runs, title, x_label, y_label):
     legend = f"yellow: the band of {eps} places; " if eps else ""
     above.set(title=title, ylabel=y_label)
     below.set(xlabel=f"{x_label}\n{legend}red: three places that no line fits, for each run that is cut",
-              ylabel="from its line, in places", xlim=(points[0][0], points[-1][0]) if len(points) > 1 else None)
+              ylabel="from its line, in places")
     for axes in (above, below):
         axes.grid()
-        axes.margins(y=0.08)
-    if small:
-        above.margins(x=0.02)
-        below.autoscale(axis="x")
+        axes.margins(x=0.02 if small else 0.005, y=0.08)
+    above.yaxis.set_major_locator(MaxNLocator(integer=True))
     return figure
+
+
+def svg_of(figure):
+    """The picture as text, with two digits behind the point, which is a hundredth of a point."""
+    made = io.StringIO()
+    figure.savefig(made, format="svg", metadata={"Date": None})
+    return re.sub(r"(\.\d\d)\d+", r"\1", made.getvalue())
 
 
 def main():
@@ -163,7 +171,7 @@ def main():
     kind = "points" if level == 0 else "segments of the level below"
     labels = ("key", "place in the file") if level == 0 else ("first key of the segment", "segment")
     figure = picture(points, eps, runs, f"{len(points)} {kind}, ε = {eps}, segments: {len(runs)}", *labels)
-    figure.savefig(sys.stdout.buffer, format="svg", metadata={"Date": None})
+    sys.stdout.write(svg_of(figure))
 
 
 if __name__ == "__main__":
