@@ -55,7 +55,7 @@ def rounds(record):
     many = record.given["rounds"]
     if many == 1:
         return "one round"
-    said = f"the least of {many} rounds in turn"
+    said = f"the best of {many} rounds in turn"
     found = records.spread(record)
     if not found:
         return said + ", of which no other is kept"
@@ -108,9 +108,9 @@ def seen_lookups(record):
     def part(way):
         return of_both(record, way, "lower_bound alone")
     return (f"one at a time {part('16 index alone')} of the former in the mean with ε 16 and "
-            f"{part('64 index alone')} with ε 64, where the latter takes {part('pgm_16 alone')} and "
-            f"{part('pgm_64 alone')}; sixteen together {part('16 index together')} and "
-            f"{part('64 index together')}")
+            f"{part('64 index alone')} with ε 64, where the latter takes "
+            f"{part('pgm_16 alone')} and {part('pgm_64 alone')}; sixteen together "
+            f"{part('16 index together')} and {part('64 index together')}")
 
 
 def seen_lines(record):

@@ -247,9 +247,9 @@ def name_beside(axes, taken, at, text, colour):
     for right, up, where in SIDES:
         left = x + right - {"left": 0, "center": wide / 2, "right": wide}[where]
         box = left, y + up - 2, left + wide, y + up + tall
-        if axes.bbox.x0 < box[0] and box[2] < axes.bbox.x1 and all(box[2] <= other[0] or box[0] >= other[2] or
-                                         box[3] <= other[1] or box[1] >= other[3]
-                                         for other in taken):
+        if axes.bbox.x0 < box[0] and box[2] < axes.bbox.x1 and not any(
+                box[0] < other[2] and other[0] < box[2] and box[1] < other[3] and other[1] < box[3]
+                for other in taken):
             break
     taken.append(box)
     axes.annotate(text, at, (right, up), textcoords="offset pixels", ha=where, color=colour)

@@ -11,15 +11,16 @@
 # Parts: lookups lines memory building segmenting pieces questions boxes near nearest map readers
 # senders explain from_c, and levels, the pictures of indexes.
 #
-# A part writes its record first, bench/records/PART.json: the numbers of all rounds, the machine, the
-# commit, and the versions of the rivals. On the screen it shows of each number the least, the median
-# and the greatest. Commit the sources before a run, and take a machine that does nothing else.
+# A part writes its record first, bench/records/PART.json: the numbers of all rounds, the machine,
+# the commit, and the versions of the rivals. On the screen it shows of each number the least, the
+# median and the greatest. Commit the sources before a run, and take a machine that does nothing
+# else.
 #
 # It installs nothing. Data and the rivals' programs are made below out/bench. The proved programs
 # have to be there: `./pgmtool prove`, `(cd crates/bench && rt run)`, and for from_c the library,
 # `examples/install.sh out/kuldebiq` (KULDEBIQ names another place). PGMTOOL and BENCH name other
-# programs to measure. Wanted are a C++ compiler that knows C++20, a processor with BMI2, and python3;
-# and of Debian
+# programs to measure. Wanted are a C++ compiler that knows C++20, a processor with BMI2, and
+# python3; and of Debian
 #     libabsl-dev                map and readers          libboost-dev       boxes, near
 #     libconcurrentqueue-dev     senders                  libnanoflann-dev   near
 #     python3-numpy              lookups                  python3-matplotlib all pictures

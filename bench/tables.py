@@ -2,11 +2,8 @@
 `<!-- end of NAME -->`, and what a part shows in short between `<!-- seen PART -->` and
 `<!-- end of seen PART -->`."""
 import dataclasses
-import statistics
-import textwrap
 import typing
 
-import records
 from records import TOP, mean
 
 PAGE = TOP / "bench/README.md"
@@ -174,7 +171,8 @@ def says_of_building(record):
     said = [over_sets(record, f"build {workers}", "C++ build",
                       lambda values: f"{between(values)}, {mean(values):.2f} in the geometric mean")
             for workers in (1, 4)]
-    return f"Of the C++ program's time `build` takes {said[0]} with one worker; {said[1]} with four."
+    return (f"Of the C++ program's time `build` takes {said[0]} with one worker; {said[1]} with "
+            "four.")
 
 
 def says_of_saved(record):
@@ -186,7 +184,8 @@ def says_of_questions(record):
     said = [over_sets(record, f"query {workers}", "by itself",
                       lambda values: f"{between(values)}, {mean(values):.2f} in the geometric mean")
             for workers in (1, 4)]
-    return f"Of the C++ program's time `query` takes {said[0]} with one worker; {said[1]} with four."
+    return (f"Of the C++ program's time `query` takes {said[0]} with one worker; {said[1]} with "
+            "four.")
 
 
 BOUNDS = 4, 16, 64, 256
@@ -344,7 +343,8 @@ TABLES = (
     Table("saved indexes", "building", "seconds", [
         ("`build`", number("build 1", "{:.3g}")), ("`save`", number("save", "{:.3g}")),
         ("`check`", number("check", "{:.3g}")), ("Runs", number("runs", COUNT)),
-        ("Bytes of the file", number("bytes", COUNT)), ("Bytes a run", ratio("bytes", "runs", "{:.1f}"))],
+        ("Bytes of the file", number("bytes", COUNT)),
+        ("Bytes a run", ratio("bytes", "runs", "{:.1f}"))],
         says_of_saved),
     Table("memory", "memory", "bytes beyond the keys", [
         (head, number(series, COUNT)) for head, series in (
