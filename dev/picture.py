@@ -83,15 +83,15 @@ def above_line(point, line):
 
 
 def across(points):
-    """The x and the y of points, as lists."""
-    return [x for x, _ in points], [y for _, y in points]
+    """The x and the y of points, as lists: keys of 64 bits are rounded here, behind all heights."""
+    return [float(x) for x, _ in points], [float(y) for _, y in points]
 
 
 def segments(axes, points, runs, eps):
     """Of each run its line, with the band of ε places about it."""
     for number, run in enumerate(runs):
-        xs = [points[run["start"]][0], points[run["end"] - 1][0]]
-        ys = [height(run["line"], x) for x in xs]
+        ends = points[run["start"]][0], points[run["end"] - 1][0]
+        xs, ys = across([(x, height(run["line"], x)) for x in ends])
         axes.fill_between(xs, [y - eps for y in ys], [y + eps for y in ys], color=BAND, alpha=0.55,
                           linewidth=0)
         axes.plot(xs, ys, color=COLOURS[number % 2], linewidth=1.6)
@@ -107,7 +107,8 @@ def witnesses(axes, points, runs, eps):
         if run["witness"]:
             shift = eps if run["side"] == "under" else -eps
             p, q, r = (points[place] for place in run["witness"])
-            axes.plot([p[0], r[0]], [p[1] + shift, r[1] + shift], "--", color=WITNESS, linewidth=1)
+            chord = [(x, y + shift) for x, y in (p, r)]
+            axes.plot(*across(chord), "--", color=WITNESS, linewidth=1)
             circles(axes, (p, q, r))
 
 
