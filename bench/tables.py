@@ -25,6 +25,7 @@ class Table:
     says: typing.Callable = lambda record: ""
     of: typing.Callable = lambda given: f"{given['size']:,} keys"
     rows: dict = None  # the rows that are wanted, with what they are called; else all
+    picture: str = ""  # a picture that is there with the table alone, before it
 
 
 # What gives a cell.
@@ -322,7 +323,9 @@ TABLES = (
     Table("near by Euclid", "near", "microseconds a centre", [
         (f"{title}, k = {k}", number(f"{side} {k}", "{:.2f}", 1e-3)) for k in NEIGHBOURS
         for title, side in (("nanoflann", "nanoflann"), ("Boost's R-tree", "Boost"),
-                            ("k-d tree", "tree by Euclid"))], of=points_and_centres),
+                            ("k-d tree", "tree by Euclid"))], of=points_and_centres,
+        picture="![Microseconds a centre of nanoflann, of Boost's R-tree and of the k-d tree, by "
+                "Euclid's distance](../docs/pictures/euclid.svg)"),
     Table("the nearest points", "nearest", "microseconds", [
         (f"k = {k}", pair(f"near {k}", f"tree {k}", "{:.2g}", 1e-3)) for k in NEIGHBOURS],
         of=points_and_centres),
