@@ -122,7 +122,7 @@ def shares(record, ways, many):
 def over_sets(record, way, base, said, sets=SETS):
     """A sentence for each set of kinds that the record has, of the parts of a way's time."""
     found = [(name, parts(record, way, base, rows)) for name, rows in sets]
-    return "; ".join(f"{said(values)} over the {name} kinds" for name, values in found if values)
+    return " and ".join(f"{said(values)} over the {name} kinds" for name, values in found if values)
 
 
 def says_of_lookups(record):
@@ -172,8 +172,8 @@ def says_of_building(record):
     said = [over_sets(record, f"build {workers}", "C++ build",
                       lambda values: f"{between(values)}, {mean(values):.2f} in the geometric mean")
             for workers in (1, 4)]
-    return (f"Of the C++ program's time `build` takes {said[0]} with one worker; {said[1]} with "
-            "four.")
+    return (f"Of the C++ program's time `build` takes with one worker {said[0]}; with four "
+            f"{said[1]}.")
 
 
 def says_of_saved(record):
@@ -185,8 +185,8 @@ def says_of_questions(record):
     said = [over_sets(record, f"query {workers}", "by itself",
                       lambda values: f"{between(values)}, {mean(values):.2f} in the geometric mean")
             for workers in (1, 4)]
-    return (f"Of the C++ program's time `query` takes {said[0]} with one worker; {said[1]} with "
-            "four.")
+    return (f"Of the C++ program's time `query` takes with one worker {said[0]}; with four "
+            f"{said[1]}.")
 
 
 BOUNDS = 4, 16, 64, 256
