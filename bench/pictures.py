@@ -1,7 +1,9 @@
 """Draws the pictures of bench/README.md of the records, docs/pictures/NAME.svg, by matplotlib."""
 import dataclasses
+import io
 import math
 import pathlib
+import re
 import statistics
 import typing
 
@@ -264,8 +266,15 @@ def bytes_picture(folder):
 
 
 def keep(figure, path):
+    """Writes a picture: an SVG has places to a hundredth of a point, and each path in one line."""
     path.parent.mkdir(parents=True, exist_ok=True)
-    figure.savefig(path, metadata={"Date": None} if path.suffix == ".svg" else None)
+    if path.suffix == ".svg":
+        made = io.StringIO()
+        figure.savefig(made, format="svg", metadata={"Date": None})
+        short = re.sub(r"(\.\d\d)\d+", r"\1", made.getvalue())
+        path.write_text(re.sub(r" *\n(?=[LCz] ?)", "", short))
+    else:
+        figure.savefig(path)
     plot.close(figure)
 
 

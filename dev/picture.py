@@ -152,10 +152,10 @@ def picture(points, eps, runs, title, x_label, y_label):
 
 
 def svg_of(figure):
-    """The picture as text, with two digits behind the point, which is a hundredth of a point."""
+    """The picture as text: places to a hundredth of a point, and each path in one line."""
     made = io.StringIO()
     figure.savefig(made, format="svg", metadata={"Date": None})
-    return re.sub(r"(\.\d\d)\d+", r"\1", made.getvalue())
+    return re.sub(r" *\n(?=[LCz] ?)", "", re.sub(r"(\.\d\d)\d+", r"\1", made.getvalue()))
 
 
 def main():
