@@ -2,8 +2,8 @@
 """Measures the parts of bench/README.md; `run.sh` calls it, and says what its words are.
 
 A part runs all sides of its tables in turn, so many rounds, and compares what they found. Its
-record, with the numbers of all rounds (records.py), is written first; of that the tables (tables.py,
-page.py) and the pictures (pictures.py) are made.
+record, with the numbers of all rounds (records.py), is written first; of that the tables
+(tables.py, page.py) and the pictures (pictures.py) are made.
 """
 import argparse
 import hashlib
@@ -25,6 +25,8 @@ KINDS = EIGHT + ("numbers", "ids", "minutes")
 MOST = 4294967296
 PAGES = (f"glibc.malloc.hugetlb=1:glibc.malloc.mmap_threshold={MOST}"
          f":glibc.malloc.trim_threshold={MOST}")
+# A number of `bench` is the least of so many passes, of boxes of so many; so are its rivals'.
+PASSES, BOX_PASSES = 3, 5
 # A machine with more to do than this, on average of a minute, isn't quiet.
 QUIET = 0.5
 
@@ -156,7 +158,7 @@ def asked(text, record, kind, names):
 def by_rivals(runs, kind, record, sums, *names):
     """The rival's ways of these names: their times, and what they print."""
     ways = {}
-    text = runs.run(runs.rival("lookups"), runs.keys(kind), runs.questions(kind), 1, *names)
+    text = runs.run(runs.rival("lookups"), runs.keys(kind), runs.questions(kind), PASSES, *names)
     for way in rows_of(text, "way"):
         ways[way["way"]] = way
         for name in ("build", "alone", "chained", "together"):
@@ -171,7 +173,7 @@ def by_rivals(runs, kind, record, sums, *names):
 def by_numpy(runs, kind, record, sums):
     """One call of numpy.searchsorted for all questions."""
     text = runs.run(sys.executable, TOP / "bench/rivals/searchsorted.py", runs.keys(kind),
-                    runs.questions(kind), 1)
+                    runs.questions(kind), PASSES)
     way = next(rows_of(text, "way"))
     record.add(kind, "searchsorted together", int(way["together"]))
     sums["searchsorted"] = way["checksum"]
@@ -308,7 +310,7 @@ def segmenting(runs, record):
         for _ in runs.rounds():
             for eps in BOUNDS:
                 found = {}
-                for side, program, words in (("C++", runs.rival("fitter"), (keys, eps, 1)),
+                for side, program, words in (("C++", runs.rival("fitter"), (keys, eps, PASSES)),
                                              ("segment", runs.bench, ("segment", keys, eps))):
                     found[side], nanoseconds = each(program, *words)
                     record.add(kind, f"{side} {eps}", nanoseconds)
@@ -348,7 +350,7 @@ def boxes(runs, record):
         found = {script: {} for script in rows}
         for _ in runs.rounds():
             for side, (program, what) in rivals.items():
-                words = what, f"{base}.points", dims, 1, *rows
+                words = what, f"{base}.points", dims, BOX_PASSES, *rows
                 for line in rows_of(runs.run(runs.rival(program), *words), "script"):
                     record.add(rows[line["script"]], side, float(line["nanoseconds"]))
                     found[line["script"]][side] = line["found"], line["checksum"]
@@ -375,7 +377,7 @@ def by_euclid(runs, record, row, points, dims, scripts):
     """The nearest points by Euclid's distance; sums of distances may differ in their last bits."""
     found = {}
     for side, words in nearest_rivals(runs).items():
-        text = runs.run(*words, points, dims, 1, *scripts)
+        text = runs.run(*words, points, dims, PASSES, *scripts)
         for line, k in zip(rows_of(text, "script"), NEIGHBOURS):
             record.add(row, f"{side} {k}", float(line["nanoseconds"]))
             found.setdefault(k, {})[side] = line["found"], f"{float(line['distances']):.9e}"
@@ -389,7 +391,7 @@ def near(runs, record):
         points, row, found = runs.points(kind, dims), f"{kind}, {dims} coordinates", {}
         scripts = [runs.centres(points, dims, k) for k in NEIGHBOURS]
         for _ in runs.rounds():
-            text = runs.run(runs.rival("kd_tree"), points, dims, 1, *scripts)
+            text = runs.run(runs.rival("kd_tree"), points, dims, PASSES, *scripts)
             for line, k in zip(rows_of(text, "script"), NEIGHBOURS):
                 record.add(row, f"tree {k}", float(line["nanoseconds"]))
                 found.setdefault(k, {})["tree"] = line["found"], line["distances"]
@@ -413,7 +415,7 @@ def nearest(runs, record):
             for _ in runs.rounds():
                 record.add(kind, f"run {k}", runs.wall(runs.pgmtool, "near", data, script))
                 record.add(kind, f"none {k}", runs.wall(runs.pgmtool, "near", data, "/dev/null"))
-                text = runs.run(runs.rival("kd_tree"), data, 2, 1, script)
+                text = runs.run(runs.rival("kd_tree"), data, 2, PASSES, script)
                 line = next(rows_of(text, "script"))
                 record.add(kind, f"tree {k}", float(line["nanoseconds"]))
                 found["tree"] = int(line["distances"])
@@ -525,14 +527,32 @@ def from_c(runs, record):
                 record.add(row, series, float(each))
 
 
+# The indexes that are drawn: name, key file or how it is made, and what `explain` is told.
+LEVELS = (("primes", TOP / "data/primes.keys", ("--eps", 16)),
+          ("four", TOP / "data/four.keys", ("--eps", 0, "--rec", 0)),
+          ("ids", ("ids.6000.1.keys", "keys", "ids", 6000, 1), ("--eps", 64)))
+
+
+def levels(runs):
+    """Draws indexes: nothing is measured."""
+    folder = (runs.made if runs.given.print else TOP / "docs") / "pictures"
+    folder.mkdir(parents=True, exist_ok=True)
+    for name, keys, options in LEVELS:
+        keys = keys if isinstance(keys, pathlib.Path) else runs.file(*keys)
+        text = runs.made / f"{name}.txt"
+        text.write_text(runs.run(runs.pgmtool, "explain", keys, *options))
+        drawn = runs.run(sys.executable, TOP / "dev/picture.py", keys, text)
+        (folder / f"{name}.svg").write_text(drawn)
+
+
 PARTS = {"lookups": lookups, "lines": lines, "memory": memory, "building": building,
          "segmenting": segmenting, "pieces": pieces, "questions": questions, "boxes": boxes,
          "near": near, "nearest": nearest, "map": ordered_map, "readers": readers,
-         "senders": senders, "explain": explain, "from_c": from_c}
+         "senders": senders, "explain": explain, "from_c": from_c, "levels": levels}
 
 
 def measured(runs, part):
-    """Measures a part, and shows and keeps its record: in the tree, or beside the data for a try."""
+    """Measures a part, and shows and keeps its record."""
     given = {name: getattr(runs.given, name) for name in ("size", "questions", "rounds", "seed")}
     record = records.begun(part, given)
     PARTS[part](runs, record)
@@ -558,6 +578,16 @@ def written(runs, record):
     pictures.draw(record.part, runs.made if is_try else TOP / "docs", runs.folder())
 
 
+def made(runs, part):
+    """Makes what a part shows: of what it measures now, or of its record."""
+    if part == "levels":
+        levels(runs)
+        return
+    record = records.read(part, runs.folder()) if runs.given.tables else measured(runs, part)
+    if record:
+        written(runs, record)
+
+
 def wanted():
     """What is asked for on the command line."""
     asked_for = argparse.ArgumentParser(description=__doc__)
@@ -581,12 +611,11 @@ def main():
     load = os.getloadavg()[0]
     if load > QUIET and not given.tables:
         print(f"the machine isn't quiet: its load is {load:.1f}", file=sys.stderr)
-    for part in given.parts or PARTS:
+    # What is drawn of indexes has no record: it wants the program.
+    for part in given.parts or [part for part in PARTS if part != "levels" or not given.tables]:
         start = time.monotonic()
         try:
-            record = records.read(part, runs.folder()) if given.tables else measured(runs, part)
-            if record:
-                written(runs, record)
+            made(runs, part)
         except (Missing, OSError, ValueError, subprocess.CalledProcessError) as missing:
             left_out += 1
             print(f"{part}: left out, {missing}", file=sys.stderr)

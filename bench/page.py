@@ -55,7 +55,7 @@ def rounds(record):
     many = record.given["rounds"]
     if many == 1:
         return "one round"
-    said = f"the least of {many} rounds in turn"
+    said = f"the best of {many} rounds in turn"
     found = records.spread(record)
     if not found:
         return said + ", of which no other is kept"
@@ -69,8 +69,9 @@ def measured_on(record, of):
     """A line on what was measured, the rounds, the machine and the sources."""
     machine, given = record.machine, record.given
     load = machine.get("load before", machine.get("load"))
+    load = "" if load is None else f", load {load}"
     return (f"{of(given)}, {rounds(record)}; seed {given['seed']}; {machine['processor']}, "
-            f"{machine['processors']} processors, load {load}; commit {record.commit}.")
+            f"{machine['processors']} processors{load}; commit {record.commit}.")
 
 
 def text_of(table, record):
@@ -88,8 +89,10 @@ def text_of(table, record):
                                    for place, _ in columns)])
     made = "\n".join("| " + " | ".join(map(str, line)) + " |" for line in lines)
     made = made.replace("| --- |", "|---|").replace(" --- |", "---|")
-    below = (table.says(record), measured_on(record, table.of), age(record))
-    return "\n\n".join(["", made, *(textwrap.fill(text, 100) for text in below if text)])[1:] + "\n"
+    below = table.says(record), measured_on(record, table.of), age(record)
+    filled = [textwrap.fill(text, 100, break_on_hyphens=False) for text in (table.picture, *below)]
+    texts = [filled[0], made, *filled[1:]]
+    return "\n" + "\n\n".join(text for text in texts if text) + "\n"
 
 
 # What a part shows in short.
@@ -108,9 +111,9 @@ def seen_lookups(record):
     def part(way):
         return of_both(record, way, "lower_bound alone")
     return (f"one at a time {part('16 index alone')} of the former in the mean with ε 16 and "
-            f"{part('64 index alone')} with ε 64, where the latter takes {part('pgm_16 alone')} and "
-            f"{part('pgm_64 alone')}; sixteen together {part('16 index together')} and "
-            f"{part('64 index together')}")
+            f"{part('64 index alone')} with ε 64, where the latter takes "
+            f"{part('pgm_16 alone')} and {part('pgm_64 alone')}; sixteen together "
+            f"{part('16 index together')} and {part('64 index together')}")
 
 
 def seen_lines(record):

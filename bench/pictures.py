@@ -1,7 +1,9 @@
 """Draws the pictures of bench/README.md of the records, docs/pictures/NAME.svg, by matplotlib."""
 import dataclasses
+import io
 import math
 import pathlib
+import re
 import statistics
 import typing
 
@@ -89,7 +91,7 @@ PICTURES = (
     one("workers", "segmenting", "nanoseconds a distinct key, ε 64",
         beside(("C++ fitter", "C++ 64")),
         proved(("segment", "segment 64"), ("pieces, 1 worker", "pieces 1"),
-               ("2 workers", "pieces 2"), ("4 workers", "pieces 4"))),
+               ("pieces, 2 workers", "pieces 2"), ("pieces, 4 workers", "pieces 4"))),
     one("pieces", "pieces", "seconds, ε 64", proved(
         *((f"{name}, {workers} worker{'s' if workers > 1 else ''}", f"{name} {workers}")
           for name in ("build", "relax") for workers in (1, 2, 4)))),
@@ -226,9 +228,6 @@ INDEXES = (
     ("RMI", ("2^16", "lookups", "rmi_16", "memory", "rmi_16")),
 )
 PARTS_OF_BYTES = "lookups", "lines", "memory"
-# Where a point's name stands beside it, in points of a letter: right, below, above, left of it.
-SIDES = ((7, -3, "left"), (5, -14, "left"), (0, -14, "center"), (0, 8, "center"),
-         (-7, -3, "right"), (0, -26, "center"), (0, 20, "center"))
 
 
 def points_of(point, found):
@@ -240,55 +239,42 @@ def points_of(point, found):
     return (100 * mean(shares), mean(sizes)) if shares and sizes else None
 
 
-def name_beside(axes, taken, at, text, colour):
-    """Writes a name at the side of its point where no other one stands: places in pixels."""
-    x, y = axes.transData.transform(at)
-    wide, tall = 4.6 * len(text), 9
-    for right, up, where in SIDES:
-        left = x + right - {"left": 0, "center": wide / 2, "right": wide}[where]
-        box = left, y + up - 2, left + wide, y + up + tall
-        if axes.bbox.x0 < box[0] and box[2] < axes.bbox.x1 and all(box[2] <= other[0] or box[0] >= other[2] or
-                                         box[3] <= other[1] or box[1] >= other[3]
-                                         for other in taken):
-            break
-    taken.append(box)
-    axes.annotate(text, at, (right, up), textcoords="offset pixels", ha=where, color=colour)
-
-
 def bytes_picture(folder):
     """What part of a binary search's time a lookup takes, beside the bytes that an index takes."""
     found = {part: records.read(part, folder) for part in PARTS_OF_BYTES}
     if None in found.values():
         return None
     figure, axes = plot.subplots(figsize=(WIDTH, 4.6), layout="constrained")
-    drawn = []
+    shares = [100]
     for colour, (name, *wanted) in zip(("#1b6ca8", "#2e8b57", "#d9a441", "#8e6bb0", "#c0392b",
-                                        "#6fc3c9"), INDEXES):
-        spots = [(point, points_of(point, found)) for point in wanted]
-        spots = [(point, spot) for point, spot in spots if spot]
+                                        "#9aa5b1"), INDEXES):
+        spots = [(point[0], points_of(point, found)) for point in wanted]
+        spots = [(bound, spot) for bound, spot in spots if spot]
         axes.plot([spot[1] for _, spot in spots], [spot[0] for _, spot in spots], "o-",
-                  color=colour, linewidth=1.2)
-        drawn += [((spot[1], spot[0]), f"{name}, {point[0]}", colour) for point, spot in spots]
-    axes.axhline(100, color="#9aa5b1", linewidth=1.2)
-    axes.set(xscale="log", ylim=(0, 20 * math.ceil(max(105, *(at[1] for at, *_ in drawn)) / 20)),
+                  color=colour, linewidth=1.2, label=name)
+        for bound, (share, size) in spots:
+            axes.annotate(bound, (size, share), (5, 3), textcoords="offset points", color=colour)
+            shares.append(share)
+    axes.axhline(100, color="#444444", linewidth=0.8)
+    axes.set(xscale="log", ylim=(0, 20 * math.ceil(max(shares) / 20) + 5),
              xlabel="bytes beyond the keys, mean of the eight kinds",
              ylabel="percent of the time of std::lower_bound in the same run")
-    low, high = (limit(at[0] for at, *_ in drawn) for limit in (min, max))
-    axes.set_xlim(low / 2, high * 6)
+    axes.margins(x=0.12)
     axes.grid()
-    figure.draw_without_rendering()
-    taken = []
-    for at, _, _ in drawn:
-        x, y = axes.transData.transform(at)
-        taken.append((x - 4, y - 4, x + 4, y + 4))
-    for at, text, colour in drawn:
-        name_beside(axes, taken, at, text, colour)
+    axes.legend(loc="lower left", ncol=3, frameon=False)
     return figure
 
 
 def keep(figure, path):
+    """Writes a picture: an SVG has places to a hundredth of a point, and each path in one line."""
     path.parent.mkdir(parents=True, exist_ok=True)
-    figure.savefig(path, metadata={"Date": None} if path.suffix == ".svg" else None)
+    if path.suffix == ".svg":
+        made = io.StringIO()
+        figure.savefig(made, format="svg", metadata={"Date": None})
+        short = re.sub(r"(\.\d\d)\d+", r"\1", made.getvalue())
+        path.write_text(re.sub(r" *\n(?=[LCz] ?)", "", short))
+    else:
+        figure.savefig(path)
     plot.close(figure)
 
 

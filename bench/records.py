@@ -1,7 +1,7 @@
 """The record of a part's last run: the numbers of all its rounds, and what they were measured on.
 
 bench/records/PART.json has
-    part, day, commit   what was measured, and when; behind the commit of the sources stands `-dirty`
+    part, day, commit   what was measured, and when; the commit of the sources ends with `-dirty`
                         where they had changed since
     source              `measured`; or `table of DAY`, where nothing but a table is left of the run:
                         one number a cell, the least of its rounds

@@ -2,11 +2,8 @@
 `<!-- end of NAME -->`, and what a part shows in short between `<!-- seen PART -->` and
 `<!-- end of seen PART -->`."""
 import dataclasses
-import statistics
-import textwrap
 import typing
 
-import records
 from records import TOP, mean
 
 PAGE = TOP / "bench/README.md"
@@ -28,6 +25,7 @@ class Table:
     says: typing.Callable = lambda record: ""
     of: typing.Callable = lambda given: f"{given['size']:,} keys"
     rows: dict = None  # the rows that are wanted, with what they are called; else all
+    picture: str = ""  # a picture that is there with the table alone, before it
 
 
 # What gives a cell.
@@ -124,7 +122,7 @@ def shares(record, ways, many):
 def over_sets(record, way, base, said, sets=SETS):
     """A sentence for each set of kinds that the record has, of the parts of a way's time."""
     found = [(name, parts(record, way, base, rows)) for name, rows in sets]
-    return "; ".join(f"{said(values)} over the {name} kinds" for name, values in found if values)
+    return " and ".join(f"{said(values)} over the {name} kinds" for name, values in found if values)
 
 
 def says_of_lookups(record):
@@ -174,7 +172,8 @@ def says_of_building(record):
     said = [over_sets(record, f"build {workers}", "C++ build",
                       lambda values: f"{between(values)}, {mean(values):.2f} in the geometric mean")
             for workers in (1, 4)]
-    return f"Of the C++ program's time `build` takes {said[0]} with one worker; {said[1]} with four."
+    return (f"Of the C++ program's time `build` takes with one worker {said[0]}; with four "
+            f"{said[1]}.")
 
 
 def says_of_saved(record):
@@ -186,7 +185,8 @@ def says_of_questions(record):
     said = [over_sets(record, f"query {workers}", "by itself",
                       lambda values: f"{between(values)}, {mean(values):.2f} in the geometric mean")
             for workers in (1, 4)]
-    return f"Of the C++ program's time `query` takes {said[0]} with one worker; {said[1]} with four."
+    return (f"Of the C++ program's time `query` takes with one worker {said[0]}; with four "
+            f"{said[1]}.")
 
 
 BOUNDS = 4, 16, 64, 256
@@ -323,7 +323,9 @@ TABLES = (
     Table("near by Euclid", "near", "microseconds a centre", [
         (f"{title}, k = {k}", number(f"{side} {k}", "{:.2f}", 1e-3)) for k in NEIGHBOURS
         for title, side in (("nanoflann", "nanoflann"), ("Boost's R-tree", "Boost"),
-                            ("k-d tree", "tree by Euclid"))], of=points_and_centres),
+                            ("k-d tree", "tree by Euclid"))], of=points_and_centres,
+        picture="![Microseconds a centre of nanoflann, of Boost's R-tree and of the k-d tree, by "
+                "Euclid's distance](../docs/pictures/euclid.svg)"),
     Table("the nearest points", "nearest", "microseconds", [
         (f"k = {k}", pair(f"near {k}", f"tree {k}", "{:.2g}", 1e-3)) for k in NEIGHBOURS],
         of=points_and_centres),
@@ -344,7 +346,8 @@ TABLES = (
     Table("saved indexes", "building", "seconds", [
         ("`build`", number("build 1", "{:.3g}")), ("`save`", number("save", "{:.3g}")),
         ("`check`", number("check", "{:.3g}")), ("Runs", number("runs", COUNT)),
-        ("Bytes of the file", number("bytes", COUNT)), ("Bytes a run", ratio("bytes", "runs", "{:.1f}"))],
+        ("Bytes of the file", number("bytes", COUNT)),
+        ("Bytes a run", ratio("bytes", "runs", "{:.1f}"))],
         says_of_saved),
     Table("memory", "memory", "bytes beyond the keys", [
         (head, number(series, COUNT)) for head, series in (

@@ -9,6 +9,8 @@ outside the band of the run that it ends. The heights are worked out exactly, in
 rounded once; axes and paths are by matplotlib (Debian's python3-matplotlib). A list of more than a
 thousand points is thinned above, and nowhere below.
 """
+import io
+import re
 import struct
 import sys
 
@@ -18,6 +20,7 @@ except ImportError:
     sys.exit("picture.py: matplotlib is wanted: apt-get install python3-matplotlib, and /usr/bin/python3")
 matplotlib.use("svg")
 import matplotlib.pyplot as plot  # noqa: E402 (the way of drawing is chosen before)
+from matplotlib.ticker import MaxNLocator  # noqa: E402
 
 COLOURS = ("#1b6ca8", "#2e8b57")
 BAND, WITNESS, GREY = "#f2d16b", "#c0392b", "#666666"
@@ -80,15 +83,15 @@ def above_line(point, line):
 
 
 def across(points):
-    """The x and the y of points, as lists."""
-    return [x for x, _ in points], [y for _, y in points]
+    """The x and the y of points, as lists: keys of 64 bits are rounded here, behind all heights."""
+    return [float(x) for x, _ in points], [float(y) for _, y in points]
 
 
 def segments(axes, points, runs, eps):
     """Of each run its line, with the band of ε places about it."""
     for number, run in enumerate(runs):
-        xs = [points[run["start"]][0], points[run["end"] - 1][0]]
-        ys = [height(run["line"], x) for x in xs]
+        ends = points[run["start"]][0], points[run["end"] - 1][0]
+        xs, ys = across([(x, height(run["line"], x)) for x in ends])
         axes.fill_between(xs, [y - eps for y in ys], [y + eps for y in ys], color=BAND, alpha=0.55,
                           linewidth=0)
         axes.plot(xs, ys, color=COLOURS[number % 2], linewidth=1.6)
@@ -104,7 +107,8 @@ def witnesses(axes, points, runs, eps):
         if run["witness"]:
             shift = eps if run["side"] == "under" else -eps
             p, q, r = (points[place] for place in run["witness"])
-            axes.plot([p[0], r[0]], [p[1] + shift, r[1] + shift], "--", color=WITNESS, linewidth=1)
+            chord = [(x, y + shift) for x, y in (p, r)]
+            axes.plot(*across(chord), "--", color=WITNESS, linewidth=1)
             circles(axes, (p, q, r))
 
 
@@ -139,14 +143,19 @@ def picture(points, eps, runs, title, x_label, y_label):
     legend = f"yellow: the band of {eps} places; " if eps else ""
     above.set(title=title, ylabel=y_label)
     below.set(xlabel=f"{x_label}\n{legend}red: three places that no line fits, for each run that is cut",
-              ylabel="from its line, in places", xlim=(points[0][0], points[-1][0]) if len(points) > 1 else None)
+              ylabel="from its line, in places")
     for axes in (above, below):
         axes.grid()
-        axes.margins(y=0.08)
-    if small:
-        above.margins(x=0.02)
-        below.autoscale(axis="x")
+        axes.margins(x=0.02 if small else 0.005, y=0.08)
+    above.yaxis.set_major_locator(MaxNLocator(integer=True))
     return figure
+
+
+def svg_of(figure):
+    """The picture as text: places to a hundredth of a point, and each path in one line."""
+    made = io.StringIO()
+    figure.savefig(made, format="svg", metadata={"Date": None})
+    return re.sub(r" *\n(?=[LCz] ?)", "", re.sub(r"(\.\d\d)\d+", r"\1", made.getvalue()))
 
 
 def main():
@@ -163,7 +172,7 @@ def main():
     kind = "points" if level == 0 else "segments of the level below"
     labels = ("key", "place in the file") if level == 0 else ("first key of the segment", "segment")
     figure = picture(points, eps, runs, f"{len(points)} {kind}, ε = {eps}, segments: {len(runs)}", *labels)
-    figure.savefig(sys.stdout.buffer, format="svg", metadata={"Date": None})
+    sys.stdout.write(svg_of(figure))
 
 
 if __name__ == "__main__":

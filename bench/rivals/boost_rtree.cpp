@@ -4,6 +4,8 @@
 //   boost_rtree near POINTS DIMS ROUNDS SCRIPT..
 // The files are those of `pgmtool box` and `pgmtool near`. Prints what `boxes` and `kd_tree` print.
 #include "points.hpp"
+// Its own headers include some of these.
+#define BOOST_ALLOW_DEPRECATED_HEADERS
 #include <boost/geometry.hpp>
 #include <boost/geometry/index/rtree.hpp>
 #include <boost/iterator/function_output_iterator.hpp>

@@ -1,7 +1,8 @@
-// Updates of several senders through moodycamel's queue (Cameron Desrochers;
-// libconcurrentqueue-dev), each with a token of its own: concurrent_queue UPDATES SENDERS WAY The
-// queue grows as it must, so who sends never waits. WAY is `yield`, where who takes and finds it
-// empty lets others run and tries again, or `wait`, where he is woken.
+// Updates of several senders through moodycamel's queue, each sender with a token of its own
+// (Cameron Desrochers; libconcurrentqueue-dev):
+//   concurrent_queue UPDATES SENDERS WAY
+// The queue grows as it must, so who sends never waits. WAY is `yield`, where who takes and finds
+// it empty lets others run and tries again, or `wait`, where he is woken.
 #include "senders.hpp"
 #include <concurrentqueue/blockingconcurrentqueue.h>
 #include <memory>
