@@ -17,7 +17,7 @@ replay SCRIPT|what a map answers to a script's questions, after its updates and 
 mix SCRIPT|what `replay` does, of updates that senders send in threads of their own
 save FILE|the index of a key file, as bytes that `check` takes
 check FILE INDEX|whether a saved index is the one index of a key file
-lines FILE|lines of a key file, as words that say where in it to look first
+lines FILE|hints for a key file: numbers that say where in it to look first
 find FILE LINES SCRIPT|what `query` does, led by a file of lines, whatever that holds
 drill N SEED|what is counted of N inputs of each kind, drawn from a seed
 TEXT
@@ -88,7 +88,7 @@ usage() {
   echo 'options, with what they may be and (what they are):'
   options | told_options all
   echo
-  echo 'help COMMAND tells the options of one; test runs the tests, in minutes and unproved; prove'
+  echo 'help COMMAND lists the options of one; test runs the tests, in minutes and unproved; prove'
   echo 'proves the program and builds it; --version tells which one this is.'
   echo 'docs/formats.md has the files, the text and the statuses, docs/examples.md examples, and'
   echo 'dev/keys.py makes a key file of a text, a CSV file or what numpy and pandas read.'
