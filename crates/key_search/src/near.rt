@@ -1,9 +1,14 @@
 // The position of one question, near where it is said to be.
-ghost use Rattle.std.specs.Prelude.{◌≡◌, ◌≤◌, ◌<◌, ◌+◌, ◌^◌, length, IfSome};
+ghost use Rattle.std.specs.Prelude.{◌≡◌, ◌≤◌, ◌<◌, ◌+◌, ◌^◌, ◌↔◌, length, IfSome, IsTrue};
 ghost use Rattle.std.specs.List.Sorted.{IsNonDecreasing};
+ghost use Rattle.budget.specs.Ledgers.{IsNewLedger};
+ghost use Rattle.window_search.specs.Brackets.{IsBracket};
 ghost use Rattle.window_search.specs.Searches.{lb};
 
-use window_search::{KeyList, is_bracket};
+use budget::Steps;
+use std::marker::Brand;
+use std::sync::ledger::{Blank, Ledger};
+use window_search::{CountedKeys, KeyList, is_bracket};
 
 /// How many keys are a group.
 const GROUP: usize = 8;
@@ -23,11 +28,21 @@ pub fn position_near<K: KeyList>(keys: K, start: usize, groups: usize, q: u64) -
     ensures within { IfSome result (λ place. place ≤ length (K.listed keys)) }
 {
     let place = place_near(keys, start, groups, q);
-    if is_bracket(keys, place, q) {
+    if brackets::<K, Brand>(keys, place, q, Blank::new(1)) {
         Some(place)
     } else {
         None
     }
+}
+
+/// Whether a place brackets a question, its reads counted in a new ledger.
+#[inline(always)]
+fn brackets<K: KeyList, L: Ledger>(keys: K, place: usize, q: u64, blank: Blank) -> bool
+    requires { IsNewLedger blank L.name L.parts }
+    ensures { IsTrue result ↔ IsBracket (K.listed keys) q place }
+{
+    let mut steps = Steps::<L>::new(blank);
+    is_bracket(&CountedKeys::new(keys), place, q, &mut steps)
 }
 
 /// How many keys are below a question, if that place is near a start or at the keys' end.

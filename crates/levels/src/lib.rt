@@ -11,6 +11,7 @@
 #![tactic(auto)]
 
 mod build;
+mod counted;
 mod entry;
 mod index;
 mod level;

@@ -16,7 +16,7 @@ use budget::Steps;
 use exact_cross::Segment;
 use std::marker::Brand;
 use std::sync::ledger::{Blank, Ledger};
-use window_search::{CountedKeys, lower_in, predecessor_in, window};
+use window_search::{lower_in, predecessor_in, window};
 
 impl Index {
     /// The position of `q` in the file: how many of its keys are below `q`.
@@ -49,18 +49,18 @@ impl Index {
             self.now.eps_rec (length self.now.levels)) steps.old steps.new }
         ensures cost_empty { length self.now.levels ≡ 0 → steps.new ≡ steps.old }
     {
-        let keys = self.keys().as_slice();
+        let keys = self.counted_file();
         let levels = self.level_count();
         if levels == 0 {
             return 0;
         }
-        let first = CountedKeys::new(keys).read(0, steps);
+        let first = keys.read(0, steps);
         if q < first {
             return 0;
         }
         let run = self.run_of(q, steps);
         let (low, high) = self.window_by_model(0, run, q);
-        lower_in(keys, low, high, q, steps)
+        lower_in(&keys, low, high, q, steps)
     }
 
     /// The run of level 0 that begins last at or before `q`, where the first key does: among those
@@ -76,7 +76,7 @@ impl Index {
     {
         if self.level_count() > 1 {
             if let Some((low, high)) = self.runs_near(q) {
-                return predecessor_in(self.firsts(1), low, high, q, steps);
+                return predecessor_in(&self.counted_firsts(1), low, high, q, steps);
             }
         }
         self.run_by_levels(q, steps)
@@ -115,8 +115,8 @@ impl Index {
         if entry + 1 == levels {
             return 0;
         }
-        let list = self.firsts(entry + 1);
-        predecessor_in(list, 0, list.len() as u32 - 1, q, steps)
+        let list = self.counted_firsts(entry + 1);
+        predecessor_in(&list, 0, list.len() as u32 - 1, q, steps)
     }
 
     /// The predecessor of `q` in the list of a level above level 0, where the run with it is known.
@@ -135,7 +135,7 @@ impl Index {
         ensures cost { TakesAtMost (2 * (2 * self.now.eps_rec + 3)) steps.old steps.new }
     {
         let (low, high) = self.window_by_model(level, run, q);
-        predecessor_in(self.firsts(level), low, high, q, steps)
+        predecessor_in(&self.counted_firsts(level), low, high, q, steps)
     }
 
     /// A window of `q` in a run of a level, by the run's model. It holds what that of the run's

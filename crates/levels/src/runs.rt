@@ -10,7 +10,7 @@ use crate::index::Index;
 use budget::Steps;
 use key_search::LANES;
 use std::sync::ledger::Ledger;
-use window_search::lower_in;
+use window_search::{CountedKeys, KeyList, lower_in};
 
 impl Index {
     /// How many runs level 0 has, none where there is no key.
@@ -60,37 +60,14 @@ impl Index {
             steps.new }
     {
         let _runs = self.runs();
-        let keys = self.keys().as_slice();
-        let begun = self.begun(q, least, most, steps);
+        let keys = self.counted_file();
+        let (low, high) = self.begun_between(q, least, most);
+        let begun = begun_in(&self.counted_starts(), low, high, q, steps);
         if begun == 0 {
             return 0;
         }
         let (low, high) = self.window_by_model(0, begun - 1, q);
-        lower_in(keys, low, high, q, steps)
-    }
-
-    /// How many runs of level 0 begin at or before `q`.
-    #[inline(always)]
-    fn begun<L: Ledger>(&self, q: u64, least: u32, most: u32, steps: &mut Steps<L>) -> u32
-        requires between { IsBetween (xs_at self.now.keys self.now.levels 1) q least most }
-        ensures runs { IsBetween (xs_at self.now.keys self.now.levels 1) q result result }
-        ensures cost { TakesAtMost (2 * (most - least + 1)) steps.old steps.new }
-    {
-        let _runs = self.runs();
-        let (low, high) = self.begun_between(q, least, most);
-        let mut begun = low;
-        let mut left = high.saturating_sub(low);
-        while left > 0 {
-            let half = left / 2;
-            steps.tick();
-            if self.first_x(begun + half) <= q {
-                begun += half + 1;
-                left -= half + 1;
-            } else {
-                left = half;
-            }
-        }
-        begun
+        lower_in(&keys, low, high, q, steps)
     }
 
     /// The lower bounds of sixteen questions, where at least and at most so many runs of level 0
@@ -138,4 +115,33 @@ impl Index {
         }
         self.bounds_below(&asked, places);
     }
+}
+
+/// How many rising numbers are at most `q`, where it is known that at least `low` are and at most
+/// `high`. A step is a key read.
+#[inline(always)]
+fn begun_in<K: KeyList, L: Ledger>(
+    starts: &CountedKeys<K, L>,
+    low: u32,
+    high: u32,
+    q: u64,
+    steps: &mut Steps<L>,
+) -> u32
+    requires order { IsNonDecreasing starts.now }
+    requires between { IsBetween starts.now q low high }
+    ensures begun { IsBetween starts.now q result result }
+    ensures cost { TakesAtMost (2 * (high - low + 1)) steps.old steps.new }
+{
+    let mut begun = low;
+    let mut left = high.saturating_sub(low);
+    while left > 0 {
+        let half = left / 2;
+        if starts.read((begun + half) as usize, steps) <= q {
+            begun += half + 1;
+            left -= half + 1;
+        } else {
+            left = half;
+        }
+    }
+    begun
 }

@@ -82,7 +82,7 @@ impl Index {
         let mut run = 0;
         while level > 0 {
             let (low, high) = self.push_window(level, run, q, into);
-            run = predecessor_in(self.firsts(level), low, high, q, steps);
+            run = predecessor_in(&self.counted_firsts(level), low, high, q, steps);
             level -= 1;
         }
         let _ = self.push_window(0, run, q, into);

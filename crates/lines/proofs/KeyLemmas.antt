@@ -81,7 +81,7 @@ module _ (keys : List ℕ) (eps : ℕ) (start : ℕ → ℕ) (count : ℕ) (line
 pub LeadsWithin-keys : (keys : List ℕ) (eps : ℕ) (words : List ℕ) → IsNonDecreasing keys → AreLinesOver (points_of (xs_of keys) (ys_of keys)) eps words → LeadsWithin words keys (eps + 2)
 unfolding IsTold
 LeadsWithin-keys keys eps words order over q place fits (inl told) =
-    let by = subst (λ (e : ℕ). IsToldBy (lines_in words) e (length keys) q told.1.0 place) over.bound told.1.2 in
+    let by = subst (λ (e : ℕ). IsToldBy (lines_in words) e (length keys) q told.1.0 place) over.format.bound told.1.2 in
     let led = near keys eps _ _ (lines_in words) order over.lines q told.1.0 place fits told.1.1 by in
     omega (arith, led.not_above, led.not_below)
-LeadsWithin-keys keys eps words order over q place fits (inr other) = absurd (other.0 over.whole)
+LeadsWithin-keys keys eps words order over q place fits (inr other) = absurd (other.0 (record { format = over.format.known; room = omega (arith, over.format.long) }))

@@ -1,5 +1,6 @@
 pub mod LineLemmas
 pub mod LookupLemmas
+mod ManyLemmas
 mod RoundedLemmas
 mod LeadLemmas
 mod KeyLemmas

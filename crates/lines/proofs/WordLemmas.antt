@@ -74,11 +74,12 @@ pub AreLinesOver-in : (p : Points) (eps : ℕ) (segments : List Segment) (head w
 AreLinesOver-in p eps segments head words runs is adds = record {
   segments = segments;
   cover = runs.cover;
-  whole = record {
-    format = old 0 (omega (arith, is.long)) ∙ is.known;
-    room = omega (arith, table, count, ap length adds.are, length-append head adds.lines, is.long, adds.holds.long);
+  format = record {
+    known = old 0 (omega (arith, is.long)) ∙ is.known;
+    bound = old 1 (omega (arith, is.long)) ∙ is.bound;
+    long = omega (arith, table, count, ap length adds.are, length-append head adds.lines, is.long, adds.holds.long);
   };
-  bound = old 1 (omega (arith, is.long)) ∙ is.bound;
+  table = omega (arith, table, count, is.table);
   count = count;
   lines = subst (AreLinesOf p eps (start_at p.count segments) (length segments)) (sym same) (record {
     holds = adds.holds;

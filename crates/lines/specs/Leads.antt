@@ -1,11 +1,22 @@
--- How many lines words have.
-use Rattle.std.specs.Prelude.{◌≡◌, ℕ, List, length, slice_index}
+-- What words are, and how many lines they have.
+use Rattle.std.specs.Prelude.{◌≡◌, ℕ, ◌+◌, ◌*◌, ◌≤◌, List, length, slice_index}
 use Rattle.exact_cross.specs.Points.{points_of}
 use Rattle.exact_cross.specs.Checked.{IsLeastCover}
 use Rattle.key_points.specs.KeyPoints.{xs_of, ys_of}
+use Rattle.lines.specs.declared.words.TheConstants.{FORMAT, HEAD_WORDS}
 
 -- there are as many lines as the least cover of the keys' points has runs
 pub record HaveLeastLines (keys : List ℕ) (eps : ℕ) (words : List ℕ) : Type 0 where
   pub starts : List ℕ
   pub cover : IsLeastCover (points_of (xs_of keys) (ys_of keys)) eps 0 (length (xs_of keys)) starts
   pub count : slice_index words 2 ≡ length starts
+
+-- the words are in the format, with this error bound: the head's six, as many of the table as word 3 says, and three for each of the lines that word 2 counts
+pub record AreInFormat (eps : ℕ) (words : List ℕ) : Type 0 where
+  pub known : slice_index words 0 ≡ FORMAT
+  pub bound : slice_index words 1 ≡ eps
+  pub long : length words ≡ HEAD_WORDS + slice_index words 3 + 3 * slice_index words 2
+
+-- there are at most 6 words, and five for each line
+abbrev pub AreFew : List ℕ → Type 0
+AreFew words = length words ≤ 6 + 5 * slice_index words 2

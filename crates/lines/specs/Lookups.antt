@@ -1,5 +1,5 @@
 -- How near the words lead, what a lookup reads, and the places of many questions.
-use Rattle.std.specs.Prelude.{◌≡◌, ◌⊎◌, ℕ, ◌^◌, ◌<◌, ◌≤◌, List, length, slice_index}
+use Rattle.std.specs.Prelude.{◌≡◌, ◌⊎◌, ℕ, ◌+◌, ◌*◌, ◌^◌, ◌<◌, ◌≤◌, List, length, slice_index}
 use Rattle.std.specs.Int.{abs_diff}
 use Rattle.std.specs.List.Sorted.{IsNonDecreasing}
 use Rattle.window_search.specs.Brackets.{IsBracket}
@@ -22,3 +22,11 @@ ArePositions keys questions places count = (k : ℕ) → k < count → IsPositio
 -- only places from `first` on and before `end` are other than they were
 abbrev pub IsSameOutside : ℕ → ℕ → List ℕ → List ℕ → Type 0
 IsSameOutside first end before after = (k : ℕ) → (k < first) ⊎ (end ≤ k) → slice_index after k ≡ slice_index before k
+
+-- from `before` to `after` at most as many times t steps were taken as there are questions, with 2 ^ t at most `most`
+abbrev pub TakesEach : ℕ → ℕ → ℕ → ℕ → Type 0
+TakesEach most count before after = (t : ℕ) × (after ≤ before + count * t) × (2 ^ t ≤ most)
+
+-- the same, with 2 ^ t at most `each` times (far + 1) ^ 2
+abbrev pub ReadsEachWithin : ℕ → ℕ → ℕ → ℕ → ℕ → Type 0
+ReadsEachWithin each far count before after = TakesEach (each * (far + 1) ^ 2) count before after

@@ -1,12 +1,13 @@
 -- Words that are made of a cover's lines. No public clause cites it.
-use Rattle.std.specs.Prelude.{◌≡◌, ℕ, ◌+◌, ◌-◌, ◌*◌, ◌/◌, ◌%◌, ◌^◌, ◌<◌, ◌≤◌, ℤ, pos, ◌+ℤ◌, ◌≤ℤ◌, ◌<ℤ◌, List, [], ◌∷◌, ◌++◌, length, slice_index}
+use Rattle.std.specs.Prelude.{◌≡◌, ℕ, ◌+◌, ◌-◌, ◌*◌, ◌/◌, ◌%◌, ◌^◌, ◌<◌, ◌≤◌, ℤ, pos, ◌+ℤ◌, ◌≤ℤ◌, ◌<ℤ◌, List, ◌++◌, length, slice_index}
 use Rattle.exact_cross.specs.declared.line.Line.{Line}
 use Rattle.exact_cross.specs.declared.segment.Segment.{Segment}
 use Rattle.exact_cross.specs.Points.{Points}
 use Rattle.exact_cross.specs.Floors.{IsFloorAt}
 use Rattle.exact_cross.specs.Segments.{starts_of, start_at, EachRun, IsFitted}
 use Rattle.exact_cross.specs.Checked.{IsInRange, IsLeastCover}
-use Rattle.lines.specs.Told.{IsWhole, lines_in}
+use Rattle.lines.specs.Told.{lines_in}
+use Rattle.lines.specs.Leads.{AreInFormat}
 use Rattle.lines.specs.declared.words.TheConstants.{FORMAT, HEAD_WORDS}
 
 -- a height at q, raised by ε: that at the first x, packed with how many binary places the multiplier has, and the climb from there
@@ -47,6 +48,7 @@ pub record IsHead (eps lines : ℕ) (head : List ℕ) : Type 0 where
   pub bound : slice_index head 1 ≡ eps
   pub count : slice_index head 2 ≡ lines
   pub long : length head ≡ HEAD_WORDS + slice_index head 3
+  pub table : slice_index head 3 ≤ 2 * lines
 
 -- so many words behind those that are there
 pub record AddsWords (count : ℕ) (before words : List ℕ) : Type 0 where
@@ -75,7 +77,7 @@ pub record AreLinesOf (p : Points) (eps : ℕ) (start : ℕ → ℕ) (count : �
 pub record AreLinesOver (p : Points) (eps : ℕ) (words : List ℕ) : Type 0 where
   pub segments : List Segment
   pub cover : IsLeastCover p eps 0 p.count (starts_of segments)
-  pub whole : IsWhole words
-  pub bound : slice_index words 1 ≡ eps
+  pub format : AreInFormat eps words
+  pub table : slice_index words 3 ≤ 2 * slice_index words 2
   pub count : slice_index words 2 ≡ length segments
   pub lines : AreLinesOf p eps (start_at p.count segments) (length segments) (lines_in words)

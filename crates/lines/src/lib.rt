@@ -9,20 +9,19 @@
 //! keys fall, as 5, 1, 9, a lookup gives a place that brackets the question: the key before it is
 //! below the question, and the key there isn't.
 //!
-//! Main clauses: `bracket`, `found`, `worst` and `near` of [`lower_bound`], and `lead` and `least`
-//! of [`lines_of`], which makes the words. The words of the clauses are in `specs/`. No lookup
-//! takes memory, and none fails.
+//! Main clauses: `bracket`, `found`, `worst` and `near` of [`position_counted`], which [`position`]
+//! is with nothing counted, and `lead`, `least` and `small` of [`lines_of`], which makes the words.
+//! The words of the clauses are in `specs/`. No lookup takes memory, and none fails.
 #![tactic(auto)]
 
 mod line_list;
 mod lookup;
 mod made;
 mod many;
-mod near;
 mod table;
 mod words;
 
-pub use lookup::{lower_bound, position, upper_bound};
+pub use lookup::{position, position_counted, upper_bound, upper_bound_counted};
 pub use made::lines_of;
-pub use many::positions;
+pub use many::{positions, positions_counted};
 pub use words::told;

@@ -1,10 +1,12 @@
 // Lines, three words each: the first x, the slope, and the height there with the slope's shift.
 ghost use Rattle.std.specs.Prelude.{◌≡◌, ◌+◌, ◌-◌, ◌*◌, ◌/◌, ◌<◌, ◌≤◌, length, min};
+ghost use Rattle.budget.specs.Ledgers.{IsNewLedger};
 ghost use Rattle.window_search.specs.Brackets.{IsBracket};
 ghost use Rattle.lines.specs.Told.{IsToldBy, first_xs, height_at};
 
-use crate::lookup::position_at;
-use window_search::KeyList;
+use budget::Steps;
+use std::sync::ledger::{Blank, Ledger};
+use window_search::{CountedKeys, KeyList, bracket_from};
 
 /// The first x of each line, as keys.
 #[derive(Clone, Copy)]
@@ -30,14 +32,24 @@ impl<'a> KeyList for FirstXs<'a> {
 
 /// How many of the lines begin at or before `q`, if from so many to so many are said to; searched
 /// anew where they don't. Of lines that don't rise, some place that brackets the number after it.
+///
+/// Its reads are counted in a new ledger, and no clause says how many they are.
 #[inline(always)]
-pub fn lines_begun(lines: &[u64], from: usize, to: usize, q: u64) -> usize
+pub fn lines_begun<L: Ledger>(lines: &[u64], from: usize, to: usize, q: u64, blank: Blank) -> usize
+    requires { IsNewLedger blank L.name L.parts }
     ensures { IsBracket (first_xs lines.now) (q + 1) result }
 {
     if q == u64::MAX {
         return lines.len() / 3;
     }
-    position_at(FirstXs { lines }, begun_between(lines, from, to, q), q + 1)
+    let mut steps = Steps::<L>::new(blank);
+    let begun = begun_between(lines, from, to, q);
+    bracket_from(
+        &CountedKeys::new(FirstXs { lines }),
+        begun,
+        q + 1,
+        &mut steps,
+    )
 }
 
 /// How many lines begin at or before `q`, if from so many to so many do. No clause says that they

@@ -9,7 +9,7 @@ ghost use Rattle.exact_cross.specs.Segments.{start_at};
 ghost use Rattle.key_points.specs.KeyPoints.{xs_of, ys_of};
 ghost use Rattle.key_points.specs.Falls.{IsFirstFall};
 ghost use Rattle.key_points.specs.declared.fault.KeysFault.TheVariants.{Falls, TooMany};
-ghost use Rattle.lines.specs.Leads.{HaveLeastLines};
+ghost use Rattle.lines.specs.Leads.{AreFew, AreInFormat, HaveLeastLines};
 ghost use Rattle.lines.specs.Lookups.{LeadsWithin};
 ghost use Rattle.lines.specs.Made.{AddsLines, AreLinesOver, AreRuns, AreWordsOf, IsShort};
 ghost use Rattle.lines.specs.Made.{TellsPoints};
@@ -24,9 +24,10 @@ use std::alloc::Global;
 /// The words of lines of keys, which lead a lookup to nearly its place.
 ///
 /// `eps` is the error bound ε, in places: with a larger one there are fewer lines, and what they
-/// tell is further off. The keys are borrowed and not copied; while the lines are made it takes 4
-/// bytes a key where none repeats, and at most 12 where one does, beside the hulls of the
-/// segmentation.
+/// tell is further off. There are at most 6 words and five for each line.
+///
+/// The keys are borrowed and not copied; while the lines are made it takes 4 bytes a key where none
+/// repeats, and at most 12 where one does, beside the hulls of the segmentation.
 ///
 /// # Errors
 ///
@@ -41,6 +42,10 @@ pub fn lines_of(alloc: Global, keys: &[u64], eps: u32) -> Result<Vec<u64>, KeysF
     ensures lead { IfOk result (λ words. LeadsWithin words.items keys.now (eps + 2)) }
     // No cover of the keys' points by lines within ε has fewer lines.
     ensures least { IfOk result (λ words. HaveLeastLines keys.now eps words.items) }
+    // The number of the format first, then ε, and how many lines and words of a table there are.
+    ensures format { IfOk result (λ words. AreInFormat eps words.items) }
+    // At most 6 words, and five for each line.
+    ensures small { IfOk result (λ words. AreFew words.items) }
     ensures too_many { 2 ^ 32 ≤ length keys.now → result ≡ Err (TooMany (length keys.now)) }
     ensures too_many_only { (count : ℕ) → result ≡ Err (TooMany count) →
         (count ≡ length keys.now) × (2 ^ 32 ≤ count) }

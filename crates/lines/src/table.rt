@@ -1,5 +1,5 @@
 // The head of lines, with the table that leads to them.
-ghost use Rattle.std.specs.Prelude.{ℕ, ◌+◌, ◌<◌, ◌≤◌, IfOk, OnOk, length, slice_index_or};
+ghost use Rattle.std.specs.Prelude.{ℕ, ◌+◌, ◌*◌, ◌<◌, ◌≤◌, IfOk, OnOk, length, slice_index_or};
 ghost use Rattle.exact_cross.specs.declared.segment.Segment.{Segment};
 ghost use Rattle.lines.specs.Made.{AddsWords, IsHead};
 
@@ -18,7 +18,7 @@ struct Cuts {
 }
 
 /// The head of lines, one for each segment, with its table: for each step how many lines begin
-/// before it. It has at most two steps a line, and no clause says what they tell.
+/// before it. It has at most two steps a line. No clause says what they tell.
 pub fn head_of(
     alloc: Global,
     xs: &[u64],
@@ -48,6 +48,7 @@ pub fn head_of(
 fn cuts_of(xs: &[u64], segments: &[Segment]) -> Cuts
     requires { (k : ℕ) (d : Segment) → k < length segments.now →
         (slice_index_or segments.now k d).start < length xs.now }
+    ensures { result.count ≤ 2 * length segments.now }
 {
     let lines = segments.len();
     if lines == 0 {

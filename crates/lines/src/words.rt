@@ -3,6 +3,8 @@ ghost use Rattle.std.specs.Prelude.{◌≡◌, ◌+◌, ◌≤◌, IfNone, IfSom
 ghost use Rattle.lines.specs.Told.{IsTold, IsWhole, lines_in};
 
 use crate::line_list::{lines_begun, place_told};
+use std::marker::Brand;
+use std::sync::ledger::Blank;
 
 /// The first word of a list in the format: `kbqline1`, the lowest byte first.
 pub const FORMAT: u64 = 0x3165_6e69_6c71_626b;
@@ -31,7 +33,7 @@ pub fn told(words: &[u64], n: usize, q: u64) -> usize
         return 0;
     };
     let (from, to) = step_of(words, q);
-    let begun = lines_begun(lines, from, to, q);
+    let begun = lines_begun::<Brand>(lines, from, to, q, Blank::new(1));
     place_told(lines, words[1], n, q, begun)
 }
 

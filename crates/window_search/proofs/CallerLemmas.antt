@@ -11,4 +11,4 @@ pub use Rattle.window_search.proofs.WindowLemmas.{
   IsWindow-unique,
 }
 pub use Rattle.window_search.proofs.LowerBounds.{IsLowerBound, IsLowerBound-lb, lb-is, lb-predecessor, IsPredecessor-unique, predecessor_exists}
-pub use Rattle.window_search.proofs.Reaching.{bracket-lb}
+pub use Rattle.window_search.proofs.Reaching.{bracket-lb, lb-brackets}

@@ -1,12 +1,12 @@
--- Steps from a hint away that double, and what they read: with `reach` from the hint to half of the last step, 2 to the steps is reach.
-use Rattle.std.proofs.Common.{◌≡◌, ℕ, ◌+◌, ◌-◌, ◌*◌, ◌^◌, ◌≤◌, List, ap, sym, ◌∙◌, add-one, arith}
+-- Steps from a hint away that double, and what they read: with `reach` from the hint to the next one, 2 to the steps is reach.
+use Rattle.std.proofs.Common.{◌≡◌, ℕ, ◌+◌, ◌-◌, ◌*◌, ◌^◌, ◌<◌, ◌≤◌, List, ap, sym, ◌∙◌, add-one, arith}
 use Rattle.std.specs.Int.{abs_diff}
 use Rattle.std.specs.List.Sorted.{IsNonDecreasing}
 use Rattle.std.proofs.Math.Nat.{pow-suc, pow-zero}
 use Rattle.std.proofs.lemmas.Nat.{pow-add, mul-le}
 use Rattle.window_search.specs.Brackets.{IsBracket, IsReached, ReadsNear}
 use Rattle.window_search.specs.Searches.{lb, HalvesPlaces}
-use Rattle.window_search.proofs.LowerBounds.{lb-is}
+use Rattle.window_search.proofs.LowerBounds.{lb-is, IsLowerBound-lb}
 
 -- from `before` to `now` the steps that led to this reach
 pub record IsDoubled (reach before now : ℕ) : Type 0 where
@@ -19,30 +19,21 @@ doubled_to reach before now doubled =
     let power : 2 ^ (doubled.t + 1) ≡ 2 * 2 ^ doubled.t = ap (λ n. 2 ^ n) (add-one doubled.t) ∙ omega (arith, pow-suc 2 doubled.t) in
     record { t = doubled.t + 1; taken = omega (arith, doubled.taken); cost = omega (arith, doubled.cost) }
 
--- the places that the last of these steps leaves open, and the read that it took
-pub reached_up : (reach hint low high before now : ℕ) → IsDoubled reach before now → hint + reach ≤ low → high ≤ hint + 2 * reach → 1 ≤ reach → IsReached 2 hint low high before (now + 1)
-reached_up reach hint low high before now doubled far near some =
-    let more = doubled_to reach before now doubled in
-    record {
-      reach = reach;
-      t = more.t;
-      taken = more.taken;
-      cost = omega (arith, more.cost);
-      few = omega arith;
-      far = λ place from to. omega arith;
-    }
+-- no read, where the next one would be beyond an end
+pub doubled_at_end : (reach before now : ℕ) → IsDoubled reach before now → IsDoubled (reach * 2) before now
+doubled_at_end reach before now doubled = record { t = doubled.t; taken = doubled.taken; cost = omega (arith, doubled.cost) }
 
-pub reached_down : (reach hint low high before now : ℕ) → IsDoubled reach before now → high + reach ≤ hint + 1 → hint + 1 ≤ low + 2 * reach → 1 ≤ reach → IsReached 2 hint low high before (now + 1)
-reached_down reach hint low high before now doubled far near some =
-    let more = doubled_to reach before now doubled in
-    record {
-      reach = reach;
-      t = more.t;
-      taken = more.taken;
-      cost = omega (arith, more.cost);
-      few = omega arith;
-      far = λ place from to. omega arith;
-    }
+-- the places between the last two of these steps, or up to an end
+pub reached : (reach hint low high before now : ℕ) → IsDoubled (reach * 2) before now → high < low + reach → ((place : ℕ) → low ≤ place → place ≤ high → reach ≤ abs_diff hint place + 1) →
+    IsReached 2 hint low high before now
+reached reach hint low high before now doubled few far = record {
+  reach = reach;
+  t = doubled.t;
+  taken = doubled.taken;
+  cost = omega (arith, doubled.cost);
+  few = few;
+  far = far;
+}
 
 -- one read before them
 pub reached_after : (hint low high before now : ℕ) → IsReached 2 hint low high (before + 1) now → IsReached 4 hint low high before now
@@ -63,10 +54,10 @@ reads_near hint low high place before between after reached from to (h, taken, h
     let r = reached.reach in
     let d = abs_diff hint place + 1 in
     let far = reached.far place from to in
-    let few : 2 ^ h ≤ 4 * r = omega (arith, reached.few) in
+    let few : 2 ^ h ≤ 2 * r = omega (arith, reached.few) in
     let product = mul-le _ _ _ _ reached.cost few in
     let square = mul-le _ _ _ _ far far in
-    let squares : 16 * (r * r) ≤ 16 * d ^ 2 = omega (arith, square, pow-two d) in
+    let squares : 8 * (r * r) ≤ 8 * d ^ 2 = omega (arith, square, pow-two d) in
     let power = pow-add 2 reached.t h in
     (reached.t + h, omega (arith, reached.taken), omega (arith, product, squares, power))
 
@@ -76,3 +67,13 @@ bracket-lb keys q place bracket order =
     sym (lb-is keys q place bracket.within
     (λ k less. omega (arith, order k (place - 1) 0 (omega arith) (omega (arith, bracket.within)), bracket.before (omega arith)))
     (λ k high inside. omega (arith, order place k 0 high inside, bracket.at (omega arith))))
+
+-- and the lower bound is a bracket
+pub lb-brackets : (keys : List ℕ) (q : ℕ) → IsNonDecreasing keys → IsBracket keys q (lb keys q)
+lb-brackets keys q order =
+    let bound = IsLowerBound-lb keys q order in
+    record {
+      within = bound.within;
+      before = λ some. bound.before (lb keys q - 1) (omega arith);
+      at = λ inside. bound.from (lb keys q) (omega arith) inside;
+    }

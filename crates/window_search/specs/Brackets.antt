@@ -15,19 +15,19 @@ pub record HoldsBracket (keys : List ℕ) (q low high : ℕ) : Type 0 where
   pub before : 0 < low → slice_index keys (low - 1) < q
   pub at : high < length keys → q ≤ slice_index keys high
 
--- from `before` to `after` t steps were taken, with 2 ^ t at most 16 (far + 1) ^ 2
-abbrev pub ReadsWithin : ℕ → ℕ → ℕ → Type 0
-ReadsWithin far before after = (t : ℕ) × (after ≡ before + t) × (2 ^ t ≤ 16 * (far + 1) ^ 2)
+-- from `before` to `after` t steps were taken, with 2 ^ t at most `each` times (far + 1) ^ 2
+abbrev pub ReadsWithin : ℕ → ℕ → ℕ → ℕ → Type 0
+ReadsWithin each far before after = (t : ℕ) × (after ≡ before + t) × (2 ^ t ≤ each * (far + 1) ^ 2)
 
 -- the same, by how far the place is from `hint`
 abbrev pub ReadsNear : ℕ → ℕ → ℕ → ℕ → Type 0
-ReadsNear hint place before after = ReadsWithin (abs_diff hint place) before after
+ReadsNear hint place before after = ReadsWithin 8 (abs_diff hint place) before after
 
--- from `hint` away by steps that double to the places low ..= high: at most 2 reach of them, each at least reach - 1 from the hint, in t steps with 2 ^ t at most `each` times reach
+-- from `hint` away by steps that double to the places low ..= high: at most `reach` of them, each at least reach - 1 from the hint, in t steps with 2 ^ t at most `each` times reach
 pub record IsReached (each hint low high before after : ℕ) : Type 0 where
   pub reach : ℕ
   pub t : ℕ
   pub taken : after ≡ before + t
   pub cost : 2 ^ t ≤ each * reach
-  pub few : high < low + 2 * reach
+  pub few : high < low + reach
   pub far : (place : ℕ) → low ≤ place → place ≤ high → reach ≤ abs_diff hint place + 1

@@ -2,7 +2,7 @@
 ghost use Rattle.std.specs.Prelude.{◌≡◌, ◌+◌, ◌<◌, length, slice_index};
 
 use budget::Steps;
-use std::marker::Model;
+use std::marker::{Model, PhantomData};
 use std::sync::ledger::Ledger;
 
 /// A list of keys that stays where it is: a slice, or what else can give a key by its place.
@@ -39,15 +39,18 @@ impl KeyList for &[u64] {
     }
 }
 
-/// Keys of a search. Their only read is a step, so what is handed these alone can't look at a key
-/// that it doesn't count. The public searches are handed the keys themselves and make these of
-/// them: that they read by these alone is seen in their bodies.
+/// Keys of a search, whose only read is a step in a counter of the ledger `L`.
+///
+/// A search that is handed these alone can't look at a key that it doesn't count: it has no other
+/// way to one, and can't make a counter of a ledger that its caller chose. They are the keys alone,
+/// and cost nothing when they run.
 #[derive(Drop)]
-pub struct CountedKeys<K: KeyList> {
+pub struct CountedKeys<K: KeyList, L: Ledger> {
     keys: K,
+    of: PhantomData<L>,
 }
 
-impl<K: KeyList> Model for CountedKeys<K> {
+impl<K: KeyList, L: Ledger> Model for CountedKeys<K, L> {
     ghost use Rattle.std.specs.Prelude.{ℕ, List};
 
     ghost Value = { List ℕ };
@@ -55,13 +58,16 @@ impl<K: KeyList> Model for CountedKeys<K> {
     ghost view = { λ counted. K.listed counted.keys };
 }
 
-impl<K: KeyList> CountedKeys<K> {
+impl<K: KeyList, L: Ledger> CountedKeys<K, L> {
     /// These keys, none of them read yet.
     #[inline(always)]
     pub fn new(keys: K) -> Self
         ensures { result ≡ K.listed keys }
     {
-        CountedKeys { keys }
+        CountedKeys {
+            keys,
+            of: PhantomData,
+        }
     }
 
     /// How many keys there are. Takes no step.
@@ -74,7 +80,7 @@ impl<K: KeyList> CountedKeys<K> {
 
     /// The key at a place. Takes one step.
     #[inline(always)]
-    pub fn read<L: Ledger>(&self, place: usize, steps: &mut Steps<L>) -> u64
+    pub fn read(&self, place: usize, steps: &mut Steps<L>) -> u64
         requires { place < length self.now }
         ensures key { result ≡ slice_index self.now place }
         ensures cost { steps.new ≡ steps.old + 1 }

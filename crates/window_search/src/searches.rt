@@ -3,7 +3,7 @@ ghost use Rattle.std.specs.Prelude.{◌≡◌, ℕ, ◌+◌, ◌-◌, ◌≤◌,
 ghost use Rattle.std.specs.List.Sorted.{IsNonDecreasing};
 ghost use Rattle.window_search.specs.Searches.{lb, IsPredecessor, HalvesPlaces};
 
-use crate::CountedKeys;
+use crate::{CountedKeys, KeyList};
 use budget::Steps;
 use std::sync::ledger::Ledger;
 
@@ -12,8 +12,8 @@ use std::sync::ledger::Ledger;
 /// It is searched among the places `lo..=hi`, where the caller knows that it is. One step is one
 /// key read, and t steps are taken with `2^t <= 2 * (hi - lo + 1)`. Cannot fail and takes no
 /// memory.
-pub fn predecessor_in<L: Ledger>(
-    keys: &[u64],
+pub fn predecessor_in<K: KeyList, L: Ledger>(
+    keys: &CountedKeys<K, L>,
     lo: u32,
     hi: u32,
     q: u64,
@@ -26,13 +26,12 @@ pub fn predecessor_in<L: Ledger>(
     ensures found { IsPredecessor keys.now q result }
     ensures cost { HalvesPlaces steps.old steps.new (hi - lo + 1) }
 {
-    let counted = CountedKeys::new(keys);
     // The predecessor is one of the `count` places from `base` on. That at the list's end is none.
     let mut base = lo as usize;
     let mut count = (hi as usize + 1).min(keys.len()) - base;
     while count > 1 {
         let half = count / 2;
-        if counted.read(base + half, steps) <= q {
+        if keys.read(base + half, steps) <= q {
             base += half;
             count -= half;
         } else {
@@ -47,7 +46,13 @@ pub fn predecessor_in<L: Ledger>(
 /// It is searched among the places `lo..=hi`, where the caller knows that it is. Equal keys may
 /// stand side by side. One step is one key read, and t steps are taken with `2^t <= 2 * (hi - lo +
 /// 1)`. Cannot fail and takes no memory.
-pub fn lower_in<L: Ledger>(keys: &[u64], lo: u32, hi: u32, q: u64, steps: &mut Steps<L>) -> u32
+pub fn lower_in<K: KeyList, L: Ledger>(
+    keys: &CountedKeys<K, L>,
+    lo: u32,
+    hi: u32,
+    q: u64,
+    steps: &mut Steps<L>,
+) -> u32
     requires order { IsNonDecreasing keys.now }
     requires range { lo ≤ hi }
     requires within { hi ≤ length keys.now }
@@ -56,13 +61,12 @@ pub fn lower_in<L: Ledger>(keys: &[u64], lo: u32, hi: u32, q: u64, steps: &mut S
     ensures found { result ≡ lb keys.now q }
     ensures cost { HalvesPlaces steps.old steps.new (hi - lo + 1) }
 {
-    let counted = CountedKeys::new(keys);
     // The lower bound is one of the `count` places from `bound` on.
     let mut bound = lo as usize;
     let mut count = hi as usize + 1 - bound;
     while count > 1 {
         let half = count / 2;
-        if counted.read(bound + half - 1, steps) < q {
+        if keys.read(bound + half - 1, steps) < q {
             bound += half;
             count -= half;
         } else {

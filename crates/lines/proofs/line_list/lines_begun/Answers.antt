@@ -4,7 +4,7 @@ use Rattle.lines.proofs.LineLemmas.{length-first_xs, first_xs-at}
 use Rattle.lines.proofs.line_list.lines_begun.Goals as goal
 
 pub returns-then-q-eq18446744073709551615 : goal.returns-then-q-eq18446744073709551615
-returns-then-q-eq18446744073709551615 c =
+returns-then-q-eq18446744073709551615 g c =
     let lines = c.args.lines.now in
     let count = length-first_xs lines in
     record {

@@ -1,13 +1,18 @@
-use Rattle.std.proofs.Common.{◌<◌, ◌≤◌, ◌^◌}
+use Rattle.std.proofs.Common.{◌-◌, ◌≤◌}
+use Rattle.std.specs.List.Sorted.{IsNonDecreasing}
 use Rattle.lines.specs.Lookups.{IsSameOutside}
+use Rattle.lines.specs.Many.{AreNear, HaveRoom, HoldBounds}
+use Rattle.lines.proofs.ManyLemmas.{AreHalved}
 use Rattle.lines.proofs.many.approach.Given as goal
 
--- some place is left, and nothing outside is written
+-- so many places are left of each question, and nothing outside is written
 abbrev pub invariant-loop-left : goal.invariant-loop-left
 invariant-loop-left g l = record {
   some : 1 ≤ l.left;
-  few : l.left < 2 ^ 32;
   same : IsSameOutside l.first l.end l.fn.places l.places;
+  open_places : HaveRoom l.keys l.places l.first l.end l.left;
+  near : IsNonDecreasing l.keys → AreNear l.keys l.questions l.fn.places l.first l.end l.width → HoldBounds l.keys l.questions l.places l.first l.end l.left;
+  halved : AreHalved (l.end - l.first) l.fn.steps l.steps l.width l.left;
 }
 
 abbrev pub decreases-loop-left : goal.decreases-loop-left

@@ -16,7 +16,7 @@ loop-more-preserved-then-read-q g c =
       held = record {
         order = omega arith;
         within = omega (arith, inv.held.within);
-        before = λ some. omega (arith, ap (slice_index c.args.counted.now) read, c.read.ensures.key);
+        before = λ some. omega (arith, ap (slice_index c.args.keys.now) read, c.read.ensures.key);
         at = rw end inv.held.at;
       };
       halved = rw c.read.ensures.cost (halved_to c.args.steps.now c.loop-more.steps (c.args.high - c.args.low + 1) (more + 1) (more - (more / 2 + 1) + 1) (omega arith) (omega arith) inv.halved);

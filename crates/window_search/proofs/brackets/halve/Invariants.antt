@@ -8,7 +8,7 @@ abbrev pub invariant-loop-more : goal.invariant-loop-more
 invariant-loop-more g l = record {
   from : l.low ≤ l.place;
   to : l.place + l.more ≤ l.high;
-  held : HoldsBracket l.counted l.q l.place (l.place + l.more);
+  held : HoldsBracket l.keys l.q l.place (l.place + l.more);
   halved : IsHalved l.fn.steps l.steps (l.high - l.low + 1) (l.more + 1);
 }
 

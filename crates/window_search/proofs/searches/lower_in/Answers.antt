@@ -10,7 +10,7 @@ loop-count-preserved-then-read-q g c =
     let keys = c.args.keys.now in
     let n = c.loop-count.count in
     let middle = c.loop-count.bound + n / 2 - 1 in
-    let read : c.read.result ≡ slice_index keys middle = rw c.new-counted.ensures at c.read.ensures.key in
+    let read : c.read.result ≡ slice_index keys middle = c.read.ensures.key in
     let after = lb_after keys c.args.q middle c.read.result c.requires.order (omega arith) read c.if-read-q.true in
     record {
       some = omega arith;
@@ -27,7 +27,7 @@ loop-count-preserved g c =
     let keys = c.args.keys.now in
     let n = c.loop-count.count in
     let middle = c.loop-count.bound + n / 2 - 1 in
-    let read : c.read.result ≡ slice_index keys middle = rw c.new-counted.ensures at c.read.ensures.key in
+    let read : c.read.result ≡ slice_index keys middle = c.read.ensures.key in
     let before = lb_not_after keys c.args.q middle c.read.result c.requires.order read c.if-read-q.false in
     record {
       some = omega arith;

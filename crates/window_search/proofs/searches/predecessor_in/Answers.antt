@@ -10,7 +10,7 @@ loop-count-preserved-then-read-q g c =
     let keys = c.args.keys.now in
     let n = c.loop-count.count in
     let middle = c.loop-count.base + n / 2 in
-    let read : c.read.result ≡ slice_index keys middle = rw c.new-counted.ensures at c.read.ensures.key in
+    let read : c.read.result ≡ slice_index keys middle = c.read.ensures.key in
     record {
       some = omega arith;
       within = omega (arith, inv.within);
@@ -27,7 +27,7 @@ loop-count-preserved g c =
     let keys = c.args.keys.now in
     let n = c.loop-count.count in
     let middle = c.loop-count.base + n / 2 in
-    let read : c.read.result ≡ slice_index keys middle = rw c.new-counted.ensures at c.read.ensures.key in
+    let read : c.read.result ≡ slice_index keys middle = c.read.ensures.key in
     record {
       some = omega arith;
       within = omega (arith, inv.within);

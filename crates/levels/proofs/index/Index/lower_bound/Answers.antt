@@ -1,5 +1,5 @@
 -- The last level's one run has the predecessor, and below the first key there is no key. The steps' bounds multiply.
-use Rattle.std.proofs.Common.{◌≡◌, ◌+◌, ◌-◌, ◌*◌, ◌<◌, ◌≤◌, ℕ, List, length, slice_index, sym, ap, ◌∙◌, subst, arith}
+use Rattle.std.proofs.Common.{◌≡◌, ◌+◌, ◌-◌, ◌*◌, ◌<◌, ◌≤◌, ℕ, List, length, slice_index, sym, ap, ◌∙◌, arith}
 use Rattle.std.specs.List.Sorted.{IsNonDecreasing}
 use Rattle.window_search.specs.Searches.{lb}
 use Rattle.window_search.proofs.CallerLemmas.{lb-is}
@@ -14,11 +14,9 @@ none_below keys q order first =
 
 pub returns-then-q-first-clause-found : goal.returns-then-q-first-clause-found
 returns-then-q-first-clause-found g c =
-    let keys = c.args.self.now.keys in
-    let file : c.as_slice-keys.result.now ≡ keys = c.as_slice-keys.ensures.keys ∙ c.keys.ensures in
-    let order : IsNonDecreasing keys = subst IsNonDecreasing file c.as_slice-keys.ensures.never_falls in
-    let read : c.read-first.result ≡ slice_index keys 0 = c.read-first.ensures.key ∙ ap (λ (l : List ℕ). slice_index l 0) (c.new.ensures ∙ file) in
-    none_below keys c.args.q order (λ some. omega (arith, c.if-q-first.true, read))
+    let file = c.counted_file-keys.ensures in
+    let read = c.read-first.ensures.key ∙ ap (λ (l : List ℕ). slice_index l 0) file.keys in
+    none_below c.args.self.now.keys c.args.q file.never_falls (λ some. omega (arith, c.if-q-first.true, read))
 
 pub returns-then-q-first-clause-cost : goal.returns-then-q-first-clause-cost
 returns-then-q-first-clause-cost g c = λ some.
@@ -27,9 +25,7 @@ returns-then-q-first-clause-cost g c = λ some.
 
 pub run_of-run-requires-clause-from_first : goal.run_of-run-requires-clause-from_first
 run_of-run-requires-clause-from_first g c =
-    let value = c.args.self.now in
-    let file : c.as_slice-keys.result.now ≡ value.keys = c.as_slice-keys.ensures.keys ∙ c.keys.ensures in
-    let read : c.read-first.result ≡ slice_index value.keys 0 = c.read-first.ensures.key ∙ ap (λ (l : List ℕ). slice_index l 0) (c.new.ensures ∙ file) in
+    let read = c.read-first.ensures.key ∙ ap (λ (l : List ℕ). slice_index l 0) c.counted_file-keys.ensures.keys in
     omega (arith, c.if-q-first.false, read)
 
 pub returns-clause-cost : goal.returns-clause-cost

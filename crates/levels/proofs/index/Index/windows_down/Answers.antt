@@ -25,7 +25,7 @@ pub predecessor_in-run-requires-clause-order : goal.predecessor_in-run-requires-
 predecessor_in-run-requires-clause-order g c =
     let value = c.args.self.now in
     let here = ascends value.keys value.eps value.eps_rec value.levels c.requires.laid.never_falls c.level_count-level.ensures.index c.loop-level.level (omega (arith, c.loop-level.invariant.inside)) in
-    subst IsNonDecreasing (sym c.firsts.ensures) (IsNonDecreasing-from_rising (xs_at value.keys value.levels c.loop-level.level) here.rises)
+    subst IsNonDecreasing (sym c.counted_firsts.ensures) (IsNonDecreasing-from_rising (xs_at value.keys value.levels c.loop-level.level) here.rises)
 
 pub predecessor_in-run-requires-clause-answer : goal.predecessor_in-run-requires-clause-answer
 predecessor_in-run-requires-clause-answer g c =
@@ -33,4 +33,4 @@ predecessor_in-run-requires-clause-answer g c =
     let level = c.loop-level.level in
     let found = has_predecessor value.keys value.eps value.eps_rec value.levels c.requires.laid.never_falls c.level_count-level.ensures.index no_segment level c.loop-level.run c.args.q c.loop-level.invariant.inside c.loop-level.invariant.run in
     let held = c.push_window-low.ensures.holds.predecessor found.0 c.loop-level-test.true found.1 in
-    (found.0, subst (λ (xs : List ℕ). IsPredecessor xs c.args.q found.0) (sym c.firsts.ensures) found.1, held.0, held.1)
+    (found.0, subst (λ (xs : List ℕ). IsPredecessor xs c.args.q found.0) (sym c.counted_firsts.ensures) found.1, held.0, held.1)

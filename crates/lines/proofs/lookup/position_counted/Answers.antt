@@ -1,7 +1,7 @@
 -- The search begins where the words tell.
 use Rattle.std.proofs.Common.{arith}
 use Rattle.lines.proofs.LookupLemmas.{worst_reads, near_reads}
-use Rattle.lines.proofs.lookup.lower_bound.Goals as goal
+use Rattle.lines.proofs.lookup.position_counted.Goals as goal
 
 pub returns-clause-worst : goal.returns-clause-worst
 returns-clause-worst g c = worst_reads _ _ _ _ _ _ c.bracket_from.ensures.cost c.bracket_from.ensures.bracket
