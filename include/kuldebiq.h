@@ -302,8 +302,8 @@ kuldebiq_answer kuldebiq_find_many(const uint64_t *keys, size_t count, const uin
  * lead each question to within epsilon + 2 of how many keys are below it. With a greater bound
  * there are as many lines or fewer, and a lookup reads more keys.
  *
- * The number is how many words there are: six, a table, and three for each line, which is tested
- * and not proved. What the handle held before is freed.
+ * The number is how many words there are: six, a table, and three for each line, which makes at
+ * most six and five for each line. What the handle held before is freed.
  *
  * Refused with KULDEBIQ_EPSILON_TOO_GREAT, KULDEBIQ_TOO_MANY_KEYS, KULDEBIQ_UNSORTED or
  * KULDEBIQ_NO_MEMORY, judged in this order. Then the handle holds what it held. */

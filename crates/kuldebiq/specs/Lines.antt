@@ -3,7 +3,7 @@ use Rattle.std.specs.Prelude.{◌≡◌, ◌⊎◌, ℕ, ◌+◌, ◌^◌, ◌<�
 use Rattle.std.specs.Option.{MatchOption}
 use Rattle.std.specs.List.Sorted.{IsNonDecreasing}
 use Rattle.lines.specs.Lookups.{LeadsWithin}
-use Rattle.lines.specs.Leads.{HaveLeastLines}
+use Rattle.lines.specs.Leads.{HaveLeastLines, AreInFormat, AreFew}
 use Rattle.exact_cross.specs.declared.TheConstants.{MAX_EPSILON}
 use Rattle.kuldebiq.specs.declared.answer.Answer.{Answer}
 use Rattle.kuldebiq.specs.declared.answer.TheConstants.{EPSILON_TOO_GREAT}
@@ -20,10 +20,12 @@ pub record CanHaveLines (keys : List ℕ) (eps : ℕ) : Type 0 where
 abbrev pub IsLinesRefusal : List ℕ → ℕ → Answer → Type 0
 IsLinesRefusal keys eps answer = ((answer ≡ refuses EPSILON_TOO_GREAT eps) × (MAX_EPSILON < eps)) ⊎ ((eps ≤ MAX_EPSILON) × RefusesKeys keys answer)
 
--- the words lead to within ε + 2 in the keys, and have as many lines as the least cover of the keys' points within ε has runs
+-- the words lead to within ε + 2 in the keys, have as many lines as the least cover of the keys' points within ε has runs, and are in the format, at most 6 and five for each line
 pub record AreLinesOf (keys : List ℕ) (eps : ℕ) (words : List ℕ) : Type 0 where
   pub lead : LeadsWithin words keys (eps + 2)
   pub least : HaveLeastLines keys eps words
+  pub format : AreInFormat eps words
+  pub few : AreFew words
 
 -- the handle holds lines of keys and an error bound
 abbrev pub HoldsLinesOf : List ℕ → ℕ → Option (List ℕ) → Type 0
