@@ -17,7 +17,8 @@ use window_search::{CountedKeys, KeyList, bracket_of, is_bracket};
 const LANES: usize = 16;
 
 /// The places of many questions, each as by [`position`](crate::position), written into the
-/// caller's room: as many as there are questions and room. Room beyond that stays as it is.
+/// caller's room: as many as there are questions and room. Room beyond that stays as it is. Where
+/// keys fall, a place brackets its question as that of `position` does, and may be another one.
 ///
 /// It takes the steps of [`positions_counted`], and counts nothing. Cannot fail and takes no
 /// memory.
