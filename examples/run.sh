@@ -67,6 +67,18 @@ both() {
     fi
 }
 
+# An answer that nobody looks at is a warning, and so refused here: a compiler, the end of its sources'
+# names, and a standard.
+heeds() {
+    printf '#include "kuldebiq.h"\nint main(void) { kuldebiq_map m = KULDEBIQ_NOTHING; kuldebiq_map_new(&m, 1); }\n' \
+        >"$made/try.$2"
+    if "$1" "${flags[@]}" "$3" -c "$made/try.$2" -o "$made/try.o" 2>"$log" || ! grep -q unused-result "$log"; then
+        cat "$log"
+        echo "examples: an answer that isn't looked at passes ($*)"
+        exit 1
+    fi
+}
+
 # The shared object exports the calls alone, and pkg-config finds it.
 if nm -D --defined-only "$prefix/lib/libkuldebiq.so" | grep -v ' T kuldebiq_'; then
     echo "examples: the shared object exports other names too"
@@ -80,12 +92,14 @@ if have pkg-config; then
     "$made/walk" | diff examples/c/walk.out -
 fi
 
+heeds "$cc" c -std=c11
 both "$cc" examples/c/walk.c "" -std=c11
 both "$cc" examples/c/mapped.c "" -std=c11
 both "$cc" examples/c/parts.c "" -std=c11
 both "$cc" examples/c/no_memory.c "" -std=c11
 ran="C"
 if have "$cxx"; then
+    heeds "$cxx" cpp -std=c++17
     both "$cxx" examples/cpp/walk.cpp "" -std=c++17
     both "$cxx" examples/cpp/compare.cpp 50000 -std=gnu++17 -pthread -Wno-pedantic
     both "$cxx" examples/cpp/threads.cpp "" -std=c++17 -pthread

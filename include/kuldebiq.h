@@ -3,14 +3,14 @@
  *
  * What to take. Lines (kuldebiq_find) where many threads ask at once, or where the keys are to stay
  * where they lie, as in a mapped file: a lookup is given the keys and some words that lead it,
- * needs no handle, takes no memory and is never refused. Else an index, which keeps a copy of the
- * keys, with one handle for each thread, or a map, whose keys come and go. A call writes to its
- * handle, so handles that lie in one cache line slow one another down: give each at least 64 bytes
- * of its own.
+ * needs no handle and takes no memory. Else an index, which keeps a copy of the keys, with one
+ * handle for each thread, or a map, whose keys come and go. A call writes to its handle, so handles
+ * that lie in one cache line slow one another down: give each at least 64 bytes of its own.
  *
  * What a call answers, what it writes and what a handle holds then is proved to be what is said
- * below, if the caller keeps to the rules here. That this header declares the calls of the library,
- * how long they take and what memory they ask for isn't proved.
+ * below, if the caller keeps to the rules here. Three things are tested and not proved: that this
+ * header declares the calls of the library, that (NULL, 0) is an empty list, and that a _free call
+ * gives memory back. How long a call takes and what memory it asks for is only described.
  *
  * Handles. A kuldebiq_index, a kuldebiq_map or a kuldebiq_lines is a variable of yours that holds
  * an index, a map or lines, or nothing. Begin with KULDEBIQ_NOTHING. From then on only the calls
@@ -23,14 +23,21 @@
  * ask them: each pointer is not null, is aligned as its type, and points to as many values of its
  * type as are said, which lie apart from those of each other pointer of the call, unless both are
  * only read. One that goes with a count may be null where the count is 0: (NULL, 0) is an empty
- * list in each call. Keys, words of lines, questions, updates and pairs that are loaded are only
- * read, nobody writes to them while the call runs, and they may be freed once it has returned.
- * Nothing that a call gives points into what a handle holds. A compiler that knows the attribute
- * nonnull warns of a null handle, and -fsanitize=undefined tells one where it is passed.
+ * list in each call, and no room. Keys, words of lines, questions, updates and pairs that are
+ * loaded are only read, nobody writes to them while the call runs, and they may be freed once it
+ * has returned. Nothing that a call gives points into what a handle holds. A compiler that knows
+ * the attribute nonnull warns of a null handle, and -fsanitize=undefined tells one where it is
+ * passed.
  *
  * All else that a rule could ask is tested, and a refusal is a status with a number. Where several
  * refusals fit, the first one is told, in the order in which a call names them. What a handle held
- * when a call was refused it holds still, also when memory wasn't found.
+ * when a call was refused it holds still, also when memory wasn't found. A compiler that can warns
+ * of an answer that isn't looked at.
+ *
+ * Room. A call that writes a list is told for how many values there is room, and what lies behind
+ * those that it writes stays. Too little room is refused with KULDEBIQ_TOO_LITTLE_ROOM: nothing is
+ * written, and the number is how much is needed. kuldebiq_map_range alone writes as many as there
+ * is room for, so that a map is gone through in parts.
  *
  * Threads. A call with no handle may run beside any other. A handle is used by one call at a time,
  * also by a call that only asks. Different handles may be used side by side, also two that share an
@@ -92,6 +99,16 @@ extern "C" {
 #define KULDEBIQ_NOT_NULL(places)
 #endif
 
+/* An answer of this call is to be looked at. */
+#if (defined(__cplusplus) && __cplusplus >= 201703L) ||                                            \
+    (defined(__STDC_VERSION__) && __STDC_VERSION__ >= 202311L)
+#define KULDEBIQ_NODISCARD [[nodiscard]]
+#elif defined(__GNUC__)
+#define KULDEBIQ_NODISCARD __attribute__((warn_unused_result))
+#else
+#define KULDEBIQ_NODISCARD
+#endif
+
 /* How a call ended, and the number that goes with it. */
 enum {
     /* The call was done. The number is what the call says. */
@@ -113,7 +130,7 @@ enum {
     KULDEBIQ_NO_SUCH_LEVEL = 7,
     /* There is no such segment. The number is how many segments the level has. */
     KULDEBIQ_NO_SUCH_SEGMENT = 8,
-    /* There isn't room for all that is to be written. The number is for how much there is. */
+    /* There isn't room for all that is to be written. The number is how much is needed. */
     KULDEBIQ_TOO_LITTLE_ROOM = 9,
     /* A map has 1 to 26 levels. The number is how many were asked for. */
     KULDEBIQ_LEVELS_OUT_OF_RANGE = 10,
@@ -249,13 +266,14 @@ uint32_t kuldebiq_version(void);
  * The keys stay yours, and so do the words of lines that lead a lookup among them: in memory, or
  * mapped from files. Words that kuldebiq_lines_write gave for these very keys make a lookup fast.
  * Nothing is asked of keys or words: (NULL, 0) for the words, words of other keys or damaged ones
- * only make it slower, and keys that fall make the answer a place that still brackets the
- * question. */
+ * only make it slower. In keys that fall a place is given that brackets the question: the key
+ * before it is below the question, if it isn't 0, and the key at it isn't, if it isn't count. There
+ * may be several such places. Which of them is given depends on the words, and kuldebiq_find_many
+ * may give another one than kuldebiq_find. */
 
 /* How many keys are below the question, where the keys never fall: so it is where the first key is
  * that is not below the question, or count where there is none. In any keys it is a place from 0 to
- * count with a key below the question before it, if it isn't 0, and none at it, if it isn't
- * count. */
+ * count that brackets the question. */
 size_t kuldebiq_find(const uint64_t *keys, size_t count, const uint64_t *lines, size_t words,
                      uint64_t question);
 
@@ -265,37 +283,46 @@ size_t kuldebiq_find(const uint64_t *keys, size_t count, const uint64_t *lines, 
 size_t kuldebiq_find_past(const uint64_t *keys, size_t count, const uint64_t *lines, size_t words,
                           uint64_t question);
 
-/* Writes at the place of each question what kuldebiq_find gives for it, which is faster than a call
- * for each. The questions may come in any order. room is for how many places there is room: where
- * it is less than asked, the first questions are answered, and where it is more, what lies behind
- * the places stays. */
-void kuldebiq_find_many(const uint64_t *keys, size_t count, const uint64_t *lines, size_t words,
-                        const uint64_t *questions, size_t asked, size_t *places, size_t room);
+/* Writes the place of each question, which is faster than a call for each. Where the keys never
+ * fall it is what kuldebiq_find gives, and in any keys a place that brackets the question. The
+ * number is how many there are. The questions may come in any order. room is for how many places
+ * there is room, at least as many as questions.
+ *
+ * Refused with KULDEBIQ_TOO_LITTLE_ROOM. Then nothing is written. */
+KULDEBIQ_NODISCARD
+kuldebiq_answer kuldebiq_find_many(const uint64_t *keys, size_t count, const uint64_t *lines,
+                                   size_t words, const uint64_t *questions, size_t asked,
+                                   size_t *places, size_t room);
 
 /* Makes the lines of the sorted keys, and has the handle hold them. The keys are judged first,
  * before any memory is asked for, and not copied.
  *
- * epsilon is the error bound, in positions, at most 1,048,576. The words lead each question to
- * within epsilon + 2 of how many keys are below it, and there are as few lines as such a bound
- * allows: with a greater one there are fewer, and a lookup reads more keys. The number is how many
- * words there are: six, a table, and three for each line. What the handle held before is freed.
+ * epsilon is the error bound, in positions, at most 1,048,576. There are as few lines as can be
+ * within epsilon of the keys' positions, as many as level 0 of an index has segments: with a
+ * greater bound there are fewer, and a lookup reads more keys. The words lead each question to
+ * within epsilon + 2 of how many keys are below it. The number is how many words there are: six, a
+ * table, and three for each line, which is tested and not proved. What the handle held before is
+ * freed.
  *
  * Refused with KULDEBIQ_EPSILON_TOO_GREAT, KULDEBIQ_TOO_MANY_KEYS, KULDEBIQ_UNSORTED or
  * KULDEBIQ_NO_MEMORY, judged in this order. Then the handle holds what it held. */
+KULDEBIQ_NODISCARD
 kuldebiq_answer kuldebiq_lines_build(kuldebiq_lines *lines, const uint64_t *keys, size_t count,
                                      uint32_t epsilon) KULDEBIQ_NOT_NULL((1));
 
 /* The number is how many words the lines have.
  *
  * Refused with KULDEBIQ_NOTHING_HELD. */
+KULDEBIQ_NODISCARD
 kuldebiq_answer kuldebiq_lines_words(kuldebiq_lines *lines) KULDEBIQ_NOT_NULL((1));
 
 /* Writes the words of the lines, to be kept, saved or mapped: a file of them has each word in 64
  * bits, the lowest byte first. The number is how many there are. room is for how many words there
- * is room: what lies behind them stays.
+ * is room.
  *
  * Refused with KULDEBIQ_NOTHING_HELD or KULDEBIQ_TOO_LITTLE_ROOM, judged in this order. Then
  * nothing is written. */
+KULDEBIQ_NODISCARD
 kuldebiq_answer kuldebiq_lines_write(kuldebiq_lines *lines, uint64_t *words, size_t room)
     KULDEBIQ_NOT_NULL((1));
 
@@ -318,6 +345,7 @@ void kuldebiq_lines_free(kuldebiq_lines *lines) KULDEBIQ_NOT_NULL((1));
  * Refused with KULDEBIQ_EPSILON_TOO_GREAT (the number is the greater bound),
  * KULDEBIQ_TOO_MANY_KEYS, KULDEBIQ_UNSORTED or KULDEBIQ_NO_MEMORY, judged in this order. Then the
  * handle holds what it held. */
+KULDEBIQ_NODISCARD
 kuldebiq_answer kuldebiq_index_build(kuldebiq_index *index, const uint64_t *keys, size_t count,
                                      uint32_t epsilon, uint32_t epsilon_above)
     KULDEBIQ_NOT_NULL((1));
@@ -327,6 +355,7 @@ kuldebiq_answer kuldebiq_index_build(kuldebiq_index *index, const uint64_t *keys
  *
  * Refused with KULDEBIQ_NOTHING_HELD or KULDEBIQ_NO_MEMORY. Then the second handle holds what it
  * held. */
+KULDEBIQ_NODISCARD
 kuldebiq_answer kuldebiq_index_share(kuldebiq_index *index, kuldebiq_index *other)
     KULDEBIQ_NOT_NULL((1, 2));
 
@@ -337,6 +366,7 @@ void kuldebiq_index_free(kuldebiq_index *index) KULDEBIQ_NOT_NULL((1));
  * key is that is not below the question, or the number of keys where there is none.
  *
  * Refused with KULDEBIQ_NOTHING_HELD. */
+KULDEBIQ_NODISCARD
 kuldebiq_answer kuldebiq_position(kuldebiq_index *index, uint64_t question) KULDEBIQ_NOT_NULL((1));
 
 /* How many keys are at most the question: the number. So it is where the first key is that is above
@@ -344,38 +374,43 @@ kuldebiq_answer kuldebiq_position(kuldebiq_index *index, uint64_t question) KULD
  * question stand from its position to here.
  *
  * Refused with KULDEBIQ_NOTHING_HELD. */
+KULDEBIQ_NODISCARD
 kuldebiq_answer kuldebiq_position_after(kuldebiq_index *index, uint64_t question)
     KULDEBIQ_NOT_NULL((1));
 
 /* The number is the key at a place, counted from 0.
  *
  * Refused with KULDEBIQ_NOTHING_HELD or KULDEBIQ_NO_SUCH_PLACE. */
+KULDEBIQ_NODISCARD
 kuldebiq_answer kuldebiq_key_at(kuldebiq_index *index, uint64_t place) KULDEBIQ_NOT_NULL((1));
 
 /* The positions of many questions, which is faster than a call for each. The position of the
  * question at a place is written at the same place. The number is how many there are. The questions
  * may come in any order. room is for how many positions there is room, at least as many as
- * questions: what lies behind the positions stays. It takes memory for at most 4096 positions, and
- * does without where it isn't found.
+ * questions. It takes memory for at most 4096 positions, and does without where it isn't found.
  *
  * Refused with KULDEBIQ_NOTHING_HELD or KULDEBIQ_TOO_LITTLE_ROOM, judged in this order. Then
  * nothing is written. */
+KULDEBIQ_NODISCARD
 kuldebiq_answer kuldebiq_positions(kuldebiq_index *index, const uint64_t *questions, size_t count,
                                    uint32_t *positions, size_t room) KULDEBIQ_NOT_NULL((1));
 
 /* The number is how many keys there are.
  *
  * Refused with KULDEBIQ_NOTHING_HELD. */
+KULDEBIQ_NODISCARD
 kuldebiq_answer kuldebiq_index_keys(kuldebiq_index *index) KULDEBIQ_NOT_NULL((1));
 
 /* The number is how many levels there are, 0 where there is no key.
  *
  * Refused with KULDEBIQ_NOTHING_HELD. */
+KULDEBIQ_NODISCARD
 kuldebiq_answer kuldebiq_index_levels(kuldebiq_index *index) KULDEBIQ_NOT_NULL((1));
 
 /* The number is how many segments a level has. Levels are counted from 0, the lowest.
  *
  * Refused with KULDEBIQ_NOTHING_HELD or KULDEBIQ_NO_SUCH_LEVEL. */
+KULDEBIQ_NODISCARD
 kuldebiq_answer kuldebiq_index_segments(kuldebiq_index *index, uint32_t level)
     KULDEBIQ_NOT_NULL((1));
 
@@ -383,6 +418,7 @@ kuldebiq_answer kuldebiq_index_segments(kuldebiq_index *index, uint32_t level)
  *
  * Refused with KULDEBIQ_NOTHING_HELD, KULDEBIQ_NO_SUCH_LEVEL or KULDEBIQ_NO_SUCH_SEGMENT, judged in
  * this order. Then nothing is written. */
+KULDEBIQ_NODISCARD
 kuldebiq_answer kuldebiq_index_segment(kuldebiq_index *index, uint32_t level, uint64_t place,
                                        kuldebiq_segment *segment) KULDEBIQ_NOT_NULL((1, 4));
 
@@ -397,6 +433,7 @@ kuldebiq_answer kuldebiq_index_segment(kuldebiq_index *index, uint32_t level, ui
  *
  * Refused with KULDEBIQ_LEVELS_OUT_OF_RANGE or KULDEBIQ_NO_MEMORY. Then the handle holds what it
  * held. */
+KULDEBIQ_NODISCARD
 kuldebiq_answer kuldebiq_map_new(kuldebiq_map *map, uint32_t levels) KULDEBIQ_NOT_NULL((1));
 
 /* Makes the map of pairs whose keys rise, and has the handle hold it. It has as many levels as a
@@ -407,6 +444,7 @@ kuldebiq_answer kuldebiq_map_new(kuldebiq_map *map, uint32_t levels) KULDEBIQ_NO
  * Refused with KULDEBIQ_LEVELS_OUT_OF_RANGE, KULDEBIQ_UNSORTED (the number is the first place whose
  * key isn't above the one before it), KULDEBIQ_FULL (the number is how many entries such a map can
  * accept) or KULDEBIQ_NO_MEMORY, judged in this order. Then the handle holds what it held. */
+KULDEBIQ_NODISCARD
 kuldebiq_answer kuldebiq_map_load(kuldebiq_map *map, uint32_t levels, const kuldebiq_pair *pairs,
                                   size_t count) KULDEBIQ_NOT_NULL((1));
 
@@ -418,6 +456,7 @@ kuldebiq_answer kuldebiq_map_load(kuldebiq_map *map, uint32_t levels, const kuld
  * how many entries such a map can accept) or KULDEBIQ_NO_MEMORY; the first two are judged in this
  * order, and where the keys are too many either of the last two is told. Then the map is as it
  * was. */
+KULDEBIQ_NODISCARD
 kuldebiq_answer kuldebiq_map_compact(kuldebiq_map *map, uint32_t levels) KULDEBIQ_NOT_NULL((1));
 
 /* Frees what the handle holds, if anything. It holds nothing then. */
@@ -427,6 +466,7 @@ void kuldebiq_map_free(kuldebiq_map *map) KULDEBIQ_NOT_NULL((1));
  *
  * Refused with KULDEBIQ_NOTHING_HELD, KULDEBIQ_FULL or KULDEBIQ_NO_MEMORY, judged in this order.
  * Then the map is as it was. */
+KULDEBIQ_NODISCARD
 kuldebiq_answer kuldebiq_map_put(kuldebiq_map *map, uint64_t key, uint64_t value)
     KULDEBIQ_NOT_NULL((1));
 
@@ -434,6 +474,7 @@ kuldebiq_answer kuldebiq_map_put(kuldebiq_map *map, uint64_t key, uint64_t value
  * an entry.
  *
  * Refused as kuldebiq_map_put is. */
+KULDEBIQ_NODISCARD
 kuldebiq_answer kuldebiq_map_del(kuldebiq_map *map, uint64_t key) KULDEBIQ_NOT_NULL((1));
 
 /* Takes the keys from low to high, both included, out of the map. The number is how many they were;
@@ -441,6 +482,7 @@ kuldebiq_answer kuldebiq_map_del(kuldebiq_map *map, uint64_t key) KULDEBIQ_NOT_N
  *
  * Refused as kuldebiq_map_put is, with KULDEBIQ_FULL where there isn't room for an entry for
  * each. */
+KULDEBIQ_NODISCARD
 kuldebiq_answer kuldebiq_map_sweep(kuldebiq_map *map, uint64_t low, uint64_t high)
     KULDEBIQ_NOT_NULL((1));
 
@@ -451,6 +493,7 @@ kuldebiq_answer kuldebiq_map_sweep(kuldebiq_map *map, uint64_t low, uint64_t hig
  * Refused with KULDEBIQ_NOTHING_HELD, KULDEBIQ_NO_SUCH_KIND, KULDEBIQ_FULL or KULDEBIQ_NO_MEMORY;
  * the first two are judged in this order, and where there isn't room either of the last two is
  * told. Then the map is as it was. */
+KULDEBIQ_NODISCARD
 kuldebiq_answer kuldebiq_map_apply(kuldebiq_map *map, const kuldebiq_update *updates, size_t count)
     KULDEBIQ_NOT_NULL((1));
 
@@ -458,12 +501,14 @@ kuldebiq_answer kuldebiq_map_apply(kuldebiq_map *map, const kuldebiq_update *upd
  *
  * Refused with KULDEBIQ_NOTHING_HELD, or with KULDEBIQ_ABSENT where the map doesn't have the
  * key. */
+KULDEBIQ_NODISCARD
 kuldebiq_answer kuldebiq_map_get(kuldebiq_map *map, uint64_t key) KULDEBIQ_NOT_NULL((1));
 
 /* Writes the least key from a key on that the map has, with its value. The number is 0.
  *
  * Refused with KULDEBIQ_NOTHING_HELD, or with KULDEBIQ_ABSENT where there is no such key. Then
  * nothing is written. */
+KULDEBIQ_NODISCARD
 kuldebiq_answer kuldebiq_map_next(kuldebiq_map *map, uint64_t from, kuldebiq_pair *pair)
     KULDEBIQ_NOT_NULL((1, 3));
 
@@ -471,15 +516,17 @@ kuldebiq_answer kuldebiq_map_next(kuldebiq_map *map, uint64_t from, kuldebiq_pai
  *
  * Refused with KULDEBIQ_NOTHING_HELD, or with KULDEBIQ_ABSENT where there is no such key. Then
  * nothing is written. */
+KULDEBIQ_NODISCARD
 kuldebiq_answer kuldebiq_map_previous(kuldebiq_map *map, uint64_t to, kuldebiq_pair *pair)
     KULDEBIQ_NOT_NULL((1, 3));
 
 /* Writes the first keys from low to high, both included, with their values, by rising key, as many
- * as there is room for. The number is how many they are; none where low is above high. What lies
- * behind them in the room stays. To go through a map, ask from 0 on, and as long as the room was
- * filled from the last key plus 1 on, unless that key is high.
+ * as there is room for. The number is how many they are; none where low is above high. To go
+ * through a map, ask from 0 on, and as long as the room was filled from the last key plus 1 on,
+ * unless that key is high.
  *
  * Refused with KULDEBIQ_NOTHING_HELD. Then nothing is written. */
+KULDEBIQ_NODISCARD
 kuldebiq_answer kuldebiq_map_range(kuldebiq_map *map, uint64_t low, uint64_t high,
                                    kuldebiq_pair *pairs, size_t room) KULDEBIQ_NOT_NULL((1));
 
@@ -487,17 +534,20 @@ kuldebiq_answer kuldebiq_map_range(kuldebiq_map *map, uint64_t low, uint64_t hig
  * high. It goes along these keys.
  *
  * Refused with KULDEBIQ_NOTHING_HELD. */
+KULDEBIQ_NODISCARD
 kuldebiq_answer kuldebiq_map_count(kuldebiq_map *map, uint64_t low, uint64_t high)
     KULDEBIQ_NOT_NULL((1));
 
 /* The number is how many entries were accepted.
  *
  * Refused with KULDEBIQ_NOTHING_HELD. */
+KULDEBIQ_NODISCARD
 kuldebiq_answer kuldebiq_map_accepted(kuldebiq_map *map) KULDEBIQ_NOT_NULL((1));
 
 /* The number is how many entries can be accepted.
  *
  * Refused with KULDEBIQ_NOTHING_HELD. */
+KULDEBIQ_NODISCARD
 kuldebiq_answer kuldebiq_map_capacity(kuldebiq_map *map) KULDEBIQ_NOT_NULL((1));
 
 #ifdef __cplusplus

@@ -69,8 +69,9 @@ Keys lines_of(const Keys &keys, std::uint32_t epsilon) {
            "how many words");
     Keys words(made.number + 2, 7);
     expect(is(kuldebiq_lines_write(&lines, words.data(), made.number - 1), KULDEBIQ_TOO_LITTLE_ROOM,
-              made.number - 1) &&
-               words[0] == 7,
+              made.number) &&
+               words[0] == 7 &&
+               is(kuldebiq_lines_write(&lines, nullptr, 0), KULDEBIQ_TOO_LITTLE_ROOM, made.number),
            "room for too few words");
     expect(gives(kuldebiq_lines_write(&lines, words.data(), words.size()), made.number), "the words");
     expect(words[made.number] == 7 && words[made.number + 1] == 7, "what lies behind the words");
@@ -87,12 +88,21 @@ Keys lines_of(const Keys &keys, std::uint32_t epsilon) {
     return words;
 }
 
+// The places of all questions, in a room for three more, which stay as they are.
+std::vector<std::size_t> places_of(const Keys &keys, const Keys &words, const Keys &questions) {
+    std::vector<std::size_t> places(questions.size() + 3, 7);
+    expect(gives(kuldebiq_find_many(keys.data(), keys.size(), words.data(), words.size(),
+                                    questions.data(), questions.size(), places.data(), places.size()),
+                 questions.size()),
+           "how many places");
+    expect(std::count(places.end() - 3, places.end(), std::size_t(7)) == 3, "what lies behind places");
+    places.resize(questions.size());
+    return places;
+}
+
 // By these words, which need not be those of the keys.
 void compare_found(const Keys &keys, const Keys &words, const Keys &questions) {
-    std::vector<std::size_t> places(questions.size() + 3, 7);
-    kuldebiq_find_many(keys.data(), keys.size(), words.data(), words.size(), questions.data(),
-                       questions.size(), places.data(), places.size());
-    expect(std::count(places.end() - 3, places.end(), std::size_t(7)) == 3, "what lies behind places");
+    const std::vector<std::size_t> places = places_of(keys, words, questions);
     for (std::size_t i = 0; i < questions.size(); i++) {
         const std::uint64_t want = below(keys, questions[i]);
         const auto after = std::upper_bound(keys.begin(), keys.end(), questions[i]);
@@ -105,14 +115,20 @@ void compare_found(const Keys &keys, const Keys &words, const Keys &questions) {
     }
 }
 
-// A place in keys that may fall: the key before it is below the question, and that at it isn't.
+// The key before the place is below the question, and that at it isn't.
+bool is_bracket(const Keys &keys, std::uint64_t question, std::size_t place) {
+    return place <= keys.size() && (place == 0 || keys[place - 1] < question) &&
+           (place == keys.size() || keys[place] >= question);
+}
+
+// Places in keys that may fall.
 void compare_brackets(const Keys &keys, const Keys &words, const Keys &questions) {
-    for (const std::uint64_t question : questions) {
+    const std::vector<std::size_t> places = places_of(keys, words, questions);
+    for (std::size_t i = 0; i < questions.size(); i++) {
         const std::size_t place =
-            kuldebiq_find(keys.data(), keys.size(), words.data(), words.size(), question);
-        expect(place <= keys.size() && (place == 0 || keys[place - 1] < question) &&
-                   (place == keys.size() || keys[place] >= question),
-               "a bracket");
+            kuldebiq_find(keys.data(), keys.size(), words.data(), words.size(), questions[i]);
+        expect(is_bracket(keys, questions[i], place), "a bracket");
+        expect(is_bracket(keys, questions[i], places[i]), "one of many brackets");
     }
 }
 
@@ -129,11 +145,17 @@ void compare_finding(std::mt19937_64 &random, const Keys &keys, const Keys &ques
     Keys mixed = keys;
     std::shuffle(mixed.begin(), mixed.end(), random);
     compare_brackets(mixed, words, few);
+    // Each second key is 9: a question between them has eight brackets.
+    const Keys in_turn{1, 9, 1, 9, 1, 9, 1, 9, 1, 9, 1, 9, 1, 9, 1, 9};
+    compare_brackets(in_turn, {0, 0}, {0, 1, 5, 9, 10});
     std::size_t room[2] = {7, 7};
-    kuldebiq_find_many(keys.data(), keys.size(), words.data(), words.size(), few.data(), few.size(), room,
-                       1);
-    expect(room[0] == below(keys, few[0]) && room[1] == 7, "room for one place");
-    kuldebiq_find_many(nullptr, 0, nullptr, 0, nullptr, 0, nullptr, 0);
+    expect(is(kuldebiq_find_many(keys.data(), keys.size(), words.data(), words.size(), few.data(),
+                                 few.size(), room, 1),
+              KULDEBIQ_TOO_LITTLE_ROOM, few.size()) &&
+               room[0] == 7 && room[1] == 7,
+           "room for one place");
+    expect(gives(kuldebiq_find_many(nullptr, 0, nullptr, 0, nullptr, 0, nullptr, 0), 0),
+           "the places of no questions");
     expect(kuldebiq_find(nullptr, 0, nullptr, 0, 5) == 0 &&
                kuldebiq_find_past(nullptr, 0, nullptr, 0, UINT64_MAX) == 0,
            "a place among no keys");
@@ -253,7 +275,7 @@ void compare_refusals(kuldebiq_index &index, const Keys &keys) {
     kuldebiq_lines no_lines = KULDEBIQ_NOTHING;
     std::uint64_t words[6];
     expect(is(kuldebiq_lines_write(&no_lines, words, 6), KULDEBIQ_NOTHING_HELD, 0), "no lines");
-    expect(is(kuldebiq_positions(&index, keys.data(), 3, room, 2), KULDEBIQ_TOO_LITTLE_ROOM, 2),
+    expect(is(kuldebiq_positions(&index, keys.data(), 3, room, 2), KULDEBIQ_TOO_LITTLE_ROOM, 3),
            "room for too few");
     expect(is(kuldebiq_positions(&none, keys.data(), 3, room, 2), KULDEBIQ_NOTHING_HELD, 0),
            "nothing to ask, before the room");

@@ -122,8 +122,8 @@ void ask() {
     for (const std::uint64_t key : sorted.between(4, 12)) std::cout << key << '\n';
     const std::array<std::uint64_t, 3> questions{30, 1, 19};
     std::array<std::size_t, 3> places{};
-    kuldebiq_find_many(keys.data(), keys.size(), words.data(), words.size(), questions.data(),
-                       questions.size(), places.data(), places.size());
+    number(kuldebiq_find_many(keys.data(), keys.size(), words.data(), words.size(), questions.data(),
+                              questions.size(), places.data(), places.size()));
     for (const std::size_t place : places) std::cout << "place " << place << '\n';
 }
 

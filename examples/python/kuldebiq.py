@@ -81,7 +81,7 @@ _find_past.argtypes = (_at, _size, _at, _size, _u64)
 _find_past.restype = _size
 _find_many = _library.kuldebiq_find_many
 _find_many.argtypes = (_at, _size, _at, _size, _at, _size, _at, _size)
-_find_many.restype = None
+_find_many.restype = _Answer
 _library.kuldebiq_version.argtypes = ()
 _library.kuldebiq_version.restype = _u32
 if _library.kuldebiq_version() != VERSION:
@@ -258,7 +258,9 @@ def find_many(keys, lines, questions):
     row, words = _View.of(keys), _View.of(lines)
     at, count, _kept = _words(questions)
     places, room = _room_for(count, questions, "Q")
-    _find_many(row.address(), row.count(), words.address(), words.count(), at, count, room, count)
+    _number(
+        _find_many(row.address(), row.count(), words.address(), words.count(), at, count, room, count)
+    )
     return places
 
 

@@ -32,7 +32,7 @@ pub const NO_SUCH_LEVEL: u32 = 7;
 /// There is no such segment. The number is how many segments the level has.
 pub const NO_SUCH_SEGMENT: u32 = 8;
 
-/// There isn't room for an answer to each question. The number is for how many there is.
+/// There isn't room for all that is to be written. The number is how much room is needed.
 pub const TOO_LITTLE_ROOM: u32 = 9;
 
 /// A map has 1 to 26 levels. The number is how many were asked for.

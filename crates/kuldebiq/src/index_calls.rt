@@ -202,7 +202,7 @@ pub extern "C" fn kuldebiq_positions(
     ensures none { handle.old.index ≡ None → result ≡ refuses NOTHING_HELD 0 }
     ensures room { (index : PgmIndex) → handle.old.index ≡ Some index →
         length positions.old < length questions.now →
-        result ≡ refuses TOO_LITTLE_ROOM (length positions.old) }
+        result ≡ refuses TOO_LITTLE_ROOM (length questions.now) }
     ensures done { (index : PgmIndex) → handle.old.index ≡ Some index →
         length questions.now ≤ length positions.old →
         (result ≡ gives (length questions.now)) ×
@@ -223,7 +223,7 @@ pub extern "C" fn kuldebiq_positions(
 
 fn positions_at(alloc: Global, index: &Index, questions: &[u64], positions: &mut [u32]) -> Answer
     ensures room { length positions.old < length questions.now →
-        result ≡ refuses TOO_LITTLE_ROOM (length positions.old) }
+        result ≡ refuses TOO_LITTLE_ROOM (length questions.now) }
     ensures done { length questions.now ≤ length positions.old →
         (result ≡ gives (length questions.now)) ×
         (positions.new ≡ map (lb index.now.keys) questions.now ++
@@ -232,7 +232,7 @@ fn positions_at(alloc: Global, index: &Index, questions: &[u64], positions: &mut
 {
     let count = questions.len();
     if positions.len() < count {
-        return refused(TOO_LITTLE_ROOM, positions.len() as u64);
+        return refused(TOO_LITTLE_ROOM, count as u64);
     }
     write_positions(alloc, index, questions, &mut positions[..count]);
     given(count as u64)

@@ -81,7 +81,7 @@ pub extern "C" fn kuldebiq_lines_write(
 ) -> Answer
     ensures none { handle.old.lines ≡ None → result ≡ refuses NOTHING_HELD 0 }
     ensures room { (lines : List ℕ) → handle.old.lines ≡ Some lines →
-        length words.old < length lines → result ≡ refuses TOO_LITTLE_ROOM (length words.old) }
+        length words.old < length lines → result ≡ refuses TOO_LITTLE_ROOM (length lines) }
     ensures done { (lines : List ℕ) → handle.old.lines ≡ Some lines →
         length lines ≤ length words.old → (result ≡ gives (length lines)) ×
         (words.new ≡ lines ++ drop (length lines) words.old) }
@@ -101,14 +101,14 @@ pub extern "C" fn kuldebiq_lines_write(
 /// Writes words at the front of the room.
 fn write_words(from: &[u64], room: &mut [u64]) -> Answer
     ensures room { length room.old < length from.now →
-        result ≡ refuses TOO_LITTLE_ROOM (length room.old) }
+        result ≡ refuses TOO_LITTLE_ROOM (length from.now) }
     ensures done { length from.now ≤ length room.old → (result ≡ gives (length from.now)) ×
         (room.new ≡ from.now ++ drop (length from.now) room.old) }
     ensures refused { result.status ≢ 0 → room.new ≡ room.old }
 {
     let count = from.len();
     if room.len() < count {
-        return refused(TOO_LITTLE_ROOM, room.len() as u64);
+        return refused(TOO_LITTLE_ROOM, count as u64);
     }
     room[..count].copy_from_slice(from);
     given(count as u64)

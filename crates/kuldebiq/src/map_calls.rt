@@ -206,6 +206,7 @@ pub extern "C" fn kuldebiq_map_apply(
 ) -> Answer
     ensures done { IsDone result →
         HasAdded (map update_of updates.now) handle.old.map handle.new.map }
+    ensures judged { IsDone result → All IsUpdate updates.now }
     ensures number { IsDone result → result ≡ gives (length updates.now) }
     ensures none { handle.old.map ≡ None → result ≡ refuses NOTHING_HELD 0 }
     ensures full { (held : Held) (before : List Update) → handle.old.map ≡ Some held →

@@ -32,6 +32,7 @@ pub struct UpdateParts {
 /// as it was.
 pub(crate) fn apply(alloc: Global, held: &mut LogMap, parts: &[UpdateParts]) -> Answer
     ensures done { IsDone result → Adds (map update_of parts.now) held.old held.new }
+    ensures judged { IsDone result → All IsUpdate parts.now }
     ensures number { IsDone result → result ≡ gives (length parts.now) }
     ensures full { (before : List Update) → All IsUpdate parts.now → StandsFor held.old before →
         capacity_of held.old < length (entries_of (before ++ map update_of parts.now)) →

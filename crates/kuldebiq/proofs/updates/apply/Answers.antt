@@ -11,6 +11,10 @@ returns-then-known-parts-clause-full c = λ before all stands many.
     let d : UpdateParts = record { kind = 0; key = 0; value = 0 } in
     absurd (c.known_len-known.ensures.other d c.if-known-parts.true (All-get_or IsUpdate c.args.parts.now c.known_len-known.result d c.if-known-parts.true all))
 
+pub returns-in-Ok-clause-judged : goal.returns-in-Ok-clause-judged
+returns-in-Ok-clause-judged c = λ done.
+    subst (λ (parts : List UpdateParts). All IsUpdate parts) (take_all c.known_len-known.result c.args.parts.now (omega (arith, c.if-known-parts.false))) c.known_len-known.ensures.known
+
 pub returns-in-Ok-clause-refused : goal.returns-in-Ok-clause-refused
 returns-in-Ok-clause-refused c = λ not_done.
     inr (
