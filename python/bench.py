@@ -9,6 +9,7 @@ several runs, in nanoseconds for one lookup. What isn't installed is left out.
 import bisect
 import sys
 import timeit
+from functools import partial
 
 import numpy
 
@@ -44,7 +45,7 @@ def lookups(row, questions):
     keys, row_list = kuldebiq.SortedKeys(row), row.tolist()
     single = questions[:SINGLE].tolist()
     yield "kuldebiq.SortedKeys, one", each(keys.position, single), SINGLE
-    yield "bisect.bisect_left, one", each(lambda q: bisect.bisect_left(row_list, q), single), SINGLE
+    yield "bisect.bisect_left, one", each(partial(bisect.bisect_left, row_list), single), SINGLE
     yield "numpy.searchsorted, one", each(row.searchsorted, questions[:SINGLE]), SINGLE
     yield "kuldebiq.SortedKeys, many", lambda: keys.positions(questions), len(questions)
     yield "numpy.searchsorted, many", lambda: row.searchsorted(questions), len(questions)
@@ -52,7 +53,7 @@ def lookups(row, questions):
 
 def maps(row, questions):
     made = kuldebiq.Map(row, row)
-    single = questions[:SINGLE].tolist()
+    single = row[questions[:SINGLE] % len(row)].tolist()
     yield "kuldebiq.Map, get", each(made.get, single), SINGLE
     yield "kuldebiq.Map, put", each(lambda q: made.__setitem__(q, 1), single), SINGLE
     yield "kuldebiq.Map, next", each(made.next, single), SINGLE

@@ -58,9 +58,9 @@ def make_library():
         sys.exit(f"kuldebiq: there is no library under {PREFIX}: examples/install.sh makes one")
     with terminal() as told:
         print(
-            f"\nkuldebiq: the library isn't there yet. examples/install.sh proves its crates and builds\n"
-            f"kuldebiq: it under {PREFIX}: minutes where they are proved on this\n"
-            f"kuldebiq: machine, and else a quarter of an hour or more on four cores.",
+            "\nkuldebiq: the library isn't there yet, so examples/install.sh proves its crates and"
+            f"\nkuldebiq: builds it under {PREFIX}: minutes where they are proved on this"
+            "\nkuldebiq: machine, and else a quarter of an hour or more on four cores",
             file=told,
             flush=True,
         )
@@ -89,7 +89,8 @@ def declarations():
         text=True,
     )
     bodies_gone = re.sub(r"static inline (.*?\)) \{.*?\n\}", r"\1;", done.stdout, flags=re.DOTALL)
-    return bodies_gone + "\n#define KULDEBIQ_VERSION ...\nstatic char *const KULDEBIQ_VERSION_TEXT;\n"
+    constants = "#define KULDEBIQ_VERSION ...\nstatic char *const KULDEBIQ_VERSION_TEXT;\n"
+    return f"{bodies_gone}\n{constants}"
 
 
 ffibuilder = FFI()

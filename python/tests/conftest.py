@@ -1,4 +1,4 @@
-"""How Hypothesis runs: with no time limit for an example, and in the gate the same ones each time."""
+"""How Hypothesis runs: with no time limit, and in the gate with the same examples each time."""
 
 from hypothesis import settings
 

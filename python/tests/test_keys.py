@@ -127,7 +127,7 @@ def odd_bytes():
 @pytest.mark.parametrize(
     "row",
     [
-        *(numpy.array(PRIMES, dtype) for dtype in ("u1", "u2", "u4", "i1", "i2", "i4", ">u8", ">i4")),
+        *(numpy.array(PRIMES, dtype) for dtype in ("u1", "u2", "u4", "i1", "i4", ">u8", ">i4")),
         numpy.repeat(numpy.array(PRIMES, numpy.uint64), 2)[::2],
         odd_bytes(),
         array("B", PRIMES),
@@ -310,8 +310,16 @@ def test_key_files_are_mapped(tmp_path):
 
 
 @pytest.mark.parametrize(
-    "content", [b"", b"1234567", key_bytes(PRIMES)[:-1], key_bytes(PRIMES) + b"0",
-                key_bytes(PRIMES, count=9), key_bytes(PRIMES, count=1 << 63), key_bytes([], count=1)]
+    "content",
+    [
+        b"",
+        b"1234567",
+        key_bytes(PRIMES)[:-1],
+        key_bytes(PRIMES) + b"0",
+        key_bytes(PRIMES, count=9),
+        key_bytes(PRIMES, count=1 << 63),
+        key_bytes([], count=1),
+    ],
 )
 def test_a_file_that_is_no_key_file_is_refused(tmp_path, content):
     path = tmp_path / "some.file"

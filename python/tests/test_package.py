@@ -1,5 +1,6 @@
 """The package as a whole: its version, its help, and the examples in it."""
 
+import copy
 import doctest
 import pickle
 import pydoc
@@ -10,7 +11,8 @@ from pathlib import Path
 import pytest
 
 import kuldebiq
-from kuldebiq import _keys, _map
+from kuldebiq import _errors, _keys, _map
+from kuldebiq._library import lib
 
 HERE = Path(__file__).resolve().parent
 HEADER = HERE.parents[1] / "include" / "kuldebiq.h"
@@ -54,6 +56,25 @@ def test_all_that_is_public_is_documented():
         for part, value in vars(thing).items() if isinstance(thing, type) else ():
             if not part.startswith("_") and callable(value):
                 assert value.__doc__, f"{name}.{part}"
+
+
+def test_both_are_pickled_and_copied():
+    keys, made = kuldebiq.SortedKeys([2, 3, 5]), kuldebiq.Map({3: 1, 2: 5}, levels=3)
+    for again in (pickle.loads(pickle.dumps(keys)), copy.deepcopy(keys)):
+        assert list(again) == [2, 3, 5] and again.position(4) == 2
+    for again in (pickle.loads(pickle.dumps(made)), copy.deepcopy(made), made.copy()):
+        again[9] = 1
+        assert again == {2: 5, 3: 1, 9: 1} and again.levels == 3
+    assert made == {2: 5, 3: 1}
+
+
+def test_each_status_is_an_error_of_python():
+    for status, error in [(lib.KULDEBIQ_NO_MEMORY, MemoryError), (lib.KULDEBIQ_FULL, OverflowError),
+                          (lib.KULDEBIQ_TOO_MANY_KEYS, OverflowError), (77, ValueError),
+                          (lib.KULDEBIQ_TOO_LITTLE_ROOM, ValueError)]:
+        refusal = _errors.refusal(status, 5)
+        assert isinstance(refusal, error) and isinstance(refusal, kuldebiq.Refused)
+        assert (refusal.status, refusal.number) == (status, 5) and str(refusal)
 
 
 def test_refusals_are_errors_of_python():

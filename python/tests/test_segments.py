@@ -12,7 +12,8 @@ from hypothesis import strategies as st
 import kuldebiq
 from kuldebiq._segments import points
 
-rows = st.lists(st.integers(0, 60) | st.integers((1 << 64) - 20, (1 << 64) - 1), max_size=60).map(sorted)
+numbers = st.integers(0, 60) | st.integers((1 << 64) - 20, (1 << 64) - 1)
+rows = st.lists(numbers, max_size=60).map(sorted)
 
 
 def height(segment, x):

@@ -57,12 +57,11 @@ def test_threads_write_the_same_map():
 
 
 def test_a_key_is_popped_once():
-    made, popped = Map(range(3000), range(3000)), []
+    made, popped, values = Map(range(3000), range(3000)), [], []
     run_in_threads(4, lambda _: popped.extend(made.pop_first() for _ in range(500)))
-    run_in_threads(4, lambda _: popped.extend(made.pop(key, None) or 0 for key in range(2000, 2500)))
-    keys = [key for key, *_ in (pair for pair in popped if isinstance(pair, tuple))]
-    assert sorted(keys) == list(range(2000)) and len(made) == 500
-    assert sum(pair for pair in popped if not isinstance(pair, tuple)) == sum(range(2000, 2500))
+    assert sorted(popped) == [(key, key) for key in range(2000)]
+    run_in_threads(4, lambda _: values.extend(made.pop(key, 0) for key in range(2000, 2500)))
+    assert sum(values) == sum(range(2000, 2500)) and len(made) == 500
 
 
 def test_objects_die_in_any_order():

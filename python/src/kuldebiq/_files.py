@@ -39,7 +39,7 @@ def key_file(path: str | os.PathLike) -> numpy.ndarray:
         head = file.read(8)
         size = os.fstat(file.fileno()).st_size - 8
     if len(head) < 8:
-        raise BadValue(f"{os.fspath(path)!r} is no key file: it has {len(head)} bytes, and no count")
+        raise BadValue(f"{os.fspath(path)!r} is no key file: it ends before its count does")
     count = int.from_bytes(head, "little")
     if count == 0 and size == 0:
         return numpy.empty(0, numpy.uint64)

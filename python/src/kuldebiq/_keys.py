@@ -4,7 +4,9 @@ from __future__ import annotations
 
 import os
 from collections.abc import Iterator, Sequence
+from functools import partial
 from operator import index
+from typing import SupportsIndex
 
 import numpy
 from numpy.typing import ArrayLike, NDArray
@@ -26,8 +28,6 @@ from ._numbers import half, type_name, word, words
 
 __all__ = ["SortedKeys"]
 
-_find = lib.kuldebiq_find
-_find_past = lib.kuldebiq_find_past
 _BLOCK = 1 << 16
 
 
@@ -73,7 +73,7 @@ class SortedKeys(Sequence):
         stay where they are: of numpy or a ``memmap``, or what pandas, polars, Arrow, an ``array``
         or a ``memoryview`` shows of itself. Other whole numbers, as ``uint32``, are converted once.
     hints : array_like of uint64, str or path-like, optional
-        Hints that were made before, or the file of them. If None, they are made.
+        Hints that were made before, or the file of them. If None, they are made; ``[]`` is none.
     epsilon : int, optional
         The error bound of hints that are made, in places, at most 1,048,576. A greater one gives
         fewer hints, which lead less near.
@@ -106,7 +106,16 @@ class SortedKeys(Sequence):
     (3, 4, True, slice(1, 5, None))
     """
 
-    __slots__ = ("_row", "_at", "_size", "_hints", "_hints_at", "_hints_size", "__weakref__")
+    __slots__ = (
+        "_row",
+        "_at",
+        "_size",
+        "_hints",
+        "_find",
+        "_find_past",
+        "_find_many",
+        "__weakref__",
+    )
 
     def __init__(
         self,
@@ -133,8 +142,11 @@ class SortedKeys(Sequence):
     def _go_by(self, hints: numpy.ndarray) -> None:
         self._hints = hints.view()
         self._hints.flags.writeable = False
-        self._hints_at = words_at(hints)
-        self._hints_size = len(hints)
+        # Each call has its hints' place and count at once, also while others are loaded.
+        where = self._at, self._size, words_at(hints), len(hints)
+        self._find = partial(lib.kuldebiq_find, *where)
+        self._find_past = partial(lib.kuldebiq_find_past, *where)
+        self._find_many = partial(lib.kuldebiq_find_many, *where)
 
     @property
     def hints(self) -> NDArray[numpy.uint64]:
@@ -165,7 +177,7 @@ class SortedKeys(Sequence):
         no_keys = make_hints(numpy.empty(0, numpy.uint64), 0)
         self._go_by(read_hints(path, int(no_keys[0])))
 
-    def position(self, question: int) -> int:
+    def position(self, question: SupportsIndex) -> int:
         """How many keys are below the question: ``bisect.bisect_left``.
 
         Raises
@@ -174,12 +186,12 @@ class SortedKeys(Sequence):
             If the question isn't a whole number from 0 to 2^64 - 1.
         """
         try:
-            return _find(self._at, self._size, self._hints_at, self._hints_size, index(question))
+            return self._find(index(question))
         except (TypeError, OverflowError):
             word(question, "a question")
             raise
 
-    def position_after(self, question: int) -> int:
+    def position_after(self, question: SupportsIndex) -> int:
         """How many keys are at most the question: ``bisect.bisect_right``.
 
         Raises
@@ -188,7 +200,7 @@ class SortedKeys(Sequence):
             If the question isn't a whole number from 0 to 2^64 - 1.
         """
         try:
-            return _find_past(self._at, self._size, self._hints_at, self._hints_size, index(question))
+            return self._find_past(index(question))
         except (TypeError, OverflowError):
             word(question, "a question")
             raise
@@ -214,21 +226,11 @@ class SortedKeys(Sequence):
         """
         row = words(questions, "questions")
         places = numpy.empty(len(row), numpy.intp)
-        number_of(
-            lib.kuldebiq_find_many(
-                self._at,
-                self._size,
-                self._hints_at,
-                self._hints_size,
-                words_at(row),
-                len(row),
-                ffi.from_buffer("size_t[]", places, require_writable=True),
-                len(row),
-            )
-        )
+        room = ffi.from_buffer("size_t[]", places, require_writable=True)
+        number_of(self._find_many(words_at(row), len(row), room, len(row)))
         return places
 
-    def range(self, low: int = 0, high: int = WORD_MAX) -> slice:
+    def range(self, low: SupportsIndex = 0, high: SupportsIndex = WORD_MAX) -> slice:
         """Where the keys from low to high stand, both included.
 
         Returns
@@ -244,12 +246,12 @@ class SortedKeys(Sequence):
         start = self.position(low)
         return slice(start, max(start, self.position_after(high)))
 
-    def count(self, low: int, high: int | None = None) -> int:
+    def count(self, low: SupportsIndex, high: SupportsIndex | None = None) -> int:
         """How many keys there are from low to high, both included; of low alone if high is None."""
         between = self.range(low, low if high is None else high)
         return between.stop - between.start
 
-    def index(self, key: int, start: int = 0, stop: int | None = None) -> int:
+    def index(self, key: SupportsIndex, start: int = 0, stop: int | None = None) -> int:
         """The first place of a key, from start to before stop, as of a list.
 
         Raises
@@ -268,7 +270,7 @@ class SortedKeys(Sequence):
 
     def __contains__(self, key: object) -> bool:
         try:
-            place = self.position(key)
+            place = self.position(key)  # type: ignore[arg-type]
         except (TypeError, OverflowError):
             return isinstance(key, float) and key.is_integer() and int(key) in self
         return place < self._size and self._at[place] == key
@@ -300,6 +302,14 @@ class SortedKeys(Sequence):
             return numpy.array(self._row, dtype)
         return numpy.asarray(self._row, dtype)
 
+    def __reduce__(self):
+        return _again, (self._row, self._hints)
+
     def __repr__(self) -> str:
         shown = ", ".join(map(str, self._row[:6].tolist()))
         return f"SortedKeys([{shown}{', ...' if self._size > 6 else ''}])"
+
+
+def _again(row: numpy.ndarray, hints: numpy.ndarray) -> SortedKeys:
+    """Keys that were pickled or copied."""
+    return SortedKeys(row, hints, check=False)

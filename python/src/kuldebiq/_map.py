@@ -15,11 +15,12 @@ from collections.abc import (
 from itertools import islice
 from operator import index
 from threading import RLock
+from typing import SupportsIndex, Tuple, Union
 
 import numpy
 from numpy.typing import ArrayLike, NDArray
 
-from ._errors import BadValue, NoSuchKey, number_of, refusal
+from ._errors import BadValue, NoSuchKey, number_of
 from ._library import WORD_MAX, ffi, lib, new_handle
 from ._numbers import half, type_name, word, words
 
@@ -33,6 +34,8 @@ _FULL = lib.KULDEBIQ_FULL
 _MOST_LEVELS = 26
 _BLOCK = 256
 _MISSING = object()
+
+Pairs = Union[Mapping[int, int], Iterable[Tuple[int, int]], ArrayLike]
 
 _FIELDS = dict(ffi.typeof("kuldebiq_update").fields)
 _UPDATE = numpy.dtype(
@@ -126,7 +129,9 @@ def _update_of(place: int, update) -> tuple[int, int, int]:
         raise BadValue(f"an update is a put, a del or a sweep, and number {place} is {update!r}")
     code, names = _KINDS[kind]
     if len(numbers) != len(names):
-        raise BadValue(f"a {kind} is ({kind!r}, {', '.join(names)}), and number {place} is {update!r}")
+        raise BadValue(
+            f"a {kind} is ({kind!r}, {', '.join(names)}), and number {place} is {update!r}"
+        )
     numbers = [word(number, f"the {name} of a {kind}") for number, name in zip(numbers, names)]
     return code, numbers[0], numbers[-1]
 
@@ -176,10 +181,17 @@ class Map(MutableMapping[int, int]):
 
     __slots__ = ("_handle", "_lock", "_length", "auto_compact", "__weakref__")
 
-    def __init__(self, pairs=(), values=None, *, levels: int = 20, auto_compact: bool = True):
+    def __init__(
+        self,
+        pairs: Pairs = (),
+        values: ArrayLike | None = None,
+        *,
+        levels: int = 20,
+        auto_compact: bool = True,
+    ):
         self._handle = new_handle("kuldebiq_map *", lib.kuldebiq_map_free)
         self._lock = RLock()
-        self._length = 0
+        self._length: int | None = 0
         self.auto_compact = auto_compact
         self.load(pairs, values, levels=half(levels, "levels"))
 
@@ -202,7 +214,7 @@ class Map(MutableMapping[int, int]):
             self._length = None
         return number
 
-    def _pair(self, call, key: int) -> tuple[int, int] | None:
+    def _pair(self, call, key: SupportsIndex) -> tuple[int, int] | None:
         """The pair that a call finds from a key on."""
         found = ffi.new("kuldebiq_pair *")
         with self._lock:
@@ -214,31 +226,33 @@ class Map(MutableMapping[int, int]):
 
     # ---- One key ----
 
-    def __getitem__(self, key: int) -> int:
+    def _look_up(self, key):
+        """What the library answers for a key."""
         try:
             with self._lock:
-                answer = _get(self._handle, index(key))
+                return _get(self._handle, index(key))
         except (TypeError, OverflowError):
             word(key)
             raise
-        if answer.status:
-            raise self._without(key, answer)
-        return answer.number
 
-    @staticmethod
-    def _without(key: int, answer) -> Exception:
+    def __getitem__(self, key: SupportsIndex) -> int:
+        answer = self._look_up(key)
         if answer.status == _ABSENT:
-            return NoSuchKey(key, answer.status, answer.number)
-        return refusal(answer.status, answer.number)
+            raise NoSuchKey(key, answer.status, answer.number)
+        return number_of(answer)
+
+    def get(self, key: SupportsIndex, default=None):
+        """The value at a key, or the default where it isn't there."""
+        answer = self._look_up(key)
+        return default if answer.status == _ABSENT else number_of(answer)
 
     def __contains__(self, key: object) -> bool:
         try:
-            with self._lock:
-                return _get(self._handle, index(key)).status != _ABSENT
+            return self._look_up(key).status != _ABSENT
         except (TypeError, OverflowError):
             return isinstance(key, float) and key.is_integer() and int(key) in self
 
-    def __setitem__(self, key: int, value: int) -> None:
+    def __setitem__(self, key: SupportsIndex, value: SupportsIndex) -> None:
         try:
             with self._lock:
                 self._length = None
@@ -250,7 +264,7 @@ class Map(MutableMapping[int, int]):
             # A map that is full gets room, and any other refusal comes again.
             self._change(_put, index(key), index(value))
 
-    def discard(self, key: int) -> bool:
+    def discard(self, key: SupportsIndex) -> bool:
         """Take a key out, and tell whether it was there. Either is an entry."""
         key = word(key)
         with self._lock:
@@ -260,11 +274,11 @@ class Map(MutableMapping[int, int]):
                 self._length = length - was_there
         return was_there == 1
 
-    def __delitem__(self, key: int) -> None:
+    def __delitem__(self, key: SupportsIndex) -> None:
         if not self.discard(key):
             raise NoSuchKey(key, _ABSENT, 0)
 
-    def pop(self, key: int, default=_MISSING):
+    def pop(self, key: SupportsIndex, default=_MISSING):
         """Take a key out and give its value, or the default where it isn't there."""
         with self._lock:
             try:
@@ -276,7 +290,9 @@ class Map(MutableMapping[int, int]):
             del self[key]
         return value
 
-    def setdefault(self, key: int, default: int) -> int:
+    def setdefault(  # type: ignore[override]
+        self, key: SupportsIndex, default: SupportsIndex
+    ) -> int:
         """The value at a key; where there is none, the default is put there first."""
         with self._lock:
             if key not in self:
@@ -285,11 +301,11 @@ class Map(MutableMapping[int, int]):
 
     # ---- In order ----
 
-    def next(self, key: int = 0) -> tuple[int, int] | None:
+    def next(self, key: SupportsIndex = 0) -> tuple[int, int] | None:
         """The least key that is at least the given one, with its value, or None."""
         return self._pair(lib.kuldebiq_map_next, key)
 
-    def previous(self, key: int = WORD_MAX) -> tuple[int, int] | None:
+    def previous(self, key: SupportsIndex = WORD_MAX) -> tuple[int, int] | None:
         """The greatest key that is at most the given one, with its value, or None."""
         return self._pair(lib.kuldebiq_map_previous, key)
 
@@ -324,7 +340,7 @@ class Map(MutableMapping[int, int]):
         return pair
 
     def range(
-        self, low: int = 0, high: int = WORD_MAX, *, reverse: bool = False
+        self, low: SupportsIndex = 0, high: SupportsIndex = WORD_MAX, *, reverse: bool = False
     ) -> Iterator[tuple[int, int]]:
         """The pairs from low to high, both included, by rising key, or by falling key.
 
@@ -351,7 +367,7 @@ class Map(MutableMapping[int, int]):
             pair = self.previous(pair[0] - 1) if pair[0] > 0 else None
 
     def arrays(
-        self, low: int = 0, high: int = WORD_MAX
+        self, low: SupportsIndex = 0, high: SupportsIndex = WORD_MAX
     ) -> tuple[NDArray[numpy.uint64], NDArray[numpy.uint64]]:
         """The keys from low to high, both included, and their values, at one time.
 
@@ -366,7 +382,7 @@ class Map(MutableMapping[int, int]):
             number_of(lib.kuldebiq_map_range(self._handle, low, high, at, len(room)))
         return room[:, 0].copy(), room[:, 1].copy()
 
-    def count(self, low: int = 0, high: int = WORD_MAX) -> int:
+    def count(self, low: SupportsIndex = 0, high: SupportsIndex = WORD_MAX) -> int:
         """How many keys there are from low to high, both included. It goes along them."""
         return self._ask(lib.kuldebiq_map_count, word(low, "low"), word(high, "high"))
 
@@ -405,7 +421,9 @@ class Map(MutableMapping[int, int]):
 
     # ---- Many at once ----
 
-    def load(self, pairs=(), values=None, *, levels: int | None = None) -> None:
+    def load(
+        self, pairs: Pairs = (), values: ArrayLike | None = None, *, levels: int | None = None
+    ) -> None:
         """Make the map anew, of these pairs and no other.
 
         Parameters and errors are those of ``Map``. If levels is None, they are as many as the map
@@ -422,7 +440,9 @@ class Map(MutableMapping[int, int]):
             number_of(lib.kuldebiq_map_load(self._handle, wanted, at, len(room)))
             self._length = len(room)
 
-    def update(self, pairs=(), values=None) -> None:
+    def update(  # type: ignore[override]
+        self, pairs: Pairs = (), values: ArrayLike | None = None
+    ) -> None:
         """Put many pairs, all or none: a mapping, pairs, or keys and their values.
 
         Parameters and errors are those of ``Map``.
@@ -454,7 +474,7 @@ class Map(MutableMapping[int, int]):
         at = ffi.from_buffer("kuldebiq_update[]", updates)
         self._change(lib.kuldebiq_map_apply, at, len(updates), entries=len(updates))
 
-    def sweep(self, low: int, high: int) -> int:
+    def sweep(self, low: SupportsIndex, high: SupportsIndex) -> int:
         """Take out the keys from low to high, both included, and give how many they were."""
         return self._change(lib.kuldebiq_map_sweep, word(low, "low"), word(high, "high"))
 
@@ -469,7 +489,10 @@ class Map(MutableMapping[int, int]):
         with self._lock:
             return Map(self, levels=self.levels, auto_compact=self.auto_compact)
 
-    __copy__ = copy
+    def __reduce__(self):
+        with self._lock:
+            keys, values = self.arrays()
+            return _again, (keys, values, self.levels, self.auto_compact)
 
     # ---- Room ----
 
@@ -507,12 +530,21 @@ class Map(MutableMapping[int, int]):
             number_of(lib.kuldebiq_map_compact(self._handle, wanted))
 
 
+def _again(keys, values, levels: int, auto_compact: bool) -> Map:
+    """A map that was pickled or copied."""
+    return Map(keys, values, levels=levels, auto_compact=auto_compact)
+
+
 class _Keys(KeysView):
+    _mapping: Map
+
     def __reversed__(self) -> Iterator[int]:
         return reversed(self._mapping)
 
 
 class _Items(ItemsView):
+    _mapping: Map
+
     def __iter__(self) -> Iterator[tuple[int, int]]:
         return self._mapping.range()
 
@@ -521,6 +553,8 @@ class _Items(ItemsView):
 
 
 class _Values(ValuesView):
+    _mapping: Map
+
     def __iter__(self) -> Iterator[int]:
         return (value for _, value in self._mapping.range())
 

@@ -25,7 +25,8 @@ _INSTEAD = {
 
 def type_name(value: object) -> str:
     kind = type(value)
-    return kind.__qualname__ if kind.__module__ == "builtins" else f"{kind.__module__}.{kind.__qualname__}"
+    module = "" if kind.__module__ == "builtins" else kind.__module__ + "."
+    return module + kind.__qualname__
 
 
 def word(number, what: str = "a key") -> int:
@@ -33,8 +34,9 @@ def word(number, what: str = "a key") -> int:
     try:
         number = index(number)
     except TypeError:
+        instead = "" if hasattr(number, "__len__") or number is None else ": write int(..)"
         raise TypeError(
-            f"{what} is a whole number, and this is of type {type_name(number)}: write int(..)"
+            f"{what} is a whole number, and this is of type {type_name(number)}{instead}"
         ) from None
     if not 0 <= number <= WORD_MAX:
         raise OutOfRange(f"{what} is from 0 to 2^64 - 1, and this is {number}")
@@ -47,10 +49,12 @@ def half(number, what: str) -> int:
 
 
 def words(values, what: str = "keys") -> numpy.ndarray:
-    """A row of numbers as ``uint64``, where they lie if they can stay there, and else converted once."""
+    """A row of numbers as ``uint64``: where they lie, if they can stay there."""
     row = _array_of(values, what)
     if row.ndim != 1:
-        raise TypeError(f"{what} are one row, and this {type_name(values)} has {row.ndim} dimensions")
+        raise TypeError(
+            f"{what} are one row, and this {type_name(values)} has {row.ndim} dimensions"
+        )
     return _unsigned(row, values, what)
 
 
@@ -80,7 +84,8 @@ def _array_of(values, what: str) -> numpy.ndarray:
         )
     if isinstance(values, (str, Set, Mapping)):
         raise TypeError(
-            f"{what} are a row of numbers, and this is of type {type_name(values)}: write sorted(..)"
+            f"{what} are a row of numbers, and this is of type {type_name(values)}:"
+            " write sorted(..)"
         )
     nullable = getattr(getattr(values, "dtype", None), "numpy_dtype", None)
     if nullable is not None and hasattr(values, "to_numpy"):
@@ -119,7 +124,7 @@ def _array_of_items(values, what: str) -> numpy.ndarray:
         raise TypeError(
             f"{what} are a row of numbers, and this is of type {type_name(values)}"
         ) from None
-    items = list(items)
+    items = values if isinstance(values, (list, tuple, range)) else list(items)
     try:
         row = array("Q", items)
     except (TypeError, OverflowError):

@@ -60,8 +60,9 @@ def plot(keys: ArrayLike, epsilon: int = 64, axes=None):
 def _new_axes():
     from matplotlib import pyplot
 
+    heights = {"height_ratios": (3, 2)}
     _, axes = pyplot.subplots(
-        2, 1, sharex=True, figsize=(8, 6), layout="constrained", gridspec_kw={"height_ratios": (3, 2)}
+        2, 1, sharex=True, figsize=(8, 6), layout="constrained", gridspec_kw=heights
     )
     return axes
 
@@ -81,7 +82,8 @@ class _Run:
         """The heights of the line at some x, from differences that are exact."""
         x0 = self.segment["x0"]
         apart = numpy.where(x >= x0, (x - x0).astype(float), -(x0 - x).astype(float))
-        return self.segment["y0"] + apart * (float(self.segment["rise"]) / float(self.segment["run"]))
+        slope = float(self.segment["rise"]) / float(self.segment["run"])
+        return self.segment["y0"] + apart * slope
 
 
 def _runs(keys: numpy.ndarray, epsilon: int) -> list[_Run]:
