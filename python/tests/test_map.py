@@ -294,7 +294,7 @@ def test_a_map_may_be_full():
     assert made.levels == 2 and made[1] == 2
     with pytest.raises(ValueError):
         made.compact(levels=27)
-    for levels in (0, 27, 1 << 40):
+    for levels in (0, 27, 1 << 40, -1):
         with pytest.raises(ValueError):
             Map(levels=levels)
 

@@ -62,7 +62,7 @@ def test_the_fewest_of_a_small_list():
 def test_segments_are_judged():
     for call in (kuldebiq.segments, kuldebiq.plot):
         for keys, epsilon, error in [([2, 1], 0, ValueError), ([1], 1 << 21, ValueError),
-                                     ([1], -1, OverflowError), ([1.5], 0, TypeError)]:
+                                     ([1], -1, ValueError), ([1.5], 0, TypeError)]:
             with pytest.raises(error):
                 call(keys, epsilon)
 

@@ -47,7 +47,7 @@ _CLASSES = {
     lib.KULDEBIQ_FULL: OutOfRange,
 }
 _NUMBERS = {
-    lib.KULDEBIQ_UNSORTED: "the one at place {}, counted from 0, is below the one before it",
+    lib.KULDEBIQ_UNSORTED: "the one at place {}, from 0, is below the one before it; sort them",
     lib.KULDEBIQ_TOO_MANY_KEYS: "there are {}",
     lib.KULDEBIQ_EPSILON_TOO_GREAT: "it is {}",
     lib.KULDEBIQ_LEVELS_OUT_OF_RANGE: "{} were asked for",

@@ -11,7 +11,7 @@ from typing import SupportsIndex
 import numpy
 from numpy.typing import ArrayLike, NDArray
 
-from ._errors import BadValue, number_of
+from ._errors import BadValue, number_of, refusal
 from ._files import read_hints, write_hints
 from ._library import (
     WORD_MAX,
@@ -46,13 +46,7 @@ def check_sorted(row: numpy.ndarray) -> None:
         block = row[start : start + _BLOCK + 1]
         falls = block[1:] < block[:-1]
         if falls.any():
-            place = start + int(falls.argmax()) + 1
-            raise BadValue(
-                "the keys aren't in order: the one at place"
-                f" {place}, counted from 0, is below the one before it",
-                lib.KULDEBIQ_UNSORTED,
-                place,
-            )
+            raise refusal(lib.KULDEBIQ_UNSORTED, start + int(falls.argmax()) + 1)
 
 
 class SortedKeys(Sequence):

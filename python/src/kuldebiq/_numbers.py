@@ -5,11 +5,12 @@ from __future__ import annotations
 import mmap
 from array import array
 from collections.abc import Mapping, Set
+from numbers import Number
 from operator import index
 
 import numpy
 
-from ._errors import OutOfRange
+from ._errors import BadValue, OutOfRange
 from ._library import WORD_MAX
 
 _BYTES = (bytes, bytearray, mmap.mmap)
@@ -45,7 +46,10 @@ def word(number, what: str = "a key") -> int:
 
 def half(number, what: str) -> int:
     """A whole number as 32 bits. The library refuses a longer one as it refuses the greatest."""
-    return min(word(number, what), (1 << 32) - 1)
+    try:
+        return min(word(number, what), (1 << 32) - 1)
+    except OverflowError:
+        raise BadValue(f"{what} can't be {number}") from None
 
 
 def words(values, what: str = "keys") -> numpy.ndarray:
@@ -87,6 +91,8 @@ def _array_of(values, what: str) -> numpy.ndarray:
             f"{what} are a row of numbers, and this is of type {type_name(values)}:"
             " write sorted(..)"
         )
+    if isinstance(values, numpy.ma.MaskedArray) and numpy.ma.is_masked(values):
+        raise TypeError(f"{what} are numbers, and some of these are masked: write .compressed()")
     nullable = getattr(getattr(values, "dtype", None), "numpy_dtype", None)
     if nullable is not None and hasattr(values, "to_numpy"):
         return _without_missing(values, nullable, what)
@@ -121,8 +127,9 @@ def _array_of_items(values, what: str) -> numpy.ndarray:
     try:
         items = iter(values)
     except TypeError:
+        instead = ": write [..]" if isinstance(values, Number) else ""
         raise TypeError(
-            f"{what} are a row of numbers, and this is of type {type_name(values)}"
+            f"{what} are a row of numbers, and this is of type {type_name(values)}{instead}"
         ) from None
     items = values if isinstance(values, (list, tuple, range)) else list(items)
     try:
