@@ -70,7 +70,8 @@ def main():
     row = numpy.sort(chance.integers(0, 1 << 64, count, dtype=numpy.uint64))
     questions = chance.integers(0, 1 << 64, 1_000_000, dtype=numpy.uint64)
     print(f"{count} random keys, nanoseconds for one lookup")
-    print(f"{'a call of Python that does nothing':36}{empty_loop(questions[:SINGLE].tolist()):8.0f}")
+    nothing = empty_loop(questions[:SINGLE].tolist())
+    print(f"{'a call of Python that does nothing':36}{nothing:8.0f}")
     for cases in (lookups, maps):
         for name, call, asked in cases(row, questions):
             print(f"{name:36}{nanoseconds(call, asked):8.0f}")

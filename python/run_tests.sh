@@ -41,6 +41,7 @@ END
 
 # Has apt-get install packages, if it may.
 install() {
+    [ "$python" = /usr/bin/python3 ] || return 1
     [ "$(id -u)" = 0 ] && command -v apt-get >/dev/null || return 1
     export DEBIAN_FRONTEND=noninteractive
     timeout 300 apt-get install -y -qq "$@" >/dev/null 2>&1 ||

@@ -77,13 +77,15 @@ def test_plot(count):
     keys = sorted(chance.randrange(1 << 64) for _ in range(count))
     above, below = kuldebiq.plot(numpy.array(keys, numpy.uint64), 2)
     cuts = max(len(kuldebiq.segments(keys, 2)) - 1, 0)
-    circles = [line for line in below.get_lines() if line.get_fillstyle() == "none"]
-    assert len(circles) == cuts
     for line in below.get_lines():
-        if line not in circles:
-            assert numpy.abs(line.get_ydata()).max(initial=0) <= 2 + 1e-6
-    for line in circles:
-        assert abs(line.get_ydata()[2]) > 2
+        offsets = numpy.abs(line.get_ydata())
+        offsets = offsets[~numpy.isnan(offsets)]
+        if line.get_label() == "cuts":
+            assert len(offsets) == 3 * cuts and (offsets[2::3] > 2).all()
+        else:
+            assert offsets.max(initial=0) <= 2 + 1e-6
+    shown = sum(len(line.get_ydata()) for line in below.get_lines() if line.get_linewidth() < 0.7)
+    assert count <= 60 or shown >= count
     figure, axes = pyplot.subplots()
     assert kuldebiq.plot(keys, 2, axes) == (axes,)
     pyplot.close("all")

@@ -13,6 +13,7 @@ __all__ = ["plot"]
 _COLOURS = ("#1b6ca8", "#2e8b57")
 _BAND, _CUT, _GREY = "#f2d16b", "#c0392b", "#666666"
 _FEW = 60  # so many points are drawn as dots
+_DOTS = {"marker": "o", "linestyle": "none", "markersize": 4}
 
 
 def plot(keys: ArrayLike, epsilon: int = 64, axes=None):
@@ -93,33 +94,48 @@ def _runs(keys: numpy.ndarray, epsilon: int) -> list[_Run]:
     return [_Run(segment, end, x, y) for segment, end in zip(found, ends)]
 
 
+def _joined(rows: list[numpy.ndarray]) -> numpy.ndarray:
+    """Rows of numbers as one, with a gap behind each, so that one line draws all of them."""
+    gap = numpy.array([numpy.nan])
+    return numpy.concatenate([gap, *(part for row in rows for part in (row, gap))])
+
+
+def _draw_by_turns(axes, x: list[numpy.ndarray], y: list[numpy.ndarray], **style) -> None:
+    """Draw a line for each run, in two colours by turns."""
+    for turn, colour in enumerate(_COLOURS):
+        axes.plot(_joined(x[turn::2]), _joined(y[turn::2]), color=colour, **style)
+
+
 def _draw_places(axes, all_points, runs: list[_Run], epsilon: int) -> None:
     few = len(all_points[0]) <= _FEW
-    style = {"marker": "o", "linestyle": "none", "markersize": 4} if few else {"linewidth": 4}
+    style = _DOTS if few else {"linewidth": 4}
     axes.plot(*all_points, color="#222222" if few else "#bbbbbb", zorder=3 if few else 1, **style)
-    for number, run in enumerate(runs):
-        x = run.x[[0, -1]]
-        y = run.heights(x)
-        axes.fill_between(x, y - epsilon, y + epsilon, color=_BAND, alpha=0.55, linewidth=0)
-        axes.plot(x, y, color=_COLOURS[number % 2], linewidth=1.6)
-        if run.side:
-            shift = epsilon if run.side == 2 else -epsilon
-            axes.plot(run.cut_x[[0, 2]], run.cut_y[[0, 2]] + shift, "--", color=_CUT, linewidth=1)
-            _draw_cut(axes, run.cut_x, run.cut_y)
-    axes.grid(color="#e6e6e6")
+    ends = [run.x[[0, -1]] for run in runs]
+    heights = [run.heights(x) for run, x in zip(runs, ends)]
+    x, y = _joined(ends), _joined(heights)
+    axes.fill_between(x, y - epsilon, y + epsilon, color=_BAND, alpha=0.55, linewidth=0)
+    _draw_by_turns(axes, ends, heights, linewidth=1.6)
+    cuts = [run for run in runs if run.side]
+    chords = [run.cut_y[[0, 2]] + (epsilon if run.side == 2 else -epsilon) for run in cuts]
+    x = _joined([run.cut_x[[0, 2]] for run in cuts])
+    axes.plot(x, _joined(chords), "--", color=_CUT, linewidth=1)
+    _draw_cuts(axes, cuts, [run.cut_y for run in cuts])
 
 
 def _draw_offsets(axes, runs: list[_Run], epsilon: int) -> None:
     axes.axhspan(-epsilon, epsilon, color=_BAND, alpha=0.55, linewidth=0)
     axes.axhline(0, color=_GREY, linewidth=0.8)
     few = sum(len(run.x) for run in runs) <= _FEW
-    style = {"marker": "o", "linestyle": "none", "markersize": 4} if few else {"linewidth": 0.6}
-    for number, run in enumerate(runs):
-        axes.plot(run.x, run.y - run.heights(run.x), color=_COLOURS[number % 2], **style)
-        if run.side:
-            _draw_cut(axes, run.cut_x, run.cut_y - run.heights(run.cut_x))
+    offsets = [run.y - run.heights(run.x) for run in runs]
+    style = _DOTS if few else {"linewidth": 0.6}
+    _draw_by_turns(axes, [run.x for run in runs], offsets, **style)
+    cuts = [run for run in runs if run.side]
+    _draw_cuts(axes, cuts, [run.cut_y - run.heights(run.cut_x) for run in cuts])
+
+
+def _draw_cuts(axes, cuts: list[_Run], heights: list[numpy.ndarray]) -> None:
+    """Draw the three points of each cut, and a faint grid."""
+    style = {"fillstyle": "none", "markersize": 7, "markeredgewidth": 1.2}
+    x = _joined([run.cut_x for run in cuts])
+    axes.plot(x, _joined(heights), "o", color=_CUT, label="cuts", **style)
     axes.grid(color="#e6e6e6")
-
-
-def _draw_cut(axes, x: numpy.ndarray, y: numpy.ndarray) -> None:
-    axes.plot(x, y, "o", color=_CUT, fillstyle="none", markersize=7, markeredgewidth=1.2)
