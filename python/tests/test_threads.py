@@ -4,6 +4,7 @@ import gc
 import os
 import random
 import threading
+import time
 import weakref
 
 import numpy
@@ -41,6 +42,18 @@ def test_threads_ask_the_same_keys():
             assert keys.position(question) == min((question + 2) // 3, 30_000)
 
     run_in_threads(4, ask)
+
+
+def test_other_threads_go_on_during_a_long_call():
+    keys = SortedKeys(numpy.arange(1_000_000, dtype=numpy.uint64))
+    questions = numpy.random.default_rng(1).integers(0, 1_000_000, 3_000_000)
+    asking = threading.Thread(target=keys.positions, args=(questions,))
+    asking.start()
+    naps = 0
+    while asking.is_alive():
+        time.sleep(0.001)
+        naps += 1
+    assert naps >= 5
 
 
 def test_threads_write_the_same_map():

@@ -19,8 +19,8 @@ array([0, 3, 6])
 >>> list(prices.range(10, 20))
 [(10, 1), (15, 5), (20, 2)]
 
-Keys and values are whole numbers from 0 to 2^64 - 1. A value of a wrong type is a ``TypeError``;
-all else that is refused is a `Refused`, and a ``ValueError``, ``KeyError``, ``OverflowError`` or
+Keys and values are whole numbers from 0 to 2^64 - 1. A value of a wrong type raises ``TypeError``.
+Every other refusal is a `Refused`, and a ``ValueError``, ``KeyError``, ``OverflowError`` or
 ``MemoryError`` as well.
 
 =================  ==============================================================================

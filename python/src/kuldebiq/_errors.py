@@ -8,8 +8,8 @@ from ._library import ffi, lib
 class Refused(Exception):
     """A call was refused, and all is as it was.
 
-    Each refusal is an error of Python, too: a ``ValueError``, a ``KeyError``, an
-    ``OverflowError`` or a ``MemoryError``. A value of a wrong type is a plain ``TypeError``.
+    Each refusal is also a ``ValueError``, ``KeyError``, ``OverflowError`` or ``MemoryError``.
+    A value of a wrong type raises a plain ``TypeError`` instead.
 
     Attributes
     ----------

@@ -14,8 +14,8 @@ __all__ = ["key_file"]
 def key_file(path: str | os.PathLike) -> numpy.ndarray:
     """Map a key file, which holds the number of its keys and then the sorted keys (SOSD).
 
-    Nothing is read but the number, and whether the keys are sorted isn't looked at: ``SortedKeys``
-    does that.
+    Only the number is read here; ``SortedKeys`` checks that the keys are sorted. A file that is
+    made shorter while it is mapped ends the process that reads it.
 
     Parameters
     ----------

@@ -52,12 +52,11 @@ def check_sorted(row: numpy.ndarray) -> None:
 class SortedKeys(Sequence):
     """Sorted keys, and how many of them are below a question.
 
-    The keys stay where they lie, as in a ``numpy.memmap``, and hints lead a lookup among them. A
-    hint need not be right: hints that are old, damaged or of other keys make a lookup slow, and
-    never wrong.
+    The keys stay where they lie, as in a ``numpy.memmap``. Hints lead a lookup among them, and need
+    not be trusted: hints that are old, damaged or of other keys make a lookup slow, never wrong.
 
-    Any threads may ask at once: no lookup waits for another one. Nobody may write to the keys while
-    one goes on.
+    Threads may share the keys, and no lookup waits for another one. Nobody may write to the keys
+    during a lookup.
 
     Parameters
     ----------
@@ -72,9 +71,9 @@ class SortedKeys(Sequence):
         The error bound of hints that are made, in places, at most 1,048,576. A greater one gives
         fewer hints, which lead less near.
     check : bool, optional
-        Whether keys that come with hints are looked through once for their order; hints that are
-        made do so anyway. If False, and the keys do fall, an answer is a place with a key below the
-        question before it and none at it.
+        Whether the order of keys that come with hints is checked, which reads all of them once;
+        making hints always checks it. If the keys fall unchecked, an answer is a place with a key
+        below the question before it and none at it.
 
     Raises
     ------

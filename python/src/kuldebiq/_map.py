@@ -141,12 +141,14 @@ class Map(MutableMapping[int, int]):
 
     A ``MutableMapping`` by rising key. Ranges have both ends included.
 
-    The map accepts ``64 * 2**levels - 1`` entries. Each put and each deletion is one, whatever was
-    at the key, and a sweep is one for each key that it takes out. A map that has accepted all is
-    compacted: made anew of the pairs that it has, which takes as long as loading them, with more
-    levels where these fill more than half.
+    A map has room for ``64 * 2**levels - 1`` entries. Each put and each deletion is one, whatever
+    was at the key, and a sweep is one for each key that it takes out. A full map compacts itself:
+    it is rebuilt from its pairs, which takes as long as loading them, and gets more levels if they
+    fill more than half of it.
 
-    Any threads may use a map: a call waits until no other one uses it, and is done as a whole.
+    Threads may share a map. Each call waits until no other one uses the map, and is done as a
+    whole; a range is a call for each of its blocks. A child that is forked while another thread
+    uses a map must not use that map.
 
     Parameters
     ----------
@@ -158,8 +160,8 @@ class Map(MutableMapping[int, int]):
     levels : int, optional
         1 to 26.
     auto_compact : bool, optional
-        If False, a map that has accepted all refuses with an ``OverflowError``, until `compact` is
-        called.
+        If False, a full map refuses each update with an ``OverflowError`` until `compact` makes
+        room.
 
     Raises
     ------
@@ -242,7 +244,7 @@ class Map(MutableMapping[int, int]):
         return number_of(answer)
 
     def get(self, key: SupportsIndex, default=None):
-        """The value at a key, or the default where it isn't there."""
+        """Return the value at a key, or the default if it isn't there."""
         answer = self._look_up(key)
         return default if answer.status == _ABSENT else number_of(answer)
 
@@ -265,7 +267,7 @@ class Map(MutableMapping[int, int]):
             self._change(_put, index(key), index(value))
 
     def discard(self, key: SupportsIndex) -> bool:
-        """Take a key out, and tell whether it was there. Either is an entry."""
+        """Take a key out, and return whether it was there. Either way it is an entry."""
         key = word(key)
         with self._lock:
             length = self._length
@@ -279,7 +281,7 @@ class Map(MutableMapping[int, int]):
             raise NoSuchKey(key, _ABSENT, 0)
 
     def pop(self, key: SupportsIndex, default=_MISSING):
-        """Take a key out and give its value, or the default where it isn't there."""
+        """Take a key out and return its value, or the default if it isn't there."""
         with self._lock:
             try:
                 value = self[key]
@@ -293,7 +295,7 @@ class Map(MutableMapping[int, int]):
     def setdefault(  # type: ignore[override]
         self, key: SupportsIndex, default: SupportsIndex
     ) -> int:
-        """The value at a key; where there is none, the default is put there first."""
+        """Return the value at a key, after putting the default there if there was none."""
         with self._lock:
             if key not in self:
                 self[key] = default
@@ -310,7 +312,7 @@ class Map(MutableMapping[int, int]):
         return self._pair(lib.kuldebiq_map_previous, key)
 
     def pop_first(self) -> tuple[int, int]:
-        """Take out the least key, and give it with its value.
+        """Take out the least key, and return it with its value.
 
         Raises
         ------
@@ -320,7 +322,7 @@ class Map(MutableMapping[int, int]):
         return self._pop_end(self.next, 0)
 
     def pop_last(self) -> tuple[int, int]:
-        """Take out the greatest key, and give it with its value.
+        """Take out the greatest key, and return it with its value.
 
         Raises
         ------
@@ -387,7 +389,7 @@ class Map(MutableMapping[int, int]):
         return self._ask(lib.kuldebiq_map_count, word(low, "low"), word(high, "high"))
 
     def __len__(self) -> int:
-        """How many keys there are. It goes along them, where keys were put since it did."""
+        """How many keys there are. It counts them again if keys were put since it last did."""
         with self._lock:
             if self._length is None:
                 self._length = self.count()
@@ -424,11 +426,11 @@ class Map(MutableMapping[int, int]):
     def load(
         self, pairs: Pairs = (), values: ArrayLike | None = None, *, levels: int | None = None
     ) -> None:
-        """Make the map anew, of these pairs and no other.
+        """Replace all pairs of the map by these.
 
-        Parameters and errors are those of ``Map``. If levels is None, they are as many as the map
-        has, or more where the pairs would fill more than half. If it is refused, the map is as it
-        was.
+        Parameters and errors are those of ``Map``. If `levels` is None, the map keeps its levels.
+        In either case a map that compacts itself gets more if the pairs fill more than half of it.
+        If the call is refused, the map is as it was.
         """
         keys, values = _rising(*_columns(pairs, values))
         room = numpy.column_stack((keys, values))
@@ -475,7 +477,7 @@ class Map(MutableMapping[int, int]):
         self._change(lib.kuldebiq_map_apply, at, len(updates), entries=len(updates))
 
     def sweep(self, low: SupportsIndex, high: SupportsIndex) -> int:
-        """Take out the keys from low to high, both included, and give how many they were."""
+        """Take out the keys from low to high, both included, and return how many they were."""
         return self._change(lib.kuldebiq_map_sweep, word(low, "low"), word(high, "high"))
 
     def clear(self) -> None:
@@ -503,16 +505,16 @@ class Map(MutableMapping[int, int]):
 
     @property
     def capacity(self) -> int:
-        """How many entries can be accepted, of which `accepted` were."""
+        """How many entries there is room for, those that were accepted included."""
         return self._ask(lib.kuldebiq_map_capacity)
 
     @property
     def accepted(self) -> int:
-        """How many entries were accepted."""
+        """How many entries were accepted since the map was made or last compacted."""
         return self._ask(lib.kuldebiq_map_accepted)
 
     def compact(self, levels: int | None = None) -> None:
-        """Make the map anew of its pairs: it has accepted an entry for each, and no other.
+        """Rebuild the map from its pairs: an entry stays for each of them, and no other.
 
         Parameters
         ----------
