@@ -47,8 +47,8 @@ def lookups(row, questions):
     yield "kuldebiq.SortedKeys, one", each(keys.position, single), SINGLE
     yield "bisect.bisect_left, one", each(partial(bisect.bisect_left, row_list), single), SINGLE
     yield "numpy.searchsorted, one", each(row.searchsorted, questions[:SINGLE]), SINGLE
-    yield "kuldebiq.SortedKeys, many", lambda: keys.positions(questions), len(questions)
-    yield "numpy.searchsorted, many", lambda: row.searchsorted(questions), len(questions)
+    yield "kuldebiq.SortedKeys, a million", lambda: keys.positions(questions), len(questions)
+    yield "numpy.searchsorted, a million", lambda: row.searchsorted(questions), len(questions)
 
 
 def maps(row, questions):

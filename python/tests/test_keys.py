@@ -1,6 +1,7 @@
 """`SortedKeys` beside bisect and numpy.searchsorted, over whatever holds numbers."""
 
 import bisect
+import ctypes
 import gc
 import mmap
 import random
@@ -161,6 +162,25 @@ def test_missing_values_are_refused(dtype):
     pandas = pytest.importorskip("pandas")
     with pytest.raises(TypeError, match="missing"):
         SortedKeys(pandas.Series([1, None, 3], dtype=dtype))
+
+
+class Column:
+    """What shows an array of itself, as a column of polars or Arrow does."""
+
+    def __init__(self, row):
+        self.row = numpy.array(row)
+
+    def __array__(self, dtype=None, copy=None):
+        return self.row if dtype is None else self.row.astype(dtype)
+
+
+def test_what_shows_an_array_or_its_memory():
+    column = Column(PRIMES)
+    assert lies_in(SortedKeys(column), column.row)
+    with pytest.raises(TypeError, match="Column has float64"):
+        SortedKeys(Column([1.0, float("nan")]))
+    memory = (ctypes.c_uint64 * 10)(*PRIMES)
+    assert lies_in(SortedKeys(memory), memory)
 
 
 def test_columns_of_polars_and_arrow():

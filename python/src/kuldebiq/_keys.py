@@ -6,7 +6,7 @@ import os
 from collections.abc import Iterator, Sequence
 from functools import partial
 from operator import index
-from typing import SupportsIndex
+from typing import SupportsIndex, overload
 
 import numpy
 from numpy.typing import ArrayLike, NDArray
@@ -97,6 +97,12 @@ class SortedKeys(Sequence):
     >>> keys = kuldebiq.SortedKeys([2, 3, 5, 7, 11, 13])
     >>> keys.position(6), keys.count(3, 11), 7 in keys, keys.range(3, 11)
     (3, 4, True, slice(1, 5, None))
+
+    Keys of a file that is too long to be read, with hints that were saved:
+
+    >>> keys = kuldebiq.SortedKeys(
+    ...     kuldebiq.key_file("some.keys"), hints="some.hints", check=False
+    ... )  # doctest: +SKIP
     """
 
     __slots__ = (
@@ -267,6 +273,12 @@ class SortedKeys(Sequence):
         except (TypeError, OverflowError):
             return isinstance(key, float) and key.is_integer() and int(key) in self
         return place < self._size and self._at[place] == key
+
+    @overload  # type: ignore[override]
+    def __getitem__(self, place: SupportsIndex) -> int: ...
+
+    @overload
+    def __getitem__(self, place: slice) -> NDArray[numpy.uint64]: ...
 
     def __getitem__(self, place):
         """The key at a place, as an int, or those of a slice, as a read-only array."""

@@ -404,15 +404,15 @@ class Map(MutableMapping[int, int]):
     def __reversed__(self) -> Iterator[int]:
         return (key for key, _ in self.range(reverse=True))
 
-    def keys(self) -> KeysView:
+    def keys(self) -> KeysView[int]:
         """The keys, rising: a view."""
         return _Keys(self)
 
-    def values(self) -> ValuesView:
+    def values(self) -> ValuesView[int]:
         """The values, by rising key: a view."""
         return _Values(self)
 
-    def items(self) -> ItemsView:
+    def items(self) -> ItemsView[int, int]:
         """The pairs, by rising key: a view."""
         return _Items(self)
 
