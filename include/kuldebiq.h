@@ -9,8 +9,8 @@
  *
  * What a call answers, what it writes and what a handle holds then is proved to be what is said
  * below, if the caller keeps to the rules here. Three things are tested and not proved: that this
- * header declares the calls of the library, that (NULL, 0) is an empty list, and that a _free call
- * gives memory back. How long a call takes and what memory it asks for is only described.
+ * header declares the calls of the library, that (NULL, 0) is an empty list, and that what a handle
+ * held is freed. How long a call takes and what memory it asks for is only described.
  *
  * Handles. A kuldebiq_index, a kuldebiq_map or a kuldebiq_lines is a variable of yours that holds
  * an index, a map or lines, or nothing. Begin with KULDEBIQ_NOTHING. From then on only the calls
@@ -278,8 +278,8 @@ size_t kuldebiq_find(const uint64_t *keys, size_t count, const uint64_t *lines, 
                      uint64_t question);
 
 /* How many keys are at most the question, where the keys never fall: all of them for 2^64 - 1. In
- * any keys it is a place with a key that is at most the question before it and none at it. The keys
- * that equal the question stand from what kuldebiq_find says to here. */
+ * any keys it is a place with a key that is at most the question before it and none at it. Where
+ * they never fall, those that equal the question stand from what kuldebiq_find says to here. */
 size_t kuldebiq_find_past(const uint64_t *keys, size_t count, const uint64_t *lines, size_t words,
                           uint64_t question);
 
@@ -298,11 +298,12 @@ kuldebiq_answer kuldebiq_find_many(const uint64_t *keys, size_t count, const uin
  * before any memory is asked for, and not copied.
  *
  * epsilon is the error bound, in positions, at most 1,048,576. There are as few lines as can be
- * within epsilon of the keys' positions, as many as level 0 of an index has segments: with a
- * greater bound there are fewer, and a lookup reads more keys. The words lead each question to
- * within epsilon + 2 of how many keys are below it. The number is how many words there are: six, a
- * table, and three for each line, which is tested and not proved. What the handle held before is
- * freed.
+ * within epsilon of the keys' positions, as many as level 0 of an index has segments. The words
+ * lead each question to within epsilon + 2 of how many keys are below it. With a greater bound
+ * there are as many lines or fewer, and a lookup reads more keys.
+ *
+ * The number is how many words there are: six, a table, and three for each line, which is tested
+ * and not proved. What the handle held before is freed.
  *
  * Refused with KULDEBIQ_EPSILON_TOO_GREAT, KULDEBIQ_TOO_MANY_KEYS, KULDEBIQ_UNSORTED or
  * KULDEBIQ_NO_MEMORY, judged in this order. Then the handle holds what it held. */

@@ -76,6 +76,9 @@ Keys lines_of(const Keys &keys, std::uint32_t epsilon) {
     expect(gives(kuldebiq_lines_write(&lines, words.data(), words.size()), made.number), "the words");
     expect(words[made.number] == 7 && words[made.number + 1] == 7, "what lies behind the words");
     words.resize(made.number);
+    const std::uint64_t lines_told = words[2];
+    expect(words.size() >= 6 + 3 * lines_told && words.size() <= 6 + 5 * lines_told,
+           "how many words there are for so many lines");
     // A refusal leaves the handle as it is.
     const Keys falling{1, 4, 4, 3, 2};
     expect(is(kuldebiq_lines_build(&lines, falling.data(), 5, epsilon), KULDEBIQ_UNSORTED, 3) &&

@@ -28,6 +28,8 @@ mod many;
 mod map_calls;
 mod map_handle;
 mod range_calls;
+#[cfg(test)]
+mod rows;
 mod segment_parts;
 mod updates;
 

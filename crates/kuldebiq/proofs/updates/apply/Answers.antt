@@ -1,5 +1,5 @@
 -- Updates that are such are refused as the map refuses them.
-use Rattle.std.proofs.Common.{◌∙◌, inr, List, All, take_all, ap, subst, Err, arith}
+use Rattle.std.proofs.Common.{◌∙◌, ◌<◌, inr, List, length, All, take_all, ap, subst, Err, arith}
 use Rattle.std.proofs.lemmas.List.Elements.{All-get_or}
 use Rattle.kuldebiq.specs.declared.updates.UpdateParts.{UpdateParts}
 use Rattle.kuldebiq.specs.Updates.{IsUpdate}
@@ -9,7 +9,8 @@ use Rattle.kuldebiq.proofs.updates.apply.Goals as goal
 pub returns-then-known-parts-clause-full : goal.returns-then-known-parts-clause-full
 returns-then-known-parts-clause-full c = λ before all stands many.
     let d : UpdateParts = record { kind = 0; key = 0; value = 0 } in
-    absurd (c.known_len-known.ensures.other d c.if-known-parts.true (All-get_or IsUpdate c.args.parts.now c.known_len-known.result d c.if-known-parts.true all))
+    let inside : c.known_len-known.result < length c.args.parts.now = omega (arith, c.known_len-known.ensures.within, c.if-known-parts.true) in
+    absurd (c.known_len-known.ensures.other d inside (All-get_or IsUpdate c.args.parts.now c.known_len-known.result d inside all))
 
 pub returns-in-Ok-clause-judged : goal.returns-in-Ok-clause-judged
 returns-in-Ok-clause-judged c = λ done.
