@@ -1,8 +1,8 @@
 """Where the library is, how it is made, and what of its header Python calls.
 
 The library lies under KULDEBIQ_PREFIX, as `examples/install.sh` puts it, or else under `out` beside
-this file, where it is made if it isn't there. The declarations are those of the header itself, read
-by the C preprocessor.
+this file, where it is made if it isn't there or the sources are newer. The declarations are those
+of the header itself, read by the C preprocessor.
 """
 
 import os
@@ -50,21 +50,33 @@ def platform_tag():
     return f"manylinux_{major}_{minor}_{platform.machine()}"
 
 
+def is_made():
+    """Whether the library is there, and of the header and the sources that are here."""
+    if not ARCHIVE.exists() or not OWN_HEADER.exists():
+        return False
+    if OWN_HEADER.read_text(encoding="utf-8") != header():
+        return False
+    made = ARCHIVE.stat().st_mtime
+    sources = () if GIVEN else (HERE.parent / "crates").glob("*/src/**/*.rt")
+    return all(source.stat().st_mtime <= made for source in sources)
+
+
 def make_library():
-    """Has the clone's own script make the library, where it isn't there or has another header."""
-    if ARCHIVE.exists() and OWN_HEADER.exists() and OWN_HEADER.read_text("utf-8") == header():
+    """Has the clone's own script make the library, where that isn't done."""
+    if is_made():
         return
     if GIVEN or not INSTALL.exists():
         sys.exit(f"kuldebiq: there is no library under {PREFIX}: examples/install.sh makes one")
     with terminal() as told:
         print(
-            "\nkuldebiq: the library isn't there yet, so examples/install.sh proves its crates and"
-            f"\nkuldebiq: builds it under {PREFIX}: minutes where they are proved on this"
-            "\nkuldebiq: machine, and else a quarter of an hour or more on four cores",
+            "\nkuldebiq: the library of these sources isn't there: examples/install.sh proves its"
+            f"\nkuldebiq: crates and builds it under {PREFIX}, in minutes where they"
+            "\nkuldebiq: are proved on this machine, and else in a quarter of an hour or more",
             file=told,
             flush=True,
         )
-        done = subprocess.run([INSTALL, PREFIX], stdout=told, stderr=told)
+        elsewhere = {name: value for name, value in os.environ.items() if name != "DESTDIR"}
+        done = subprocess.run([INSTALL, PREFIX], stdout=told, stderr=told, env=elsewhere)
     if done.returncode != 0:
         sys.exit("kuldebiq: examples/install.sh made no library")
 
