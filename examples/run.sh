@@ -1,6 +1,7 @@
 #!/usr/bin/env bash
 # Installs the library for itself, and builds and runs the examples over it: as they are, and once more with the
 # sanitizers for addresses and for undefined behaviour. A part whose compiler isn't there is skipped.
+# The tests of the package for Python run behind them over the same library.
 set -eu
 cd "$(dirname "$0")/.."
 
@@ -108,13 +109,5 @@ if have "$cxx"; then
     fi
     ran="$ran, C++"
 fi
-if have python3; then
-    # The package carries the shared object.
-    python3 examples/python/wheel.py "$prefix/lib/libkuldebiq.so" "$made" >/dev/null
-    python3 -m zipfile -e "$made"/kuldebiq-*.whl "$made/package"
-    PYTHONDONTWRITEBYTECODE=1 PYTHONPATH=$made/package python3 -c \
-        'import runpy; runpy.run_path("examples/python/walk.py")' >"$made/output"
-    diff examples/python/walk.out "$made/output"
-    ran="$ran, Python"
-fi
 echo "examples: $ran ran"
+python/run_tests.sh "$prefix"

@@ -1,0 +1,43 @@
+"""Lookups in sorted keys, and an ordered map, by a library whose answers are proved.
+
+`SortedKeys` answers how many keys are below a question, as ``bisect`` and ``numpy.searchsorted``
+do, in keys that stay where they lie, as in a ``numpy.memmap``:
+
+>>> import numpy, kuldebiq
+>>> keys = kuldebiq.SortedKeys(numpy.array([2, 3, 5, 7, 11, 13], dtype=numpy.uint64))
+>>> keys.position(6)
+3
+>>> keys.positions([1, 6, 20])
+array([0, 3, 6])
+>>> keys.count(3, 11)
+4
+
+`Map` is a dict that is in order:
+
+>>> prices = kuldebiq.Map({30: 3, 10: 1, 20: 2})
+>>> prices[15] = 5
+>>> list(prices.range(10, 20))
+[(10, 1), (15, 5), (20, 2)]
+
+Keys and values are whole numbers from 0 to 2^64 - 1. A value of a wrong type raises ``TypeError``.
+Every other refusal is a `Refused`, and a ``ValueError``, ``KeyError``, ``OverflowError`` or
+``MemoryError`` as well.
+
+=================  ==============================================================================
+`SortedKeys`       position, positions, count, range, hints
+`Map`              a mapping with range, next, previous, count, and many updates at once
+`key_file`         a file of sorted keys, mapped
+`segments`         the fewest segments whose lines are within epsilon of the keys' places
+`plot`             a picture of them, with what shows that there can't be fewer
+=================  ==============================================================================
+"""
+
+from ._errors import Refused
+from ._files import key_file
+from ._keys import SortedKeys
+from ._library import __version__
+from ._map import Map
+from ._plot import plot
+from ._segments import segments
+
+__all__ = ["Map", "Refused", "SortedKeys", "__version__", "key_file", "plot", "segments"]
