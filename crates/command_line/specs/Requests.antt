@@ -65,11 +65,11 @@ pub record Finding : Type 0 where
   pub script : Text
   pub narrow : Bool
 
--- each command, with the names of its files and its options; the table of a query isn't told, since no answer depends on it
+-- each command, with the names of its files and its options; `bits` is how many bits of a key the table goes by that finds a query's positions, and 0 where none is asked for
 pub data Request : Type 0 where
   build : (building : Building) → Request
   explain : (building : Building) → Request
-  query : (building : Building) (script : Text) (windows : Bool) → Request
+  query : (building : Building) (script : Text) (windows : Bool) (bits : ℕ) → Request
   relax : (building : Building) (script : Text) (pieces : ℕ) → Request
   box : (searching : Searching) → Request
   near : (searching : Searching) → Request
@@ -100,7 +100,7 @@ building_of rows = record {
 }
 
 abbrev pub query_of : List Row → Request
-query_of rows = query (building_of rows) (name_in (codes "SCRIPT") rows) (is_given (codes "windows") rows)
+query_of rows = query (building_of rows) (name_in (codes "SCRIPT") rows) (is_given (codes "windows") rows) (number_in (codes "buckets") 0 rows)
 
 abbrev pub relax_of : List Row → Request
 relax_of rows = relax (building_of rows) (name_in (codes "SCRIPT") rows) (number_in (codes "pieces") 4 rows)
@@ -178,7 +178,7 @@ checked_of c = record { file = c.file.now; index = c.index.now; narrow = c.narro
 abbrev pub asked_of : declared.Request → Request
 asked_of (variant.Build building) = build (built_of building)
 asked_of (variant.Explain building) = explain (built_of building)
-asked_of (variant.Query building script windows table) = query (built_of building) script.now windows
+asked_of (variant.Query building script windows table) = query (built_of building) script.now windows table.bits
 asked_of (variant.Relax building script pieces) = relax (built_of building) script.now pieces.count
 asked_of (variant.Box searching) = box (searched_of searching)
 asked_of (variant.Near searching) = near (searched_of searching)
@@ -194,7 +194,7 @@ asked_of (variant.Check checking) = check (checked_of checking)
 abbrev pub first_file : Request → Option Text
 first_file (build building) = Some building.file
 first_file (explain building) = Some building.file
-first_file (query building script windows) = Some building.file
+first_file (query building script windows bits) = Some building.file
 first_file (relax building script pieces) = Some building.file
 first_file (box searching) = Some searching.file
 first_file (near searching) = Some searching.file

@@ -164,6 +164,7 @@ fn pieces_in(found: &ArgMatches<'_>) -> Pieces
 
 fn table_in(found: &ArgMatches<'_>) -> Table
     requires { AreQueryOptions (rows_in found.now) }
+    ensures { result.bits ≡ number_in (codes "buckets") 0 (rows_in found.now) }
 {
     Table {
         bits: number_in(found, "buckets", 0),

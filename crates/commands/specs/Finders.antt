@@ -19,16 +19,21 @@ keys_of (Levels index) = index.now.keys
 keys_of (Table buckets) = buckets.index.keys
 keys_of (Sorted sorted) = sorted.now.keys.items
 
--- by the levels where no bits of a key are told, and else by a table that goes by so many
-abbrev pub FindsBy : ℕ → Finder → Type 0
-FindsBy bits (Levels index) = bits ≡ 0
-FindsBy bits (Table buckets) = (0 < bits) × (buckets.bits ≡ bits)
-FindsBy bits (Sorted sorted) = ⊥
+-- by the levels of this index where no bits of a key are told, and else by a table over it that goes by so many
+abbrev pub FindsBy : PgmIndex → ℕ → Finder → Type 0
+FindsBy index bits (Levels levels) = (bits ≡ 0) × (levels.now ≡ index)
+FindsBy index bits (Table buckets) = (0 < bits) × (buckets.bits ≡ bits) × (buckets.index ≡ index)
+FindsBy index bits (Sorted sorted) = ⊥
 
 -- the one index of these keys, which never fall, with these bounds
 pub record IsSortedIndexOf (keys : List ℕ) (bounds : Bounds) (index : PgmIndex) : Type 0 where
   pub never_falls : IsNonDecreasing keys
   pub of : IsIndexOf keys bounds.eps bounds.eps_rec index
+
+-- it finds positions among these keys, and where bits of a key are told by a table over their one index that goes by so many
+pub record FindsAsAsked (keys : List ℕ) (bounds : Bounds) (bits : ℕ) (finder : Finder) : Type 0 where
+  pub among : keys_of finder ≡ keys
+  pub way : 0 < bits → (index : PgmIndex) × IsSortedIndexOf keys bounds index × FindsBy index bits finder
 
 -- the levels of the relaxed index of these keys, with these bounds, whose points are cut into so many even pieces: level 0 has at most a run more for
 -- each cut than a least cover

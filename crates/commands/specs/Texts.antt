@@ -33,7 +33,7 @@ pub mod Find
 abbrev pub IsText : Task → List (List ℕ) → Type 0
 IsText (build keys bounds) pieces = IsBuilt keys bounds pieces
 IsText (explain keys bounds) pieces = IsExplained keys bounds pieces
-IsText (query keys bounds questions windows) pieces = IsAnswered keys bounds questions windows pieces
+IsText (query keys bounds questions windows bits) pieces = IsAnswered keys bounds questions windows pieces
 IsText (relax keys bounds parts questions) pieces = IsBuiltRelaxed keys bounds parts questions pieces
 IsText (box d coords regions) pieces = IsSearched d coords regions pieces
 IsText (near d coords centres) pieces = IsNearest d coords centres pieces

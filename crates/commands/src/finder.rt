@@ -32,7 +32,7 @@ impl<'a> Finder<'a> {
     /// A finder over an index: by a table, or where it goes by no bits of a key by the levels.
     pub fn of(alloc: Global, index: &'a Index, table: Table) -> Result<Finder<'a>, NoMemory>
         ensures keys { IfOk result (λ finder. keys_of finder ≡ index.now.keys) }
-        ensures way { IfOk result (FindsBy table.bits) }
+        ensures way { IfOk result (FindsBy index.now table.bits) }
     {
         if table.bits == 0 {
             Ok(Finder::Levels(index))

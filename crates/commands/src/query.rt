@@ -5,7 +5,7 @@ ghost use Rattle.std.specs.Prelude.{vec_capacity};
 ghost use Rattle.std.specs.List.Sorted.{IsNonDecreasing};
 ghost use Rattle.window_search.specs.Searches.{lb};
 ghost use Rattle.written.specs.Writing.{Writes, BreaksOff, WritesText};
-ghost use Rattle.commands.specs.Finders.{IsSortedIndexOf};
+ghost use Rattle.commands.specs.Finders.{FindsAsAsked, IsSortedIndexOf};
 ghost use Rattle.commands.specs.Tasks.{Bounds as TaskBounds, bounds_of};
 ghost use Rattle.commands.specs.Texts.Query.{IsAnswered, TellsAnswer, TellsWindows};
 ghost use Rattle.commands.specs.Texts.Query.{find_line, window_line, window_lines};
@@ -13,13 +13,22 @@ ghost use Rattle.commands.specs.Texts.Query.{find_line, window_line, window_line
 use crate::finder::Finder;
 use crate::indexing::index_of;
 use crate::positions::positions_of;
-use crate::task::{Asking, Indexing};
+use crate::task::Asking;
 use edge::{Failed, Gate, Sink};
 use levels::{Index, LevelWindow};
-use options::Bounds;
+use options::{Bounds, Table, Workers};
 use std::alloc::Global;
 use std::thread::Threads;
 use written::{TextLine, Unfinished, hand_over};
+
+/// What is asked of the keys: which questions, by which table, and of the index how it is built.
+#[derive(Clone, Copy)]
+struct Asked<'a> {
+    questions: &'a [u64],
+    table: Table,
+    bounds: Bounds,
+    workers: Workers,
+}
 
 /// Writes how many keys are below each question, and the windows where they are asked for.
 ///
@@ -44,19 +53,23 @@ pub fn write<R: Threads + Sync, S: Sink, G: Gate>(
         windows,
         table,
     } = asking;
+    let asked = Asked {
+        questions: questions.as_slice(),
+        table,
+        bounds: indexing.bounds,
+        workers: indexing.workers,
+    };
     let keys = indexing.sorted.keys.len();
     if !windows && table.bits == 0 && !is_paid_for(questions.len(), keys) {
-        return write_alone(rt, alloc, &indexing, &questions, out);
+        let keys = indexing.sorted.keys.as_slice();
+        let finder = Finder::Sorted(&indexing.sorted);
+        return write_by(rt, alloc, &finder, keys, asked, None, out);
     }
-    let (bounds, workers) = (indexing.bounds, indexing.workers);
     let index = index_of(rt, alloc, indexing, gate)?;
     let finder = Finder::of(alloc, &index, table)?;
-    let questions = questions.as_slice();
-    let positions = positions_of(rt, alloc, &finder, workers, questions)?;
     let told = if windows { Some(&index) } else { None };
-    let mut room = Vec::with_capacity(alloc, level_count(told))?;
     let keys = index.keys().as_slice();
-    Ok(write_answers(out, keys, bounds, questions, &positions, told, &mut room)?)
+    write_by(rt, alloc, &finder, keys, asked, told, out)
 }
 
 /// Whether so many questions pay for the index of so many keys: building costs a key some 10 to 30
@@ -65,31 +78,27 @@ fn is_paid_for(questions: usize, keys: usize) -> bool {
     questions >= keys
 }
 
-/// Writes how many keys are below each question, by halving the keys and without windows.
-fn write_alone<R: Threads + Sync, S: Sink>(
+/// Writes how many keys are below each question, by a finder that goes by the table asked for.
+/// `told` is the index whose windows are told, if they are.
+fn write_by<R: Threads + Sync, S: Sink>(
     rt: &R,
     alloc: Global,
-    indexing: &Indexing,
-    questions: &[u64],
+    finder: &Finder<'_>,
+    keys: &[u64],
+    asked: Asked<'_>,
+    told: Option<&Index>,
     out: &mut S,
 ) -> Result<(), Unfinished>
-    ensures { WritesText S.Sink out.old result out.new
-        (IsAnswered indexing.now.sorted.keys.items (bounds_of indexing.now.bounds) questions.now
-        false) }
+    requires finder { FindsAsAsked keys.now (bounds_of asked.bounds) asked.table.bits finder.now }
+    requires index { IfSome told
+        (λ index. IsSortedIndexOf keys.now (bounds_of asked.bounds) index.now) }
+    ensures { WritesText S.Sink out.old result out.new (IsAnswered keys.now
+        (bounds_of asked.entry.bounds) asked.entry.questions.now (is_some told.entry)) }
 {
-    let sorted = &indexing.sorted;
-    let finder = Finder::Sorted(sorted);
-    let positions = positions_of(rt, alloc, &finder, indexing.workers, questions)?;
-    let (keys, mut room) = (&sorted.keys, Vec::new(alloc));
-    Ok(write_answers(
-        out,
-        keys,
-        indexing.bounds,
-        questions,
-        &positions,
-        None,
-        &mut room,
-    )?)
+    let (bounds, questions) = (asked.bounds, asked.questions);
+    let positions = positions_of(rt, alloc, finder, asked.workers, questions)?;
+    let mut room = Vec::with_capacity(alloc, level_count(told))?;
+    Ok(write_answers(out, keys, bounds, questions, &positions, told, &mut room)?)
 }
 
 /// How many levels the index has, if there is one.

@@ -35,7 +35,7 @@ module _ (contents : List ℕ → Option (List ℕ)) where
   pub reads_one : (request : Request) → IsFunctional (reads (Some contents) request)
   reads_one (build building) = then_one (reads_index (Some contents) building) _ (index_one building) (λ keys. gives_one _)
   reads_one (explain building) = then_one (reads_index (Some contents) building) _ (index_one building) (λ keys. gives_one _)
-  reads_one (query building name windows) = then_one (reads_index (Some contents) building) _ (index_one building)
+  reads_one (query building name windows bits) = then_one (reads_index (Some contents) building) _ (index_one building)
       (λ keys. then_one _ _ (script_one ScriptKind.Find contents name) (λ lines. gives_one _))
   reads_one (relax building name pieces) = then_one (reads_index (Some contents) building) _ (index_one building)
       (λ keys. then_one _ _ (script_one ScriptKind.Find contents name) (λ lines. gives_one _))

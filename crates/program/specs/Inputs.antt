@@ -163,9 +163,9 @@ drill_of drilling = tasks.Task.drill drilling.number drilling.seed (record { eps
 abbrev pub reads : Files → Request → Reading tasks.Task
 reads files (build building) = then (reads_index files building) (λ keys. gives (tasks.Task.build keys (bounds_in building)))
 reads files (explain building) = then (reads_index files building) (λ keys. gives (tasks.Task.explain keys (bounds_in building)))
-reads files (query building name windows) = then (reads_index files building) (λ keys.
+reads files (query building name windows bits) = then (reads_index files building) (λ keys.
     then (reads_script ScriptKind.Find files name) (λ lines.
-    gives (tasks.Task.query keys (bounds_in building) (questions_in lines) windows)))
+    gives (tasks.Task.query keys (bounds_in building) (questions_in lines) windows bits)))
 reads files (relax building name pieces) = then (reads_index files building) (λ keys.
     then (reads_script ScriptKind.Find files name) (λ lines.
     gives (tasks.Task.relax keys (bounds_in building) pieces (questions_in lines))))

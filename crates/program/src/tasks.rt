@@ -87,7 +87,7 @@ fn query_task<F: Shelf>(
     table: Table,
 ) -> Result<Task, Stopped>
     ensures answer { Answers (reads (F.files files.old)
-        (query (built_of building.entry) script.now windows)) task_of
+        (query (built_of building.entry) script.now windows table.bits)) task_of
         (F.faults files.old) (F.faults files.new) result }
     ensures missing { IsMissing (F.files files.old) building.entry.file.now
         → result ≡ Err (Stopped.Refused Refusal.ReadFault) }
