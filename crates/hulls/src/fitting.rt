@@ -102,6 +102,7 @@ impl Hulls {
     /// on past what lies at even steps with it ([`extend_to`](Hulls::extend_to)).
     ///
     /// Source: O'Rourke, CACM 24(9), 1981.
+    #[inline(always)]
     pub fn offer<L: Ledger>(&mut self, x: u64, y: u32, stays: bool, steps: &mut Steps<L>) -> Offer
         requires { (p : Points) × (eps : ℕ) × (s : ℕ) × (e : ℕ) × IsNext self.old p eps s e x y ×
             (e < 2 ^ 32) × (e < s + room_of self.old) }

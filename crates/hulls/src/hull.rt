@@ -157,9 +157,10 @@ impl Hull {
         requires next { (q : Points) × (eps : ℕ) × (s : ℕ) × (e : ℕ) × (m : ℕ) × (e ≤ m) ×
             IsHullUpTo q eps s e (m + 1) self.old × IsNextVertex q m next }
         requires room { length self.old.vertices.items < vec_capacity self.old.vertices }
-        ensures hull { (q : Points) (eps s e m : ℕ) → e ≤ m → IsHullUpTo q eps s e (m + 1) self.old →
-            IsNextVertex q m next → AreSpanned q self.old e m
-            → OnFalse stands_out ((j : ℕ) → e ≤ j → j ≤ m → IsShadowed q eps s j)
+        ensures hull { (q : Points) (eps s e m : ℕ) → e ≤ m →
+            IsHullUpTo q eps s e (m + 1) self.old → IsNextVertex q m next →
+            AreSpanned q self.old e m →
+            OnFalse stands_out ((j : ℕ) → e ≤ j → j ≤ m → IsShadowed q eps s j)
             → IsHullOf q eps s (m + 1) self.new }
         ensures end { OnTrue stands_out (last_of self.new ≡ next.place) }
         ensures cost { steps.new + spare_of self.new ≤ steps.old + spare_of self.old + 2 }
@@ -176,8 +177,9 @@ impl Hull {
         requires next { (q : Points) × (eps : ℕ) × (s : ℕ) × (e : ℕ) × (m : ℕ) × (e ≤ m) ×
             IsHullUpTo q eps s e (m + 1) self.old × IsNextVertex q m next }
         requires room { length self.old.vertices.items < vec_capacity self.old.vertices }
-        ensures hull { (q : Points) (eps s e m : ℕ) → e ≤ m → IsHullUpTo q eps s e (m + 1) self.old →
-            IsNextVertex q m next → AreSpanned q self.old e m → IsHullOf q eps s (m + 1) self.new }
+        ensures hull { (q : Points) (eps s e m : ℕ) → e ≤ m →
+            IsHullUpTo q eps s e (m + 1) self.old → IsNextVertex q m next →
+            AreSpanned q self.old e m → IsHullOf q eps s (m + 1) self.new }
         ensures end { last_of self.new ≡ next.place }
         ensures tangent { self.new.tangent ≡ self.old.tangent }
         ensures inside { self.new.tangent < length self.new.vertices.items }

@@ -1,5 +1,6 @@
 -- Places of a stretch lie ahead of a run that ends in it.
-use Rattle.std.proofs.Common.{◌≡◌, ℕ, ◌+◌, ◌-◌, ◌<◌, ◌≤◌, length, slice_index, refl, subst, arith}
+use Rattle.std.proofs.Common.{◌≡◌, ℕ, ◌+◌, ◌*◌, ◌-◌, ◌<◌, ◌≤◌, inl, inr, ap, length, slice_index, refl, subst, arith}
+use Rattle.std.proofs.lemmas.Bool.{cases_lt}
 use Rattle.exact_cross.specs.declared.points.PointList.{PointList}
 use Rattle.exact_cross.specs.declared.segment.Witness.{Witness}
 use Rattle.exact_cross.specs.Points.{Points}
@@ -18,6 +19,28 @@ AreEven-part p i m to within even = record {
   x = λ k low high. even.x k low (omega arith);
   y = λ k low high. even.y k low (omega arith);
 }
+
+-- two places are
+pub AreEven-two : (p : Points) (i : ℕ) → p.x i ≤ p.x (i + 1) → p.y i ≤ p.y (i + 1) → AreEven p i (i + 1)
+AreEven-two p i right upward = record {
+  step = p.x (i + 1) - p.x i;
+  climb = p.y (i + 1) - p.y i;
+  fall = 0;
+  x = λ k low high. two_even p.x i k right low high;
+  y = λ k low high. omega (arith, two_even p.y i k upward low high);
+}
+  where
+    two_even : (at : ℕ → ℕ) (i k : ℕ) → at i ≤ at (i + 1) → i ≤ k → k ≤ i + 1 → at k ≡ at i + (k - i) * (at (i + 1) - at i)
+    two_even at i k rises low high = elim (cases_lt i k) [
+      | inl later ↦
+          let same : k ≡ i + 1 = omega arith in
+          let one : k - i ≡ 1 = omega arith in
+          rw one (omega (arith, ap at same))
+      | inr first ↦
+          let same : k ≡ i = omega arith in
+          let none : k - i ≡ 0 = omega arith in
+          rw none (omega (arith, ap at same))
+    ]
 
 pub IsInStretch-part : (hulls : Hulls) (p : Points) (eps s from end to : ℕ) → to ≤ end → IsInStretch hulls p eps s from end → IsInStretch hulls p eps s from to
 IsInStretch-part hulls p eps s from end to within is = record { stands = is.stands; several = is.several; even = AreEven-part p (from - 1) end to within is.even }

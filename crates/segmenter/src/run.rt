@@ -143,6 +143,9 @@ fn stretch_end(points: PointList<'_>, from: u32, to: u32) -> u32
     ensures even { AreEven (points_in points.entry) from result }
 {
     let next = from + 1;
+    if !may_begin_stretch(points, from, to) {
+        return next;
+    }
     let step = points.xs[next as usize] - points.xs[from as usize];
     let climb = points.ys[next as usize] - points.ys[from as usize];
     let mut end = next;
@@ -156,6 +159,23 @@ fn stretch_end(points: PointList<'_>, from: u32, to: u32) -> u32
         end += 1;
     }
     if end - from < SHORTEST - 1 { next } else { end }
+}
+
+/// Whether the last place that a shortest stretch would have lies where its first step leads to.
+///
+/// Few places that begin no stretch pass this one test, whatever the keys are.
+#[inline(always)]
+fn may_begin_stretch(points: PointList<'_>, from: u32, to: u32) -> bool
+    requires more { from + 1 < to }
+    requires within { to ≤ length points.xs.now }
+{
+    if to - from < SHORTEST {
+        return false;
+    }
+    let first = points.xs[from as usize];
+    let step = points.xs[from as usize + 1] - first;
+    let last = points.xs[from as usize + SHORTEST as usize - 1];
+    last - first == step.wrapping_mul(u64::from(SHORTEST - 1))
 }
 
 /// Takes in as much of the rest of a stretch, to its last place `end`, as some line fits, of which

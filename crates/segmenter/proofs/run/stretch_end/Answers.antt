@@ -1,7 +1,9 @@
 -- One place more is at the same step.
 use Rattle.std.proofs.Common.{◌≡◌, ℕ, ◌+◌, ◌*◌, ◌-◌, ◌<◌, ◌≤◌, inl, inr, ap, slice_index, arith}
 use Rattle.std.proofs.lemmas.Bool.{cases_lt}
+use Rattle.exact_cross.specs.PointLists.{points_in}
 use Rattle.exact_cross.proofs.CallerLemmas.{IsAscending-points_in}
+use Rattle.segmenter.proofs.Stretched.{AreEven-two}
 use Rattle.segmenter.proofs.run.stretch_end.Goals as goal
 
 -- what holds up to `end` at this step holds up to the next place
@@ -50,3 +52,9 @@ returns-else-end-from-clause-even c =
       x = so_far.x;
       y = λ k low high. omega (arith, so_far.y k low high);
     }
+
+pub returns-then-not-may_begin_stretch-clause-even : goal.returns-then-not-may_begin_stretch-clause-even
+returns-then-not-may_begin_stretch-clause-even c =
+    let ascends = IsAscending-points_in c.args.points in
+    let right = ascends.x_rises c.args.from (c.args.from + 1) (omega arith) (omega arith) in
+    AreEven-two (points_in c.args.points) c.args.from (omega (arith, right)) (ascends.y_never_falls c.args.from (c.args.from + 1) (omega arith) (omega arith))
