@@ -11,7 +11,7 @@ use key_points::is_sorted;
 use std::marker::Brand;
 use std::process::Abort;
 use std::sync::ledger::{Blank, Ledger};
-use window_search::{lower_in, predecessor_in, window};
+use window_search::{CountedKeys, lower_in, predecessor_in, window};
 
 /// A line by x0, y0, rise and run, its least and greatest place, the error bound, a question, how
 /// many points there are, and the window.
@@ -79,7 +79,8 @@ fn predecessor<L: Ledger>(keys: &[u64], q: u64, steps: &mut Steps<L>) -> Option<
     if keys.is_empty() || q < keys[0] {
         return None;
     }
-    Some(predecessor_in(keys, 0, keys.len() as u32, q, steps))
+    let counted = CountedKeys::new(keys);
+    Some(predecessor_in(&counted, 0, keys.len() as u32, q, steps))
 }
 
 /// Whether the lower bound and the predecessor of a question are the row's.
@@ -89,7 +90,8 @@ fn finds<L: Ledger>(rt: &impl Abort, row: &Row, blank: Blank) -> bool
     let (keys, q, lower, place) = *row;
     assert!(rt; is_sorted(keys) && keys.len() < 1000);
     let mut steps = Steps::<L>::new(blank);
-    let found = lower_in(keys, 0, keys.len() as u32, q, &mut steps);
+    let counted = CountedKeys::new(keys);
+    let found = lower_in(&counted, 0, keys.len() as u32, q, &mut steps);
     found == lower && predecessor(keys, q, &mut steps) == place
 }
 
