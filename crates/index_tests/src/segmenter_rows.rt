@@ -294,3 +294,156 @@ fn runs_of_many_places(rt: HostRuntime) -> Result<(), NoMemory> {
     }
     Ok(())
 }
+
+/// The first x, how many steps of which width and height follow one another from there, the error
+/// bound and the segments.
+type Stepped = (u64, &'static [(u32, u64, u32)], u32, &'static [Row]);
+
+/// Places at even steps, eight or more in a row and fewer.
+static STRETCHES: [Stepped; 11] = [
+    // One stretch: all, with no bound, steps of 60 and a bound.
+    (0, &[(11, 1, 1)], 0, &[(0, 0, 1, (0, 0, 1, 1), None)]),
+    (
+        7,
+        &[(11, 60, 1)],
+        64,
+        &[(0, 0, 11, (7, -64, 139, 660), None)],
+    ),
+    // A stretch that is cut at its first place, its second, one in its midst and its last.
+    (
+        0,
+        &[(3, 1, 1), (1, 50, 1), (9, 1, 1)],
+        0,
+        &[
+            (0, 0, 1, (0, 0, 1, 1), Some((0, 1, 4, Side::Under))),
+            (4, 4, 5, (53, 4, 1, 1), None),
+        ],
+    ),
+    (
+        0,
+        &[(2, 1, 1), (9, 60, 1)],
+        0,
+        &[
+            (0, 0, 1, (0, 0, 1, 1), Some((0, 1, 3, Side::Under))),
+            (3, 3, 4, (62, 3, 1, 60), None),
+        ],
+    ),
+    (
+        0,
+        &[(5, 9, 1), (12, 1, 1)],
+        2,
+        &[
+            (0, 0, 5, (0, -2, 9, 45), Some((0, 5, 11, Side::Over))),
+            (11, 11, 17, (51, 9, 10, 6), None),
+        ],
+    ),
+    (
+        0,
+        &[(7, 9, 1), (8, 1, 1)],
+        3,
+        &[
+            (0, 0, 7, (0, -3, 13, 63), Some((0, 7, 15, Side::Over))),
+            (15, 15, 15, (71, 15, 0, 1), None),
+        ],
+    ),
+    // Two that meet.
+    (
+        0,
+        &[(9, 1, 1), (10, 2, 1)],
+        1,
+        &[
+            (0, 9, 12, (9, 8, 5, 6), Some((0, 9, 13, Side::Under))),
+            (13, 13, 19, (17, 12, 8, 12), None),
+        ],
+    ),
+    // Keys that repeat, and one that heights stay at.
+    (
+        0,
+        &[(9, 1, 1), (1, 1, 3), (9, 1, 1), (1, 1, 0), (9, 1, 1)],
+        0,
+        &[
+            (0, 0, 1, (0, 0, 1, 1), Some((0, 1, 10, Side::Over))),
+            (10, 10, 11, (10, 12, 1, 1), Some((10, 11, 20, Side::Under))),
+            (20, 20, 21, (20, 21, 1, 1), None),
+        ],
+    ),
+    // Seven places and eight.
+    (
+        0,
+        &[(6, 1, 1), (1, 9, 1), (7, 1, 1), (1, 9, 1)],
+        0,
+        &[
+            (0, 0, 1, (0, 0, 1, 1), Some((0, 1, 7, Side::Under))),
+            (7, 7, 8, (15, 7, 1, 1), Some((7, 8, 15, Side::Under))),
+            (15, 15, 15, (31, 15, 0, 1), None),
+        ],
+    ),
+    // Up to the last key.
+    (
+        18446722083476996095,
+        &[
+            (8, 1099511627776, 1),
+            (1, 4398046511104, 1),
+            (8, 1099511627776, 1),
+        ],
+        0,
+        &[
+            (
+                0,
+                0,
+                1,
+                (18446722083476996095, 0, 1, 1099511627776),
+                Some((0, 1, 9, Side::Under)),
+            ),
+            (9, 9, 10, (18446735277616529407, 9, 1, 1099511627776), None),
+        ],
+    ),
+    // A jump far beyond the bound.
+    (
+        0,
+        &[(20, 1099511627776, 7), (1, 1, 200), (9, 1099511627776, 7)],
+        64,
+        &[
+            (
+                0,
+                0,
+                20,
+                (0, -64, 268, 21990232555520),
+                Some((0, 20, 21, Side::Over)),
+            ),
+            (21, 21, 30, (21990232555521, 276, 191, 9895604649984), None),
+        ],
+    ),
+];
+
+/// The points that the steps lead over, from the height 0 on.
+fn stepped(
+    alloc: Global,
+    first: u64,
+    steps: &[(u32, u64, u32)],
+) -> Result<(Vec<u64>, Vec<u32>), NoMemory> {
+    let (mut x, mut y) = (first, 0u32);
+    let mut xs = Vec::new(alloc);
+    let mut ys = Vec::new(alloc);
+    xs.push(x)?;
+    ys.push(y)?;
+    for &(count, right, up) in steps {
+        for _ in 0..count {
+            x = x.wrapping_add(right);
+            y = y.wrapping_add(up);
+            xs.push(x)?;
+            ys.push(y)?;
+        }
+    }
+    Ok((xs, ys))
+}
+
+#[test]
+fn places_at_even_steps(rt: HostRuntime) -> Result<(), NoMemory> {
+    for (first, steps, eps, rows) in &STRETCHES {
+        let (xs, ys) = stepped(rt.alloc(), *first, steps)?;
+        assert!(rt; xs.len() < 1000);
+        expect_rows(&rt, (&xs, &ys), *eps, (0, xs.len() as u32), rows)?;
+    }
+    Ok(())
+}
