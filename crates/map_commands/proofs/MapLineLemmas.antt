@@ -3,17 +3,18 @@ use Rattle.std.proofs.Common.{◌≡◌, ◌<◌, ◌+◌, ◌++◌, ◌∷◌, 
 use Rattle.std.specs.Prelude.{All}
 use Rattle.std.specs.List.{range_with_len}
 use Rattle.std.proofs.lemmas.List.FromFn.{length-range_with_len, get_or-range_with_len}
-use Rattle.std.proofs.lemmas.List.Elements.{All-head, All-tail}
+use Rattle.std.proofs.lemmas.List.Elements.{All-head, All-tail, All-weaker}
 use Rattle.log_levels.specs.declared.update.Update.{Update}
 use Rattle.log_levels.specs.Maps.{map_after}
 use Rattle.map_replay.specs.declared.question.Question.{Question}
 use Rattle.map_replay.specs.declared.reading.Sighting.{Sighting}
 use Rattle.map_replay.specs.declared.reading.Reading.{Reading}
 use Rattle.map_replay.specs.Questions.{answer_of}
-use Rattle.map_replay.specs.Readings.{AreAnswers, IsAmong, IsPublished, IsWholeMixedReading, IsWholeReading, IsWholeReadingOf}
+use Rattle.map_replay.specs.Readings.{AreAnswers, AreCut, IsPublished, IsWholeMixedReading, IsWholeReading, IsWholeReadingOf}
+use Rattle.map_replay.proofs.BatchLemmas.{ends_within}
 use Rattle.written.specs.InTurn.{TellsEach}
 use Rattle.map_replay.specs.Mixes.{IsMix}
-use Rattle.map_commands.specs.Mix.{IsMixedText, from_line}
+use Rattle.map_commands.specs.Mix.{IsAmong, IsMixedText, from_line}
 use Rattle.map_commands.specs.Replay.{IsReadOf, IsReplayed, closing_lines, last_line, reader_line, reader_lines, updates_line}
 use Rattle.map_commands.specs.MapLines.{IsTold, all_lines, read_lines, told_lines}
 
@@ -92,16 +93,32 @@ is_replayed updates questions batch readings readers count each = record {
   lines = ap (λ (n : ℕ). updates_line (length updates) ∷ (read_lines updates questions 0 readings ++ closing_lines updates questions n)) count;
 }
 
+-- what a reader may see of fewer numbers of updates it may see of more
+whole_weaker : {Was Is : ℕ → Type 0} → ((n : ℕ) → Was n → Is n) → (updates : List Update) (questions : List Question) (reading : Reading) →
+    IsWholeReadingOf Was updates questions reading → IsWholeReadingOf Is updates questions reading
+whole_weaker {Was} {Is} weaker updates questions reading whole = record {
+  beside = record {
+    answers = whole.beside.answers;
+    knew = All-weaker (λ (s : Sighting). Was s.known) (λ (s : Sighting). Is s.known) (λ s was. weaker s.known was) reading.sightings.items whole.beside.knew;
+    published = All-weaker (λ (s : Sighting). Was s.length) (λ (s : Sighting). Is s.length) (λ s was. weaker s.length was) reading.sightings.items whole.beside.published;
+    never_forgets = whole.beside.never_forgets;
+  };
+  last = whole.last;
+}
+
 -- and those of a mix
 pub is_mixed_text : (updates : List Update) (questions : List Question) (senders : ℕ) (numbers : List ℕ) (mixed : List Update) (readings : List Reading) (readers : ℕ) →
-    IsMix senders updates numbers mixed → length readings ≡ readers → All (IsWholeMixedReading mixed questions) readings →
+    (batches : List (List Update)) (most : ℕ) → AreCut most mixed batches →
+    IsMix senders updates numbers mixed → length readings ≡ readers → All (IsWholeMixedReading batches mixed questions) readings →
     IsMixedText updates questions readers senders (all_lines numbers mixed questions readings)
-is_mixed_text updates questions senders numbers mixed readings readers order count each = record {
+is_mixed_text updates questions senders numbers mixed readings readers batches most cut order count each = record {
   numbers = numbers;
   mixed = mixed;
   order = order;
   read = read_lines mixed questions 0 readings;
-  each = of_readers (IsAmong (length mixed)) mixed questions readings readers count each;
+  each = of_readers (IsAmong (length mixed)) mixed questions readings readers count
+      (All-weaker (IsWholeMixedReading batches mixed questions) (IsWholeReadingOf (IsAmong (length mixed)) mixed questions)
+      (whole_weaker (λ n ends. ends_within most mixed batches n cut ends) mixed questions) readings each);
   lines = ap (λ (n : ℕ). updates_line n ∷ (map from_line numbers ++ told_lines mixed questions readings)) order.count
       ∙ ap (λ (n : ℕ). updates_line (length updates) ∷ (map from_line numbers ++ (read_lines mixed questions 0 readings ++ closing_lines mixed questions n))) count;
 }

@@ -1,10 +1,9 @@
 -- The text of `mix`.
-use Rattle.std.specs.Prelude.{◌≡◌, ℕ, List, [], ◌∷◌, ◌++◌, length, map, codes, decimal}
+use Rattle.std.specs.Prelude.{◌≡◌, ◌≤◌, ℕ, List, [], ◌∷◌, ◌++◌, length, map, codes, decimal}
 use Rattle.std.specs.List.{range_with_len}
 use Rattle.log_levels.specs.declared.update.Update.{Update}
 use Rattle.map_replay.specs.declared.question.Question.{Question}
 use Rattle.map_replay.specs.Mixes.{IsMix}
-use Rattle.map_replay.specs.Readings.{IsAmong}
 use Rattle.written.specs.TextLines.{text_line}
 use Rattle.written.specs.InTurn.{TellsEach}
 use Rattle.map_commands.specs.Replay.{IsReadOf, closing_lines, updates_line}
@@ -12,6 +11,10 @@ use Rattle.map_commands.specs.Replay.{IsReadOf, closing_lines, updates_line}
 -- `from S`
 abbrev pub from_line : ℕ → List ℕ
 from_line number = text_line (codes "from" ∷ decimal number ∷ [])
+
+-- as many updates as there are, or fewer
+abbrev pub IsAmong : (count length : ℕ) → Type 0
+IsAmong count length = length ≤ count
 
 -- how many updates there are, which sender sent each of them in the order in which they came, what each reader was answered after some of them in that order, and
 -- what the map after all of them answers

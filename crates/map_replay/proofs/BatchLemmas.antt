@@ -6,13 +6,13 @@ use mathlib.Core.List.{IsPrefix}
 use Rattle.log_levels.specs.declared.update.Update.{Update}
 use Rattle.log_levels.specs.Maps.{map_after}
 use Rattle.published.specs.Histories.{updates_of, count_of}
-use Rattle.published.proofs.CallerLemmas.{prefix_count, updates_of-append, count_of-append}
+use Rattle.published.proofs.CallerLemmas.{prefix_count, prefix_trans, updates_of-append, count_of-append}
 use Rattle.map_replay.specs.declared.question.Question.{Question}
 use Rattle.map_replay.specs.declared.reading.Sighting.{Sighting}
 use Rattle.map_replay.specs.declared.reading.Reading.{Reading}
 use Rattle.map_replay.specs.ReaderStates.{HasSeen}
 use Rattle.map_replay.specs.Questions.{answer_of}
-use Rattle.map_replay.specs.Readings.{AreCut, IsAmong, IsPublished, AreAnswers, IsReadingOf, IsWholeReading, IsWholeReadingOf, IsWholeMixedReading}
+use Rattle.map_replay.specs.Readings.{AreCut, EndsBatch, IsPublished, AreAnswers, IsReadingOf, IsWholeReading, IsWholeReadingOf, IsWholeMixedReading}
 use Rattle.batches.specs.Batches.{AreBatches}
 use Rattle.map_replay.specs.Watching.{IsSeen, AreSeen, WasAsked}
 
@@ -47,6 +47,34 @@ prefix_published size (h ∷ g ∷ history) (s ∷ shown) (b ∷ prefix) batches
     subst (λ (n : ℕ). IsPublished size n (count_of (b ∷ prefix))) (sym (count_of-cons h (g ∷ history)))
     (subst (λ (n : ℕ). IsPublished size (length h + count_of (g ∷ history)) n) (omega (arith, long, long_b, count_of-cons b prefix))
     (published_more size (length h) (count_of (g ∷ history)) (count_of prefix) later batches.0))
+
+-- whole batches, behind one more
+ends_behind : (batch : List Update) (batches : List (List Update)) (n : ℕ) → EndsBatch batches n → EndsBatch (batch ∷ batches) (length batch + n)
+ends_behind batch batches n (first, (rest, split), is) =
+    (batch ∷ first, (rest, ap (λ (l : List (List Update)). batch ∷ l) split), omega (arith, is, count_of-cons batch first))
+
+-- and some of the history have as many
+pub prefix_ends : (history shown prefix : List (List Update)) → IsPrefix history shown → count_of shown ≡ count_of history → IsPrefix prefix shown →
+    EndsBatch history (count_of prefix)
+prefix_ends history shown [] begins same starts = ([], (history, refl), refl)
+prefix_ends [] shown (b ∷ prefix) begins same starts = ([], ([], refl), omega (arith, same, prefix_count (b ∷ prefix) shown starts))
+prefix_ends (h ∷ history) [] (b ∷ prefix) begins same starts = absurd (cc (starts.1))
+prefix_ends (h ∷ history) (s ∷ shown) (b ∷ prefix) begins same starts =
+    let heads : h ≡ s = cc (begins.1) in
+    let first : b ≡ s = cc (starts.1) in
+    let long : length h ≡ length s = ap (λ (l : List Update). length l) heads in
+    let long_b : length b ≡ length s = ap (λ (l : List Update). length l) first in
+    let later = prefix_ends history shown prefix (begins.0, cc (begins.1)) (omega (arith, same, long, count_of-cons h history, count_of-cons s shown)) (starts.0, cc (starts.1)) in
+    subst (EndsBatch (h ∷ history)) (omega (arith, long, long_b, count_of-cons b prefix)) (ends_behind h history (count_of prefix) later)
+
+-- what ends a batch of these ends one of more
+pub ends_more : (batches more : List (List Update)) (n : ℕ) → IsPrefix batches more → EndsBatch batches n → EndsBatch more n
+ends_more batches more n begins (first, before, is) = (first, prefix_trans first batches more before begins, is)
+
+-- and has no more updates than all of them
+pub ends_within : (most : ℕ) (updates : List Update) (batches : List (List Update)) (n : ℕ) → AreCut most updates batches → EndsBatch batches n → n ≤ length updates
+ends_within most updates batches n cut (first, before, is) =
+    omega (arith, is, prefix_count first batches before, ap (λ (l : List Update). length l) cut.whole)
 
 -- the first updates of a list
 take-prefix : (xs ys : List Update) → take (length xs) (xs ++ ys) ≡ xs
@@ -96,24 +124,27 @@ cut_shown most updates history shown cut begins same =
 -- what was seen in a history that has the updates is a reading of them
 module _ (updates : List Update) (history shown : List (List Update)) (all : updates_of history ≡ updates) (begins : IsPrefix history shown)
     (same : count_of shown ≡ count_of history) (IsLength : ℕ → Type 0) (lengths : (prefix : List (List Update)) → IsPrefix prefix shown → IsLength (count_of prefix)) where
+  one_known : (question : Question) (sighting : Sighting) → IsSeen shown question sighting → IsLength sighting.known
+  one_known question sighting ((first, before, known_is), seen) = subst IsLength (sym known_is) (lengths first before)
+
   one_length : (question : Question) (sighting : Sighting) → IsSeen shown question sighting → IsLength sighting.length
-  one_length question sighting (prefix, starts, length_is, answer_is) = subst IsLength (sym length_is) (lengths prefix starts)
+  one_length question sighting (knew, (prefix, starts, length_is, answer_is)) = subst IsLength (sym length_is) (lengths prefix starts)
 
   one_answer : (question : Question) (sighting : Sighting) → IsSeen shown question sighting →
       sighting.answer ≡ answer_of (map_after (take sighting.length updates)) question
-  one_answer question sighting (prefix, starts, length_is, answer_is) =
+  one_answer question sighting (knew, (prefix, starts, length_is, answer_is)) =
       let first : take sighting.length updates ≡ updates_of prefix =
       ap (λ (n : ℕ). take n updates) length_is
       ∙ ap (λ (l : List Update). take (count_of prefix) l) (sym (same_updates history shown begins same ∙ all)) ∙ prefix_first prefix shown starts in
       answer_is ∙ ap (λ (l : List Update). answer_of (map_after l) question) (sym first)
 
-  all_lengths : (questions : List Question) (sightings : List Sighting) → AreSeen shown questions sightings →
-      All (λ (sighting : Sighting). IsLength sighting.length) sightings
-  all_lengths [] [] seen = All-nil _
-  all_lengths [] (s ∷ sightings) seen = absurd seen
-  all_lengths (q ∷ questions) [] seen = absurd seen
-  all_lengths (q ∷ questions) (s ∷ sightings) seen =
-      All-cons (λ (sighting : Sighting). IsLength sighting.length) s sightings (one_length q s seen.0) (all_lengths questions sightings seen.1)
+  -- what holds of each one that was seen
+  all_seen : (Holds : Sighting → Type 0) → ((question : Question) (sighting : Sighting) → IsSeen shown question sighting → Holds sighting) → (questions : List Question) (sightings : List Sighting) →
+      AreSeen shown questions sightings → All Holds sightings
+  all_seen Holds holds [] [] seen = All-nil _
+  all_seen Holds holds [] (s ∷ sightings) seen = absurd seen
+  all_seen Holds holds (q ∷ questions) [] seen = absurd seen
+  all_seen Holds holds (q ∷ questions) (s ∷ sightings) seen = All-cons Holds s sightings (holds q s seen.0) (all_seen Holds holds questions sightings seen.1)
 
   all_answers : (questions : List Question) (sightings : List Sighting) → AreSeen shown questions sightings → AreAnswers updates questions sightings
   all_answers [] [] seen = tt
@@ -124,9 +155,9 @@ module _ (updates : List Update) (history shown : List (List Update)) (all : upd
   is_reading : (questions : List Question) (sightings : List Sighting) → WasAsked shown questions sightings → IsReadingOf IsLength updates questions sightings
   is_reading questions sightings asked = record {
     answers = all_answers questions sightings asked.seen;
-    knew = asked.knew;
-    published = all_lengths questions sightings asked.seen;
-    never_falls = asked.never_falls;
+    knew = all_seen (λ (sighting : Sighting). IsLength sighting.known) one_known questions sightings asked.seen;
+    published = all_seen (λ (sighting : Sighting). IsLength sighting.length) one_length questions sightings asked.seen;
+    never_forgets = asked.never_forgets;
   }
 
 -- a reader that saw all that is published
@@ -144,7 +175,8 @@ module _ (updates : List Update) (history : List (List Update)) (all : updates_o
       whole_reading (IsPublished size (length updates)) (λ shown prefix begins same starts.
       subst (λ (n : ℕ). IsPublished size n (count_of prefix)) (ap (λ (l : List Update). length l) all) (prefix_published size history shown prefix batches begins same starts))
 
-  pub whole_as_they_came : (reading : Reading) → HasSeen history questions reading → IsWholeMixedReading updates questions reading
-  whole_as_they_came =
-      whole_reading (IsAmong (length updates)) (λ shown prefix begins same starts.
-      omega (arith, prefix_count prefix shown starts, same, ap (λ (l : List Update). length l) all))
+  pub whole_as_they_came : (batches : List (List Update)) → IsPrefix history batches → (reading : Reading) → HasSeen history questions reading →
+      IsWholeMixedReading batches updates questions reading
+  whole_as_they_came batches begin =
+      whole_reading (EndsBatch batches) (λ shown prefix begins same starts.
+      ends_more history batches (count_of prefix) begin (prefix_ends history shown prefix begins same starts))

@@ -1,9 +1,9 @@
 -- What a reader saw beside the writer.
 use Rattle.std.specs.Prelude.{◌≡◌, ◌≤◌, ◌*◌, ℕ, List, [], ◌∷◌, length, take, min, All, ⊤}
-use Rattle.std.specs.List.Sorted.{IsNonDecreasingBy}
+use mathlib.Core.List.{IsPrefix}
 use Rattle.log_levels.specs.declared.update.Update.{Update}
 use Rattle.log_levels.specs.Maps.{map_after}
-use Rattle.published.specs.Histories.{updates_of}
+use Rattle.published.specs.Histories.{updates_of, count_of}
 use Rattle.map_replay.specs.declared.question.Question.{Question}
 use Rattle.map_replay.specs.declared.reading.Sighting.{Sighting}
 use Rattle.map_replay.specs.declared.reading.Reading.{Reading}
@@ -13,6 +13,10 @@ use Rattle.map_replay.specs.Questions.{answer_of}
 abbrev pub IsPublished : (batch count length : ℕ) → Type 0
 IsPublished batch count length = (batches : ℕ) × (length ≡ min (batches * batch) count)
 
+-- as many updates as the first so many of these batches have, each of them whole
+abbrev pub EndsBatch : List (List Update) → (length : ℕ) → Type 0
+EndsBatch batches length = (first : List (List Update)) × IsPrefix first batches × (length ≡ count_of first)
+
 -- an answer for each question in turn, that of the map after the first so many updates
 abbrev pub AreAnswers : List Update → List Question → List Sighting → Type 0
 AreAnswers updates [] [] = ⊤
@@ -20,13 +24,17 @@ AreAnswers updates (question ∷ questions) (sighting ∷ sightings) =
     (sighting.answer ≡ answer_of (map_after (take sighting.length updates)) question) × AreAnswers updates questions sightings
 AreAnswers updates questions sightings = ⊥
 
--- what a reader may see, where such are the numbers of updates that it may see: answers after so many updates, of which none are fewer than those before, and none
--- fewer than the reader knew of
+-- when it looked, a reader knew of no fewer updates than it saw before, and it saw no fewer than it knew of
+abbrev pub NeverForgets : (before : ℕ) → List Sighting → Type 0
+NeverForgets before [] = ⊤
+NeverForgets before (sighting ∷ sightings) = (before ≤ sighting.known) × (sighting.known ≤ sighting.length) × NeverForgets sighting.length sightings
+
+-- what a reader may see, where such are the numbers of updates that it may know of and see: answers after so many updates, and none of what it saw or knew is lost
 pub record IsReadingOf (IsLength : ℕ → Type 0) (updates : List Update) (questions : List Question) (sightings : List Sighting) : Type 0 where
   pub answers : AreAnswers updates questions sightings
-  pub knew : All (λ (sighting : Sighting). sighting.known ≤ sighting.length) sightings
+  pub knew : All (λ (sighting : Sighting). IsLength sighting.known) sightings
   pub published : All (λ (sighting : Sighting). IsLength sighting.length) sightings
-  pub never_falls : IsNonDecreasingBy (λ (sighting : Sighting). sighting.length) sightings
+  pub never_forgets : NeverForgets 0 sightings
 
 -- and at the end it saw all updates
 pub record IsWholeReadingOf (IsLength : ℕ → Type 0) (updates : List Update) (questions : List Question) (reading : Reading) : Type 0 where
@@ -37,13 +45,9 @@ pub record IsWholeReadingOf (IsLength : ℕ → Type 0) (updates : List Update) 
 abbrev pub IsWholeReading : List Update → (batch : ℕ) → List Question → Reading → Type 0
 IsWholeReading updates batch = IsWholeReadingOf (IsPublished batch (length updates)) updates
 
--- as many updates as there are, or fewer
-abbrev pub IsAmong : (count length : ℕ) → Type 0
-IsAmong count length = length ≤ count
-
--- the same beside updates that are published as they come
-abbrev pub IsWholeMixedReading : List Update → List Question → Reading → Type 0
-IsWholeMixedReading updates = IsWholeReadingOf (IsAmong (length updates)) updates
+-- the same beside updates that are published as they come, in these batches
+abbrev pub IsWholeMixedReading : (batches : List (List Update)) → List Update → List Question → Reading → Type 0
+IsWholeMixedReading batches = IsWholeReadingOf (EndsBatch batches)
 
 -- updates that are published in their order, in batches of which none has more than so many
 pub record AreCut (most : ℕ) (updates : List Update) (batches : List (List Update)) : Type 0 where

@@ -5,7 +5,8 @@ use crate::Answer;
 /// An answer, and after how many updates it is.
 #[derive(Clone, Copy, Debug, PartialEq, Eq)]
 pub struct Sighting {
-    /// How many updates the reader knew of when it looked.
+    /// How many updates the reader knew of when it looked: as many as it saw before, or more, where
+    /// it learned a note of more.
     pub known: u64,
     /// How many updates the answer is after.
     pub length: u64,

@@ -117,7 +117,7 @@ pub fn mix<R: Threads + Wait + Sync, G: Gate>(
         assignment.entry.updates.now outcome.numbers outcome.mixed) }
     ensures count { IfOk result (λ outcome. length outcome.readings ≡ plan.readers) }
     ensures each { IfOk result (λ outcome.
-        All (IsWholeMixedReading outcome.mixed questions.now) outcome.readings) }
+        All (IsWholeMixedReading outcome.batches outcome.mixed questions.now) outcome.readings) }
 {
     let Assignment { updates, dealing } = assignment;
     let source = Source::Assigned(dealing);

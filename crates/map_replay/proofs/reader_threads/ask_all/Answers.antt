@@ -2,7 +2,6 @@ use Rattle.std.proofs.Common.{◌+◌, ◌++◌, ◌∷◌, [], List, take, get_
 use Rattle.std.proofs.lemmas.List.{take_more}
 use Rattle.log_levels.specs.Maps.{map_after}
 use Rattle.published.specs.Histories.{Front, updates_of}
-use Rattle.published.proofs.CallerLemmas.{prefix_count, prefix_trans}
 use Rattle.map_replay.specs.declared.question.Question.{Question}
 use Rattle.map_replay.specs.declared.question.Question.TheVariants.{Get}
 use Rattle.map_replay.specs.declared.reading.Sighting.{Sighting}
@@ -17,10 +16,9 @@ loop-turn-preserved g c =
     let before = c.loop-turn.reader in
     let known = c.learn_newest.new.reader in
     let look = c.look_until-look.result in
-    let begins = prefix_trans before.batches known.batches look.batches c.learn_newest.ensures.seen c.look_until-look.ensures.shown in
     let sighting : Sighting = record { known = c.seen-known.result; length = c.seen.result; answer = c.answer.result } in
-    let asked = asked_push before.batches look.batches (take turn questions) c.loop-turn.sightings.items (get_or questions turn (Get 0)) sighting
-    begins (omega (arith, c.seen-known.ensures, c.seen.ensures, prefix_count known.batches look.batches c.look_until-look.ensures.shown)) c.seen.ensures (c.answer.ensures (map_after (updates_of look.batches)) refl) c.loop-turn.invariant.asked in
+    let asked = asked_push before.batches known.batches look.batches (take turn questions) c.loop-turn.sightings.items (get_or questions turn (Get 0)) sighting
+    c.learn_newest.ensures.seen c.look_until-look.ensures.shown c.seen-known.ensures c.seen.ensures (c.answer.ensures (map_after (updates_of look.batches)) refl) c.loop-turn.invariant.asked in
     record {
       own = ap (λ (r : Front). r.origin) c.leave-reader.ensures ∙ (c.look_until-look.ensures.own ∙ (c.learn_newest.ensures.own ∙ c.loop-turn.invariant.own));
       count = omega (arith, c.push_reserved.ensures.len, c.loop-turn.invariant.count);

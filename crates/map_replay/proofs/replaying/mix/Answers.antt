@@ -23,5 +23,5 @@ pub returns-clause-each : goal.returns-clause-each
 returns-clause-each g c =
     let questions = c.args.questions.now in
     IfOk-weaker c.replay_workload.result _ _
-    (λ left is. All-weaker (HasSeen is.history questions) (IsWholeMixedReading _ questions)
-    (λ reading has. whole_as_they_came _ is.history is.published.0.whole questions reading has) _ is.each) c.replay_workload.ensures
+    (λ left is. All-weaker (HasSeen is.history questions) (IsWholeMixedReading left.batches _ questions)
+    (λ reading has. whole_as_they_came _ is.history is.published.0.whole questions left.batches is.shown reading has) _ is.each) c.replay_workload.ensures
