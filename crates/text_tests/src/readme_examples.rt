@@ -1,6 +1,7 @@
 //! The examples that the READMEs of the crates quote, word for word.
 
 use bigmin::next_in_box;
+use command_line::{NoRequest, Request, requested};
 use edge::{MemShelf, Shelf};
 use exact_cross::Slope;
 use options::{Bounds, EPS, EPS_REC};
@@ -88,5 +89,19 @@ fn edge_example(rt: HostRuntime) -> Result<(), Fail> {
     let mut buffer = [0u8; 4];
     assert_eq!(rt; shelf.read(&mut buffer)?, 1);
     assert_eq!(rt; buffer[0], 7);
+    Ok(())
+}
+
+#[test]
+fn command_line_example(rt: HostRuntime) -> Result<(), Fail> {
+    let mut words = Vec::new(rt.alloc());
+    for word in ["pgmtool", "explain", "four.keys", "--eps=3"] {
+        words.push(String::from_str(rt.alloc(), word)?)?;
+    }
+    let eps = match requested(rt.alloc(), &words) {
+        Ok(Request::Explain { building }) => Some(building.bounds.eps),
+        Ok(_) | Err(NoRequest::Usage | NoRequest::NoMemory) => None,
+    };
+    assert_eq!(rt; eps, Some(3));
     Ok(())
 }
