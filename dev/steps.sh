@@ -16,13 +16,13 @@ has_rt() {
     {
       echo "$1: there is no \`rt\` on the PATH. It is the tool of the Rattle kit, which proves and"
       echo "$1: builds the crates; nothing here is built without it. Unpack the kit and put its folder"
-      echo "$1: bin on the PATH; \`rt version\` then tells its name. This was proved with $kit."
+      echo "$1: bin on the PATH; \`rt version\` then prints its name. This was proved with $kit."
     } >&2
     return 1
   fi
   case $(rt version 2>/dev/null || true) in
     "$kit "*) ;;
-    *) echo "$1: this was proved with $kit, and \`rt version\` tells another kit" >&2 ;;
+    *) echo "$1: this was proved with $kit, and \`rt version\` prints another kit" >&2 ;;
   esac
 }
 
@@ -39,7 +39,7 @@ show_progress() {
     set +e
     sleep 2
     while kill -0 $$ 2>/dev/null; do
-      text=$("$@") || break
+      text=$("$@" 2>/dev/null) || break
       text="$who: $text"
       time=$(clock $((SECONDS - begun)))
       printf '%s%s, %s' "$wipe" "${text:0:$((width - 10))}" "$time" >&2
