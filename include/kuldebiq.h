@@ -37,7 +37,7 @@
  * Nothing that a call gives points into what a handle holds. A compiler that knows the attribute
  * nonnull warns of a null handle, and -fsanitize=undefined reports one where it is passed.
  *
- * Refusals. Each call tests all else by itself. A refusal is a status with a number. If several
+ * Refusals. Each call tests everything else itself. A refusal is a status with a number. If several
  * refusals fit, the call returns the first one, in the order in which its comment names them. A
  * refused call leaves the handle holding what it held, also when memory runs out. A compiler that
  * can do so warns of an answer that isn't looked at.
