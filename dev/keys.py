@@ -332,7 +332,9 @@ def made_of(source, of, skips):
     if wrong:
         more = f", of which {TOLD} are shown" if len(wrong) > TOLD else ""
         scales = [getattr(why, "scale", None) for why in wrong.values()]
-        helps = f"; --scale {max(scales)} takes them all" if len(scales) > 1 and all(scales) else ""
+        also = " --signed" if any(getattr(why, "signed", False) for why in wrong.values()) else ""
+        helps = (f"; --scale {max(scales)}{also} takes them all" if len(scales) > 1 and all(scales)
+                 else "")
         rows = "row" if len(wrong) == 1 else "rows"
         raise Wrong(f"{len(wrong)} wrong {rows} in all{more}; nothing was written{helps}")
     rows = source.rows

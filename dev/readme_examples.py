@@ -3,10 +3,9 @@
 
 The test `NAME_example` in `readme_examples.rt` of a crate of tests is the example of the crate
 NAME: the first block of Rust of its README is the test's body, word for word, and each block of the
-README at the top is the body of some such test. A block may have the head and the end of a function
-about that body, and `use` lines before it, which no test is compared with. Prints a line for each
-that isn't, and ends with 1 then. With --list it prints the READMEs whose example is in no test,
-too.
+README at the top is the body of some such test. A block may be a whole function with `use` lines
+before it; then its body is compared. Prints a line for each block that differs, and ends with 1 if
+there is one. With --list it also prints the READMEs whose example is in no test.
 """
 import pathlib
 import re

@@ -150,6 +150,7 @@ class Plain(unittest.TestCase):
                 ("184467440737095516.16", "100", "is not from 0 to"),
                 ("9.99", None, "`9.99` is no whole number: --scale 100 takes it"),
                 ("5.0", None, "`5.0` is no whole number: --scale 1 takes it"),
+                ("-0.25", None, "`-0.25` is no whole number: --scale 100 --signed takes it"),
                 ("1..5", "100", "`1..5` is no number"), (".", "100", "`.` is no number"),
                 ("1e9999", "100", "too many places"), ("0x10", "1", "`0x10` is no number"),
                 ("1_000", None, "`1_000` is no number"), ("１", None, "`１` is no number")]:
