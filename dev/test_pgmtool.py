@@ -323,6 +323,16 @@ class Script(unittest.TestCase):
             self.assertEqual(ran.returncode, 5)
             self.assertNotIn("keys.py", ran.stderr)
 
+    def test_a_crate_that_the_program_does_not_use(self):
+        self.house.program("exit 0\n")
+        later = time.time() + 9
+        self.house.put("crates/mine/src/main.rt", "")
+        os.utime(self.house.top / "crates/mine/src/main.rt", (later, later))
+        self.assertEqual(self.house.run("build", "f").returncode, 0)
+        # One of its own wants it built anew, and there is no `rt`.
+        os.utime(self.house.top / "crates/pgmtool/src/main.rt", (later, later))
+        self.assertEqual(self.house.run("build", "f").returncode, 1)
+
     def test_which_file_is_not_read(self):
         self.house.program("echo 'fault read'; exit 3\n")
         (self.house.top / "keys").write_bytes(b"")
