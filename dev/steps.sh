@@ -9,8 +9,8 @@ shower=
 # The kit that all was proved with.
 kit=rattle-kit-13f
 
-# Says for the script of this name what `rt` is and how it is had, where there is none, and fails
-# then; says where it is of another kit.
+# For the script of this name: if there is no `rt`, says what it is and how to get it, and fails; if
+# there is one of another kit, says so.
 has_rt() {
   if ! command -v rt >/dev/null; then
     {
@@ -26,9 +26,9 @@ has_rt() {
   esac
 }
 
-# Shows what the words behind the first two write, from the third second on and so many seconds
-# apart, until they fail or `hide_progress` is called: the step and how far it is; and for how long
-# it goes.
+# Shows what the command after the first two words writes (the step and how far it is), and how long
+# the step has taken: from the third second on, every so many seconds, until the command fails or
+# `hide_progress` is called.
 show_progress() {
   [ -n "$wipe" ] || return 0
   local who=$1 apart=$2 begun=$SECONDS width
