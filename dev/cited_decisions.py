@@ -1,10 +1,10 @@
 #!/usr/bin/env python3
-"""Fails where a decision is cited that docs/DECISIONS.md doesn't have: cited_decisions.py
+"""Fails if a decision is cited that docs/DECISIONS.md doesn't have: cited_decisions.py
 
 An entry of that page begins with its numbers in bold, `- **49, 50. ..`. A citation is `decision 49`
 anywhere, `entry 49 of docs/DECISIONS.md` or `entries 49 and 50 of ..` in any text, over lines too,
 and each `entry 49` of docs/DECISIONS.md and bench/TRIALS.md themselves. Prints each dead citation,
-and each number that stands at two entries, and ends with 1 then.
+and each number that two entries have, and ends with 1 if there is one.
 """
 import pathlib
 import re

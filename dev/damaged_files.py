@@ -6,8 +6,8 @@ flipped, cut off or doubled, counts lie, and files are random bytes. Each run ha
 1 GiB. It has to end with one of the statuses 0 to 8, never by a signal, and with the status's text:
 some lines and no fault line, nothing, or one fault line of that status. What `save` writes has to be
 an index that `check` passes, and a damaged index that `check` passes has to be the one that `save`
-writes. What `find` writes has to be what `query` does, whatever lines lead it. What each status was
-seen for is counted at the end.
+writes. What `find` writes has to be what `query` writes, whatever lines lead it. At the end it
+prints how often each status came, and for what.
 """
 import collections
 import os

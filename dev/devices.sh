@@ -1,6 +1,6 @@
 #!/usr/bin/env bash
 # Runs the built program on files and outputs that aren't plain files, as docs/hostile.md lists them:
-# devices.sh [PROGRAM]. Prints each run that ends otherwise, and ends with 1 then.
+# devices.sh [PROGRAM]. Prints each run that ends otherwise, and ends with 1 if there is one.
 set -u
 top=$(dirname "$(dirname "$(readlink -f "$0")")")
 program=$(readlink -f "${1:-$top/crates/pgmtool/out/pgmtool}")

@@ -1,12 +1,12 @@
 #!/usr/bin/env python3
-"""Where the gate's time goes: processor seconds of each crate's proof, of its tests, and of its must-fail edits.
+"""Measures where the gate's time goes: processor seconds of each crate's proof, tests and must-fail edits.
 
     python3 dev/gate_times.py TABLE rt ci      (at the top of the repository)
 
-Runs the command and reads once a second what the provers below it have used, so what ends sooner than that is
-missed. Writes a table to the file TABLE, anew each minute and at the end, dearest crate first: seconds of the proof,
-of the tests' proof, of the edits' seed (the crate's own proof once more, over which its edits are tried), and of the
-edits: all, and the dearest one."""
+Runs the command and reads once a second how much time its provers have used, so it misses what ends sooner than
+that. Writes a table to the file TABLE, anew each minute and at the end, the most expensive crate first: seconds of
+the proof, of the tests' proof, of the edits' seed (the crate's own proof once more, over which its edits are tried),
+of all edits, and of the most expensive edit."""
 import collections
 import os
 import subprocess

@@ -25,11 +25,12 @@ TO_1970 = datetime.date(1970, 1, 1).toordinal() - 1
 
 
 class Refused(Exception):
-    """Why a cell has no key, and the scale with which it has one, if that is all."""
+    """Why a cell has no key, and the scale with which it has one, if there is one, and whether it
+    needs --signed with that."""
 
-    def __init__(self, text, scale=None):
+    def __init__(self, text, scale=None, signed=False):
         super().__init__(text)
-        self.scale = scale
+        self.scale, self.signed = scale, signed
 
 
 def is_time(cell):
@@ -84,8 +85,9 @@ class Decimals:
             number, places = number // 10, places - 1
         if abs(number) >= self.below or places > 19:
             return Refused(f"{text}: --float takes doubles")
-        scale = 10 ** max(places, 0)
-        return Refused(f"{text}: --scale {scale} takes it", scale)
+        scale, signed = 10 ** max(places, 0), number < 0 and self.offset == 0
+        also = " --signed" if signed else ""
+        return Refused(f"{text}: --scale {scale}{also} takes it", scale, signed)
 
     def outside(self, cell, value):
         if value < 0 and self.offset == 0:

@@ -2,33 +2,33 @@
 """Makes a key file or a point file of numbers: keys.py [OPTION ..] NUMBERS FILE
 
 NUMBERS is a text with a number a line; a CSV file (.csv, or .tsv with tabs); an array that numpy
-saved (.npy); a table in Parquet (.parquet), where pandas reads it; or `-`, text from standard
+saved (.npy); a table in Parquet (.parquet), if pandas can read it; or `-`, text from standard
 input. FILE is what `pgmtool` reads: the count, and then the numbers, lowest byte first. Keys are
 sorted; they are whole numbers from 0 to 2^64 - 1, or to 2^32 - 1 with --narrow. Blank lines, and
-lines of a text that begin with #, are left out. A mark of byte order in front is passed over.
+lines of a text that begin with #, are left out, and so is a byte order mark.
 
-What isn't such a number is made one by a map that keeps the order:
+A map turns other values into such numbers and keeps their order:
 
     --scale N         decimals, times N; what isn't whole then is refused, and nothing is rounded
     --signed          numbers below 0, too: half of the range is added
     --offset N        N is added; it may be negative
-    --float           doubles, in the order of their values; a text that has more digits is refused
+    --float           doubles, by value; a text with more digits than a double holds is refused
     --time            ISO dates, with a time or without, as microseconds from the year 1 on; those
-                      with a zone are taken to UTC
+                      with a zone are converted to UTC
     --nanoseconds     these as nanoseconds, from 1677 to 2262
-    --prefix          the first eight bytes of a text; texts that agree in these have one key
+    --prefix          the first eight bytes of a text; texts with the same ones have the same key
 
---scale goes with --signed or --offset: the scale comes first. Each has its inverse:
+--scale goes with --signed or --offset; the scale is applied first. Each map has its inverse:
 
     keys.py [MAP ..] --key VALUE ..     the key of each value, to ask for
     keys.py [MAP ..] --back KEY ..      the value of each key, to print
 
 The other options:
 
-    --column C        of a table or a CSV file the column C: its name, which is in a CSV file's
-                      first line, or, where no line has names, which column, from 1 on
-    --separator S     what stands between the cells of a CSV file, and not a comma; with --column
-                      also of a file that has another name
+    --column C        the column C of a table or a CSV file: its name, as in the first line of a CSV
+                      file, or, if no line has names, its number, from 1 on
+    --separator S     what separates the cells of a CSV file, if not a comma; with --column also of
+                      a file that has another name
     --skip-empty      leaves out rows with an empty cell, or one that says NaN, NA, NaT, null or
                       None
     --narrow          keys of 4 bytes, for --narrow of `pgmtool`
@@ -36,13 +36,13 @@ The other options:
                       line, as many --column, or an array of so many columns; each below 2^32, 2^21
                       or 2^16, as they are 2, 3 or 4
     --rows ROWS       writes a text with a line for each key, in their order: the key, and the row
-                      that it comes from. For points the code and the row, by rising code. Equal
-                      ones stand in the order of their rows. Rows are lines of a text or a CSV file,
-                      counted from 1, and those of an array or a table from 0
+                      that it comes from. For points: the code and the row, by rising code. Equal
+                      ones stand in the order of their rows. Rows of a text or a CSV file are its
+                      lines, counted from 1; those of an array or a table are counted from 0
 
-Tells each row that is wrong on standard error, with the option that would help, and then writes
-nothing and ends with 1. With 2 where the words are wrong. A text and a CSV file are read without
-numpy, too; then a million lines take seconds, and half of one with it.
+If rows are wrong, it reports the first twenty on standard error, each with the option that would
+help, writes nothing and ends with 1. It ends with 2 if the words are wrong. Texts and CSV files are
+read without numpy, too: a million lines take seconds then, and half a second with numpy.
 """
 import argparse
 import array
@@ -58,7 +58,7 @@ import key_maps
 from key_maps import Refused
 
 MOST = (1 << 32) - 1
-# How many wrong rows are told.
+# How many wrong rows are shown.
 TOLD = 20
 COORDINATES = {2: 1 << 32, 3: 1 << 21, 4: 1 << 16}
 BOM = b"\xef\xbb\xbf"
@@ -74,7 +74,7 @@ class Wrong(Exception):
 
 class Source:
     """Columns of cells, which are lists of texts, cells of a text or arrays; the row of each; and
-    how a row is told."""
+    how a row is named."""
 
     def __init__(self, name, columns, rows, is_text):
         self.name, self.columns, self.rows, self.is_text = name, columns, rows, is_text
@@ -314,7 +314,7 @@ def zones_apart(of, zoned, left_out):
 
 
 def made_of(source, of, skips):
-    """The keys of each column, and the rows that they come from; tells what is wrong."""
+    """The keys of each column, and the rows that they come from; prints what is wrong."""
     empty, wrong, columns = {}, {}, []
     for column in source.columns:
         keys, holes, refused, zoned = mapped(of, column)
@@ -330,10 +330,13 @@ def made_of(source, of, skips):
     for index in sorted(wrong)[:TOLD]:
         print(f"{source.place(index)}: {wrong[index]}", file=sys.stderr)
     if wrong:
-        more = f", of which {TOLD} are told" if len(wrong) > TOLD else ""
+        more = f", of which {TOLD} are shown" if len(wrong) > TOLD else ""
         scales = [getattr(why, "scale", None) for why in wrong.values()]
-        helps = f"; --scale {max(scales)} takes them all" if len(scales) > 1 and all(scales) else ""
-        raise Wrong(f"{len(wrong)} wrong in all{more}; nothing was written{helps}")
+        also = " --signed" if any(getattr(why, "signed", False) for why in wrong.values()) else ""
+        helps = (f"; --scale {max(scales)}{also} takes them all" if len(scales) > 1 and all(scales)
+                 else "")
+        rows = "row" if len(wrong) == 1 else "rows"
+        raise Wrong(f"{len(wrong)} wrong {rows} in all{more}; nothing was written{helps}")
     rows = source.rows
     if empty:
         columns = [without(it, empty) for it in columns]

@@ -1,7 +1,8 @@
 #!/usr/bin/env bash
-# Shows that memory is not taken by the counts of a file: one that says 4,000,000,000 keys and has
-# three, and a saved index of 30 bytes that says 4,294,967,295 levels and as many runs, are refused
-# for their end, and not for want of memory, by a program that may use 256 MiB of addresses.
+# Shows that the program takes no memory for what a file's counts claim. It may use 256 MiB of
+# addresses, and reads a key file that claims 4,000,000,000 keys and has three, and a saved index of
+# 30 bytes that claims 4,294,967,295 levels and as many runs. It has to refuse both because they end
+# too early, and not for want of memory.
 set -eu
 top=$(cd "$(dirname "$(readlink -f "$0")")/.." && pwd)
 "$top/pgmtool" prove 2>/dev/null

@@ -1,7 +1,7 @@
 #!/usr/bin/env bash
-# Shows of the built program what no contract says and no test of a crate can: that it takes the
-# words of its call, that one which isn't text makes them no command, and that its status is 4 where
-# its output isn't taken: not at all, or all but the last piece.
+# Tests of the built program what no contract says and no test of a crate can show: that it takes the
+# words of its call, that a word which isn't text makes them no command, and that its status is 4 if
+# its output isn't taken, either not at all or all but the last piece.
 set -eu
 top=$(cd "$(dirname "$(readlink -f "$0")")/.." && pwd)
 made=$(mktemp -d)

@@ -1,12 +1,12 @@
 #!/usr/bin/env python3
 """Refuses each growth of the built program in turn: refused_growths.py [PROGRAM].
 
-A library that stands before the C library's `malloc` and its kin refuses the n-th call, for
-n = 1, 2, .. until three runs in a row make fewer (how many a run with senders makes isn't the same
-each time). Each run has to end with status 1 and without a byte, or,
-where the refusal only kept a thread from starting or was one that the program does without, with
-status 0 and the whole text. What a text leaves open isn't compared: what readers saw beside the
-updates, and in which order senders' updates came. It needs a C compiler.
+A library loaded before the C library's `malloc` and its kin refuses the n-th call, for n = 1, 2, ..
+until three runs in a row make fewer calls (a run with senders doesn't make the same number each
+time). Each run has to end with status 1 and without a byte, or with status 0 and the whole text, if
+the refusal only kept a thread from starting or was of memory that the program can do without. What a
+text leaves open isn't compared: what readers saw beside the updates, and in which order senders'
+updates came. It needs a C compiler.
 """
 import os
 import subprocess

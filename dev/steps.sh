@@ -9,26 +9,26 @@ shower=
 # The kit that all was proved with.
 kit=rattle-kit-13f
 
-# Says for the script of this name what `rt` is and how it is had, where there is none, and fails
-# then; says where it is of another kit.
+# For the script of this name: if there is no `rt`, says what it is and how to get it, and fails; if
+# there is one of another kit, says so.
 has_rt() {
   if ! command -v rt >/dev/null; then
     {
       echo "$1: there is no \`rt\` on the PATH. It is the tool of the Rattle kit, which proves and"
       echo "$1: builds the crates; nothing here is built without it. Unpack the kit and put its folder"
-      echo "$1: bin on the PATH; \`rt version\` then tells its name. This was proved with $kit."
+      echo "$1: bin on the PATH; \`rt version\` then prints its name. This was proved with $kit."
     } >&2
     return 1
   fi
   case $(rt version 2>/dev/null || true) in
     "$kit "*) ;;
-    *) echo "$1: this was proved with $kit, and \`rt version\` tells another kit" >&2 ;;
+    *) echo "$1: this was proved with $kit, and \`rt version\` prints another kit" >&2 ;;
   esac
 }
 
-# Shows what the words behind the first two write, from the third second on and so many seconds
-# apart, until they fail or `hide_progress` is called: the step and how far it is; and for how long
-# it goes.
+# Shows what the command after the first two words writes (the step and how far it is), and how long
+# the step has taken: from the third second on, every so many seconds, until the command fails or
+# `hide_progress` is called.
 show_progress() {
   [ -n "$wipe" ] || return 0
   local who=$1 apart=$2 begun=$SECONDS width
@@ -39,7 +39,7 @@ show_progress() {
     set +e
     sleep 2
     while kill -0 $$ 2>/dev/null; do
-      text=$("$@") || break
+      text=$("$@" 2>/dev/null) || break
       text="$who: $text"
       time=$(clock $((SECONDS - begun)))
       printf '%s%s, %s' "$wipe" "${text:0:$((width - 10))}" "$time" >&2

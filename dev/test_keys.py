@@ -114,7 +114,7 @@ class Plain(unittest.TestCase):
         said = self.refused("a.csv", text, "--column", "id")
         self.assertIn("a.csv:3: an empty cell: --skip-empty leaves its row out", said)
         self.assertIn("a.csv:6: `NaN` is no number: --skip-empty leaves its row out", said)
-        self.assertIn("2 wrong in all", said)
+        self.assertIn("2 wrong rows in all", said)
         found = self.made("a.csv", text, "--column", "id", "--skip-empty", "--rows", "rows")
         self.assertEqual(found, [3, 7, 7])
         self.assertEqual(self.rows(), ["3 4", "7 2", "7 5"])
@@ -150,6 +150,7 @@ class Plain(unittest.TestCase):
                 ("184467440737095516.16", "100", "is not from 0 to"),
                 ("9.99", None, "`9.99` is no whole number: --scale 100 takes it"),
                 ("5.0", None, "`5.0` is no whole number: --scale 1 takes it"),
+                ("-0.25", None, "`-0.25` is no whole number: --scale 100 --signed takes it"),
                 ("1..5", "100", "`1..5` is no number"), (".", "100", "`.` is no number"),
                 ("1e9999", "100", "too many places"), ("0x10", "1", "`0x10` is no number"),
                 ("1_000", None, "`1_000` is no number"), ("１", None, "`１` is no number")]:
@@ -159,7 +160,7 @@ class Plain(unittest.TestCase):
         said = self.refused("t", "9.99\n12.50\n0.0\n7\n")
         self.assertIn("t:2: `12.50` is no whole number: --scale 10 takes it", said)
         self.assertIn("t:3: `0.0` is no whole number: --scale 1 takes it", said)
-        self.assertIn("3 wrong in all; nothing was written; --scale 100 takes them all", said)
+        self.assertIn("3 wrong rows in all; nothing was written; --scale 100 takes them all", said)
         self.assertNotIn("them all", self.refused("t", "9.99\nx\n"))
 
     def test_doubles(self):
@@ -259,7 +260,7 @@ class Plain(unittest.TestCase):
     def test_no_more_than_twenty_are_told(self):
         said = self.refused("t", "x\n" * 25)
         self.assertEqual(said.count("is no number"), 20)
-        self.assertIn("25 wrong in all, of which 20 are told; nothing was written", said)
+        self.assertIn("25 wrong rows in all, of which 20 are shown; nothing was written", said)
 
     def test_there_and_back(self):
         for words, values in [

@@ -292,7 +292,7 @@ class Script(unittest.TestCase):
                 break
             seen += part
         os.close(master)
-        self.assertRegex(seen, rb"testing b_tests, 1 of 2 crates done, tests passed 2, \d+:\d\d")
+        self.assertRegex(seen, rb"tests passed 2, 1 of 2 crates done, testing b_tests, \d+:\d\d")
         self.assertIn(b"4 passed, 0 failed", ran.communicate()[0])
         self.assertTrue(seen.endswith(b"\r\x1b[K"))
 
@@ -322,6 +322,34 @@ class Script(unittest.TestCase):
             ran = self.house.run("build", str(self.house.top / "given"))
             self.assertEqual(ran.returncode, 5)
             self.assertNotIn("keys.py", ran.stderr)
+
+    def test_a_crate_that_the_program_does_not_use(self):
+        self.house.program("exit 0\n")
+        later = time.time() + 9
+        self.house.put("crates/mine/src/main.rt", "")
+        os.utime(self.house.top / "crates/mine/src/main.rt", (later, later))
+        self.assertEqual(self.house.run("build", "f").returncode, 0)
+        # One of its own wants it built anew, and there is no `rt`.
+        os.utime(self.house.top / "crates/pgmtool/src/main.rt", (later, later))
+        self.assertEqual(self.house.run("build", "f").returncode, 1)
+
+    def test_which_file_is_not_read(self):
+        self.house.program("echo 'fault read'; exit 3\n")
+        (self.house.top / "keys").write_bytes(b"")
+        top = self.house.top
+        for words, said in [
+                (["build", "--eps", "3", f"{top}/none"], f"there is no file `{top}/none`"),
+                (["query", f"{top}/keys", "--narrow", f"{top}/none"],
+                 f"there is no file `{top}/none`"),
+                (["query", "--eps=3", "--", f"{top}/keys", f"{top}/dev"],
+                 f"`{top}/dev` is a folder"),
+                (["build", f"{top}/keys"], "a file could not be read to its end")]:
+            ran = self.house.run(*words)
+            self.assertEqual((ran.returncode, ran.stdout), (3, "fault read\n"))
+            self.assertIn(f"pgmtool: {said}", ran.stderr)
+
+    def test_help_says_which_distance(self):
+        self.assertIn("greatest difference of a coordinate", self.house.run("help", "near").stdout)
 
     def test_the_program_is_passed_on(self):
         self.house.program('echo "$*"; exit 7\n')

@@ -1,9 +1,9 @@
 #!/usr/bin/env python3
-"""Lists the lemmas that no file names but at their own definition: uncited_lemmas.py.
+"""Lists the lemmas that no file names except where they are defined: uncited_lemmas.py.
 
 A lemma is a name at the left end of a line of `crates/*/proofs/`, with its type behind a colon. Answers to goals
 (`Answers.antt`, `Invariants.antt`) are asked for by their names and left out. A tactic may use a lemma that no file
-names, so take each out and check its crate before it goes for good. Ends with 1 where it lists any.
+names, so check the crate without a lemma before you delete it. Ends with 1 if it lists any.
 """
 import pathlib
 import re

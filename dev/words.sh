@@ -1,24 +1,24 @@
 # The words that `pgmtool` takes, and what is wrong with others: sourced by it.
 #
 # The program goes by one definition of its own (`crates/command_line`), and judges the words. The
-# tables here are for help, and for plain words behind a refusal. `dev/test_words.py` compares them
-# with that definition.
+# tables here are for help, and for plain words behind a refusal. `dev/test_pgmtool.py` compares
+# them with that definition.
 
 # The commands: their words, and what they write.
 commands() {
   cat <<'TEXT'
 build FILE|how many keys, levels and segments the index of a key file has
-explain FILE|what `build` does, and each segment with what shows that it is needed
+explain FILE|what `build` writes, and each segment with what shows that it is needed
 query FILE SCRIPT|for each line `find Q` of the script, how many keys are below Q
-relax FILE SCRIPT|what `query` does, by pieces side by side, and how far from fewest that is
+relax FILE SCRIPT|what `query` writes, by pieces side by side, and how far from fewest that is
 box FILE SCRIPT|for each line `box LOW_1 .. LOW_d HIGH_1 .. HIGH_d`, the points in it
 near FILE SCRIPT|for each line `near C_1 .. C_d K`, the K points nearest to a centre
 replay SCRIPT|what a map answers to a script's questions, after its updates and beside them
-mix SCRIPT|what `replay` does, of updates that senders send in threads of their own
+mix SCRIPT|what `replay` writes, of updates that senders send in threads of their own
 save FILE|the index of a key file, as bytes that `check` takes
 check FILE INDEX|whether a saved index is the one index of a key file
 lines FILE|hints for a key file: numbers that say where in it to look first
-find FILE LINES SCRIPT|what `query` does, led by a file of lines, whatever that holds
+find FILE LINES SCRIPT|what `query` writes, led by a file of hints, whatever that holds
 drill N SEED|what is counted of N inputs of each kind, drawn from a seed
 TEXT
 }
@@ -46,6 +46,16 @@ SEED|0|2147483647||drill|what they are drawn from
 TEXT
 }
 
+# What else a person has to know of a command: its name, and a sentence.
+remarks() {
+  cat <<'TEXT'
+box|A point is in a box if each of its coordinates is from LOW_i to HIGH_i, both included.
+near|The distance is the greatest difference of a coordinate (Chebyshev), not the Euclidean one.
+relax|The slack is how many segments fewer another index could have, at most.
+find|LINES is what `lines` wrote for the keys; any other file makes it slow, and no answer wrong.
+TEXT
+}
+
 # The line of a command; fails where there is none of this name.
 command_named() {
   commands | awk -v name="$1" '$1 == name { print; found = 1 } END { exit !found }'
@@ -60,7 +70,7 @@ option_of() {
 }
 
 # Lines of the table of options, as a person reads them.
-told_options() {
+print_options() {
   local word least most default of text
   while IFS='|' read -r word least most default of text; do
     if [ -z "$least" ]; then
@@ -85,8 +95,8 @@ usage_words() {
 usage() {
   usage_words
   echo
-  echo 'options, with what they may be and (what they are):'
-  options | told_options all
+  echo 'options, with their ranges and (their defaults):'
+  options | print_options all
   echo
   echo 'help COMMAND lists the options of one; test runs the tests, in minutes and unproved; prove'
   echo 'proves the program and builds it; --version tells which one this is.'
@@ -100,7 +110,8 @@ usage_of() {
   line=$(command_named "$1") || return 1
   echo "usage: ./pgmtool ${line%%|*} [OPTION ..]"
   echo "Writes ${line#*|}."
-  options | awk -F'|' -v of="$1" 'index(" " $5 " ", " " of " ")' | told_options one
+  remarks | awk -F'|' -v of="$1" '$1 == of { print $2 }'
+  options | awk -F'|' -v of="$1" 'index(" " $5 " ", " " of " ")' | print_options one
 }
 
 # What is wrong with a word where a number from the least to the greatest belongs; says nothing
@@ -177,17 +188,38 @@ wrong_word() {
   done | head -n 1
 }
 
-# The first word of a call that is a name and no option: the file that most commands read first.
-first_name() {
-  local range
+# The words of a call that are names and no options, a line each: most are files.
+given_names() {
   shift
   while [ $# -gt 0 ]; do
     case $1 in
-      --) echo "${2-}" && return ;;
+      --)
+        shift
+        [ $# = 0 ] || printf '%s\n' "$@"
+        return
+        ;;
       --*=* | --narrow | --windows) ;;
       --*) shift ;;
-      *) echo "$1" && return ;;
+      *) echo "$1" ;;
     esac
-    shift
+    [ $# = 0 ] || shift
   done
+}
+
+# Why a file of a call could not be read.
+unread_file() {
+  local name
+  while read -r name; do
+    if [ -d "$name" ]; then
+      echo "\`$name\` is a folder, where a file is asked for"
+    elif [ ! -e "$name" ]; then
+      echo "there is no file \`$name\`"
+    elif [ ! -r "$name" ]; then
+      echo "the file \`$name\` may not be read"
+    else
+      continue
+    fi
+    return
+  done < <(given_names "$@")
+  echo 'a file could not be read to its end'
 }

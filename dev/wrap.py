@@ -3,7 +3,7 @@
 
 Paragraphs, list items and quotations that have a longer line are filled anew, and no others. Rows of
 tables, code and headings stay. A stretch of code in a line isn't divided unless it is long. With
---check nothing is written: it prints each longer line that isn't a table's row, and ends with 1.
+--check it writes nothing: it prints each longer line that isn't a table's row, and ends with 1.
 """
 import pathlib
 import re
