@@ -14,7 +14,7 @@ use published::start_map;
 use segmenter::segment;
 use senders::start_senders;
 use std::test::Fail;
-use tombstones::merge;
+use tombstones::{is_ascending, merge};
 use zorder::Region;
 
 #[test]
@@ -113,6 +113,8 @@ fn cut_witness_example(rt: HostRuntime) -> Result<(), Fail> {
 fn tombstones_example(rt: HostRuntime) -> Result<(), Fail> {
     let newer = [put(1, 11), del(2)];
     let older = [put(2, 20), put(3, 30)];
+    assert!(rt; is_ascending(&newer));
+    assert!(rt; is_ascending(&older));
     let merged = merge(rt.alloc(), &newer, &older, false)?;
     assert_eq!(rt;
         merged.as_slice(),
