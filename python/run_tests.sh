@@ -6,7 +6,8 @@
 # PREFIX is where examples/install.sh has put the library. The interpreter is $PYTHON, or else
 # /usr/bin/python3, which has the packages of Debian. Packages that it doesn't have are installed by
 # apt-get where that may be done; where it may not, the tests are skipped, and a line says so. No
-# other network is asked.
+# other network is asked. Where dask.distributed isn't there, the tests of parts by several processes
+# are skipped, and a line says so.
 set -eu
 if [ $# -ne 1 ]; then
     echo 'usage: python/run_tests.sh PREFIX' >&2
@@ -58,6 +59,14 @@ if [ -n "$wanted" ]; then
     wanted=$(missing)
     [ -z "$wanted" ] || skip "$python misses packages: apt-get install $wanted"
 fi
+
+# What only the tests of parts need.
+has_engine() {
+    "$python" -c 'import distributed, dask.dataframe' 2>/dev/null
+}
+has_engine || install python3-dask python3-distributed || true
+has_engine || echo "python: SKIPPED: parts by several processes: $python has no dask.distributed:" \
+    'apt-get install python3-dask python3-distributed'
 
 made=$(mktemp -d)
 trap 'rm -rf "$made"' EXIT
