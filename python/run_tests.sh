@@ -81,7 +81,7 @@ if ! KULDEBIQ_PREFIX=$prefix "$made/env/bin/python" -m pip install --no-build-is
     exit 1
 fi
 cd "$here"
-PYTHONDONTWRITEBYTECODE=1 "$made/env/bin/python" -m pytest -q -p no:cacheprovider \
+PYTHONDONTWRITEBYTECODE=1 timeout --kill-after=60 1800 "$made/env/bin/python" -m pytest -q -p no:cacheprovider \
     --hypothesis-profile=gate tests >"$made/log" 2>&1 || {
     tail -n 100 "$made/log"
     echo 'python: a test failed'

@@ -44,7 +44,7 @@ PATIENT = {
 }
 
 
-def cluster_of(memory):
+def cluster_of(memory, folder):
     """Three processes, or a skipped test where they can't be started."""
     try:
         return LocalCluster(
@@ -54,14 +54,16 @@ def cluster_of(memory):
             memory_limit=memory,
             host="127.0.0.1",
             dashboard_address=None,
+            local_directory=str(folder),
         )
     except Exception as error:
         pytest.skip(f"parts on an engine: processes can't be started: {error!r}")
 
 
 @pytest.fixture(scope="module")
-def client():
-    with dask.config.set(PATIENT), cluster_of(0) as cluster, Client(cluster) as client:
+def client(tmp_path_factory):
+    folder = tmp_path_factory.mktemp("workers")
+    with dask.config.set(PATIENT), cluster_of(0, folder) as cluster, Client(cluster) as client:
         yield client
 
 
@@ -109,10 +111,11 @@ def test_answers_in_such_rows(client, name, tmp_path):
 
 
 def test_more_parts_than_dask_makes_in_one_step(client, tmp_path):
-    for chunks in (1, 3):
-        source = dask.array.from_array(ROWS["random"], chunks=-(-50_000 // chunks))
-        made = parts.make(source, tmp_path, client, rows=1_300)
-        assert_answers(made, ROWS["random"])
+    row = ROWS["random"][:8_000]
+    for chunks, count in ((1, 34), (40, 34), (34, 40)):
+        source = dask.array.from_array(row, chunks=-(-len(row) // chunks))
+        made = parts.make(source, tmp_path, client, rows=len(row) // count)
+        assert_answers(made, row)
 
 
 def test_a_client_that_isnt_the_default_one(client, files, row, tmp_path):
@@ -137,10 +140,9 @@ def test_damaged_hints_and_missing_parts(client, files, row, tmp_path):
     questions = questions_of(whole)
     with pytest.warns(parts.HintsWarning) as told:
         assert (asked.positions(questions) == whole.searchsorted(questions)).all()
-    assert sorted(str(each.message).split("'")[1][-16:] for each in told) == [
-        "part-00001.hints",
-        "part-00002.hints",
-    ]
+    told = [str(each.message) for each in told if each.category is parts.HintsWarning]
+    assert len(told) == 2
+    assert all(any(f"part-0000{part}.hints" in text for text in told) for part in (1, 2))
     (tmp_path / "part-00004.keys").unlink()
     with pytest.raises(ValueError, match="part-00004.keys"):
         asked.positions(questions)
@@ -223,8 +225,9 @@ def high_water():
 def test_a_worker_has_less_memory_than_the_list(files, row, tmp_path):
     limit = int(MEMORY)
     assert limit < 8 * len(row), "the list is to be longer than a worker's memory"
-    with dask.config.set(PATIENT), cluster_of(limit) as cluster, Client(cluster) as client:
-        made = parts.make(files, tmp_path, client, rows=len(row) // 24)
+    at_work = dask.config.set(PATIENT), cluster_of(limit, tmp_path / "workers")
+    with at_work[0], at_work[1] as cluster, Client(cluster) as client:
+        made = parts.make(files, tmp_path / "parts", client, rows=len(row) // 24)
         questions = questions_of(numpy.sort(row))
         assert (made.positions(questions) == numpy.sort(row).searchsorted(questions)).all()
         assert max(client.run(high_water).values()) < limit

@@ -49,7 +49,8 @@ def chunks_of(source) -> list:
                 "keys are one row, as a Dask array of one dimension or a column of a Dask"
                 f" DataFrame, and this is of type {type_name(source)}"
             )
-        return list(numpy.ravel(source.to_delayed()))
+        chunks = source.to_delayed()
+        return chunks.ravel().tolist() if isinstance(chunks, numpy.ndarray) else list(chunks)
     if _is_path(source):
         return _of_file(source)
     if isinstance(source, (list, tuple)) and source and all(map(_is_path, source)):
