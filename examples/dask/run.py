@@ -211,7 +211,7 @@ def main():
             threads_per_worker=1,
             memory_limit=given.memory,
             host="127.0.0.1",
-            dashboard_address=None,
+            dashboard_address="127.0.0.1:0",
             local_directory=str(folder / "spilled"),
             silence_logs=logging.CRITICAL,
         ) as cluster, Client(cluster) as client:

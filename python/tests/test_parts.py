@@ -228,6 +228,20 @@ def test_a_list_names_files_of_its_folder_alone(tmp_path, named):
         parts.Parts(tmp_path)
 
 
+def test_parts_that_arent_in_order_are_refused(tmp_path):
+    made_in(tmp_path)
+    epsilon, found = _folder.load(tmp_path)
+    for wrong in (
+        found[3]._replace(first=found[3].last + 1),
+        found[3]._replace(first=found[2].last - 1),
+        found[3]._replace(offset=found[3].offset + 1),
+        found[3]._replace(count=0),
+    ):
+        _folder.save(tmp_path, epsilon, [*found[:3], wrong, *found[4:]])
+        with pytest.raises(ValueError, match="part-00003.keys"):
+            parts.Parts(tmp_path)
+
+
 def swap(one, other):
     content = one.read_bytes()
     one.write_bytes(other.read_bytes())

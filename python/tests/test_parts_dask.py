@@ -53,7 +53,7 @@ def cluster_of(memory, folder):
             processes=True,
             memory_limit=memory,
             host="127.0.0.1",
-            dashboard_address=None,
+            dashboard_address="127.0.0.1:0",
             local_directory=str(folder),
         )
     except Exception as error:

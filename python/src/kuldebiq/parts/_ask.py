@@ -193,7 +193,6 @@ class Parts:
             warnings.warn(complaint, HintsWarning, stacklevel=4)
         return [row for row, _ in answers]
 
-
     def _submit(self, home, call):
         """A call to its home, or to another worker where that one has died."""
         if home is None:

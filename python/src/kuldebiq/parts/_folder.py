@@ -97,26 +97,29 @@ def load(folder: Path) -> tuple[int, list[Part]]:
         if not is_newer:
             is_whole = body.pop("crc32") == _checksum(body)
             epsilon, parts = body["epsilon"], [Part(**part) for part in body["parts"]]
-            is_whole = is_whole and _are_in_order(parts)
+            wrong = _first_wrong(parts)
     except (ValueError, KeyError, TypeError, AttributeError):
         raise BadValue(f"{str(path)!r} is damaged, or no list of parts") from None
     if is_newer:
         raise BadValue(f"{str(path)!r} is of format {number}, which is newer than this package's")
     if not is_whole:
-        raise BadValue(f"{str(path)!r} is damaged: what it says doesn't fit its checksum or itself")
+        raise BadValue(f"{str(path)!r} is damaged: its checksum is another one")
+    if wrong is not None:
+        raise BadValue(f"the part {wrong!r} of {str(path)!r} isn't in order with the one before")
     return epsilon, parts
 
 
-def _are_in_order(parts: list[Part]) -> bool:
-    """Whether the parts follow one another in keys and places, and name files of the folder."""
+def _first_wrong(parts: list[Part]) -> str | None:
+    """The first part that isn't sorted at its ends, doesn't follow the one before it in keys and
+    places, or has files of other names than parts have."""
     place, before = 0, 0
     for part in parts:
-        if not (_FILE.fullmatch(part.keys) and _FILE.fullmatch(part.hints)):
-            return False
-        if part.count < 1 or part.offset != place or not before <= part.first <= part.last:
-            return False
+        is_named = _FILE.fullmatch(part.keys) and _FILE.fullmatch(part.hints)
+        is_next = part.offset == place and before <= part.first <= part.last and part.count > 0
+        if not (is_named and is_next):
+            return part.keys
         place, before = place + part.count, part.last
-    return True
+    return None
 
 
 def unreadable(path: str, error: OSError) -> BadValue:
