@@ -205,6 +205,8 @@ def main():
     folder = Path(tempfile.mkdtemp(prefix="kuldebiq-", dir=given.folder))
     print(f"kuldebiq {kuldebiq.__version__}, Dask {dask.__version__}: {given.workers} workers of"
           f" {given.memory}, one thread each", flush=True)
+    # A worker that is killed twice, so long apart, would be given up.
+    dask.config.set({"distributed.deploy.lost-worker-timeout": "1h"})
     try:
         with LocalCluster(
             n_workers=given.workers,
