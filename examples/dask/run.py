@@ -5,8 +5,8 @@
 
 The numbers are random ones in F files that this script writes under FOLDER, which it removes in the
 end. It prints seconds, the most memory that the workers have had, and pages, and compares all
-answers with those of numpy.searchsorted in the whole list, for which this process needs 8 bytes for
-each number. --compare also times how Dask sorts the numbers and writes the same parts without
+answers with those of numpy.searchsorted in the whole list, for which this process needs 16 bytes
+for each number. --compare also times how Dask sorts the numbers and writes as many parts without
 hints. It needs kuldebiq (../../python), dask.distributed and pandas.
 """
 
@@ -194,8 +194,10 @@ def run(given, folder, client):
     ask(made, questions, "  questions", places)
     if given.compare:
         wait_for_all(client, given.workers)
+        _, seconds = timed(parts.make, paths, there, client, rows=rows, progress=False)
+        say("parts are made once more", seconds)
         _, seconds = timed(sort_plainly, paths, folder / "plain", client, given.files)
-        say("Dask sorts and writes as many parts, no hints", seconds)
+        say("  Dask sorts and writes as many, no hints", seconds)
 
 
 def main():
