@@ -10,6 +10,7 @@ import os
 import signal
 import sys
 import time
+from contextlib import contextmanager, suppress
 
 import numpy
 import pytest
@@ -45,26 +46,35 @@ PATIENT = {
 }
 
 
-def cluster_of(memory, folder):
-    """Three processes, or a skipped test where they can't be started."""
-    try:
-        return LocalCluster(
-            n_workers=WORKERS,
-            threads_per_worker=1,
-            processes=True,
-            memory_limit=memory,
-            host="127.0.0.1",
-            dashboard_address="127.0.0.1:0",
-            local_directory=str(folder),
-        )
-    except Exception as error:
-        pytest.skip(f"parts on an engine: processes can't be started: {error!r}")
+@contextmanager
+def client_of(memory, folder):
+    """The client of three processes, or a skipped test where they can't be started."""
+    with dask.config.set(PATIENT):
+        try:
+            cluster = LocalCluster(
+                n_workers=WORKERS,
+                threads_per_worker=1,
+                processes=True,
+                memory_limit=memory,
+                host="127.0.0.1",
+                dashboard_address="127.0.0.1:0",
+                local_directory=str(folder),
+            )
+            client = Client(cluster)
+        except Exception as error:
+            pytest.skip(f"parts on an engine: processes can't be started: {error!r}")
+        try:
+            yield client
+        finally:
+            # What isn't closed in time ends with this process, and says nothing of the parts.
+            for thing in (client, cluster):
+                with suppress(Exception):
+                    thing.close(timeout=60)
 
 
 @pytest.fixture(scope="module")
 def client(tmp_path_factory):
-    folder = tmp_path_factory.mktemp("workers")
-    with dask.config.set(PATIENT), cluster_of(0, folder) as cluster, Client(cluster) as client:
+    with client_of(0, tmp_path_factory.mktemp("workers")) as client:
         yield client
 
 
@@ -230,8 +240,7 @@ def high_water():
 def test_a_worker_has_less_memory_than_the_list(files, row, tmp_path):
     limit = int(MEMORY)
     assert limit < 8 * len(row), "the list is to be longer than a worker's memory"
-    at_work = dask.config.set(PATIENT), cluster_of(limit, tmp_path / "workers")
-    with at_work[0], at_work[1] as cluster, Client(cluster) as client:
+    with client_of(limit, tmp_path / "workers") as client:
         made = parts.make(files, tmp_path / "parts", client, rows=len(row) // 24)
         questions = questions_of(numpy.sort(row))
         assert (made.positions(questions) == numpy.sort(row).searchsorted(questions)).all()
