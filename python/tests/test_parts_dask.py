@@ -129,9 +129,12 @@ def test_more_parts_than_dask_makes_in_one_step(client, tmp_path):
         assert_answers(made, row)
 
 
-def test_a_client_that_isnt_the_default_one(client, files, row, tmp_path):
+def test_a_client_that_isnt_the_default_one(client, files, row, tmp_path, capsys):
     with Client(client.scheduler.address, set_as_default=False) as other:
-        assert_answers(parts.make(files, tmp_path, other, rows=NUMBERS // 3), row)
+        made = parts.make(files, tmp_path, other, rows=NUMBERS // 3, progress=True)
+        assert_answers(made, row)
+    shown = capsys.readouterr().out
+    assert "Completed" in shown and shown.endswith(f"{made}\n")
 
 
 def test_refusals_come_from_the_workers(client, tmp_path):
