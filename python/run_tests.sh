@@ -6,7 +6,8 @@
 # PREFIX is where examples/install.sh has put the library. The interpreter is $PYTHON, or else
 # /usr/bin/python3, which has the packages of Debian. Packages that it doesn't have are installed by
 # apt-get where that may be done; where it may not, the tests are skipped, and a line says so. No
-# other network is asked.
+# other network is asked. Where dask.distributed isn't there, the tests of parts by several processes
+# are skipped, and a line says so.
 set -eu
 if [ $# -ne 1 ]; then
     echo 'usage: python/run_tests.sh PREFIX' >&2
@@ -59,6 +60,14 @@ if [ -n "$wanted" ]; then
     [ -z "$wanted" ] || skip "$python misses packages: apt-get install $wanted"
 fi
 
+# What only the tests of parts need.
+has_engine() {
+    "$python" -c 'import distributed, dask.dataframe' 2>/dev/null
+}
+has_engine || install python3-dask python3-distributed || true
+has_engine || echo "python: SKIPPED: parts by several processes: $python has no dask.distributed:" \
+    'apt-get install python3-dask python3-distributed'
+
 made=$(mktemp -d)
 trap 'rm -rf "$made"' EXIT
 "$python" -m venv --system-site-packages "$made/env"
@@ -72,7 +81,7 @@ if ! KULDEBIQ_PREFIX=$prefix "$made/env/bin/python" -m pip install --no-build-is
     exit 1
 fi
 cd "$here"
-PYTHONDONTWRITEBYTECODE=1 "$made/env/bin/python" -m pytest -q -p no:cacheprovider \
+PYTHONDONTWRITEBYTECODE=1 timeout --kill-after=60 1800 "$made/env/bin/python" -m pytest -q -p no:cacheprovider \
     --hypothesis-profile=gate tests >"$made/log" 2>&1 || {
     tail -n 100 "$made/log"
     echo 'python: a test failed'

@@ -29,6 +29,7 @@ Every other refusal is a `Refused`, and a ``ValueError``, ``KeyError``, ``Overfl
 `key_file`         a file of sorted keys, mapped
 `segments`         the fewest segments whose lines are within epsilon of the keys' places
 `plot`             a picture of them, with what shows that there can't be fewer
+`kuldebiq.parts`   a list past one machine's memory, in parts, by ``dask.distributed``
 =================  ==============================================================================
 """
 
