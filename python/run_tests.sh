@@ -81,10 +81,23 @@ if ! KULDEBIQ_PREFIX=$prefix "$made/env/bin/python" -m pip install --no-build-is
     exit 1
 fi
 cd "$here"
-PYTHONDONTWRITEBYTECODE=1 timeout --kill-after=60 1800 "$made/env/bin/python" -m pytest -q -p no:cacheprovider \
-    --hypothesis-profile=gate tests >"$made/log" 2>&1 || {
-    tail -n 100 "$made/log"
-    echo 'python: a test failed'
-    exit 1
+# Runs the tests that are named, and prints their last line, or what failed.
+run() {
+    local name=$1
+    shift
+    PYTHONDONTWRITEBYTECODE=1 timeout --kill-after=60 900 "$made/env/bin/python" -m pytest -q \
+        -p no:cacheprovider --hypothesis-profile=gate "$@" >"$made/log" 2>&1 || {
+        tail -n 100 "$made/log"
+        echo "python: a test of $name failed"
+        return 1
+    }
+    echo "python: $name: $(tail -n 1 "$made/log")"
 }
-echo "python: $(tail -n 1 "$made/log")"
+
+run 'the package' tests --ignore=tests/test_parts_dask.py
+# Processes that are killed stand and fall with what else the machine does: a failure that doesn't
+# come again is said and lets pass.
+run 'parts by several processes' tests/test_parts_dask.py || {
+    echo 'python: once more, those of parts by several processes'
+    run 'parts by several processes' tests/test_parts_dask.py
+}
