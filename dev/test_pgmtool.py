@@ -149,7 +149,7 @@ class House:
         self.bin = self.top / "bin"
         self.bin.mkdir()
         for name in "awk bash basename cat chmod cut dirname find grep head mktemp nproc od ps \
-                readlink realpath rm sed sleep sort stat touch tput tr wc".split():
+                readlink realpath rm sed sleep sort stat tail touch tput tr wc".split():
             (self.bin / name).symlink_to(shutil.which(name))
         self.log = self.top / "log"
         self.log.write_text("")
@@ -322,6 +322,23 @@ class Script(unittest.TestCase):
             ran = self.house.run("build", str(self.house.top / "given"))
             self.assertEqual(ran.returncode, 5)
             self.assertNotIn("keys.py", ran.stderr)
+
+    def test_the_line_and_the_word_of_a_script(self):
+        script = self.house.top / "given"
+        for text, cause, said in [
+                ("find 1\nfind x7\n", "2 number", "line 2 of {}, `find x7`: `x7` is no number\n"),
+                (f"find {2**64}\n", "1 number", "a number is out of range\n"),
+                ("fint 3\n", "1 word", "`fint` is no command of this script\n"),
+                ("find\n", "1 missing", "a number is missing\n"),
+                ("find 3 4\n", "1 extra", "a word follows the last number\n")]:
+            script.write_text(text)
+            self.house.program(f"echo 'fault script {cause}'; exit 6\n")
+            ran = self.house.run("query", "keys", str(script))
+            self.assertEqual((ran.returncode, ran.stdout), (6, f"fault script {cause}\n"))
+            self.assertIn(said.format(script), ran.stderr)
+        # Of a script that is too long no line is named.
+        self.house.program("echo 'fault script too long'; exit 6\n")
+        self.assertNotIn("line 1", self.house.run("query", "keys", str(script)).stderr)
 
     def test_a_crate_that_the_program_does_not_use(self):
         self.house.program("exit 0\n")
