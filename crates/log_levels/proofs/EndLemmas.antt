@@ -9,7 +9,7 @@ use Rattle.log_levels.specs.Maps.{updated, map_after, first_of}
 use Rattle.log_levels.specs.Accepted.{taking}
 use Rattle.log_levels.proofs.MapLemmas.{remove-here}
 
-first-cons : (pair : ℕ × ℕ) (pairs : List (ℕ × ℕ)) → first_of (pair ∷ pairs) ≡ Some pair
+pub first-cons : (pair : ℕ × ℕ) (pairs : List (ℕ × ℕ)) → first_of (pair ∷ pairs) ≡ Some pair
 first-cons pair pairs = cond-true (leb 0 pair.0) _ _ (le-leb 0 pair.0 (omega arith))
 
 -- a map has no key where it has no least one

@@ -16,3 +16,4 @@ pub mod OrderLemmas
 pub mod RangeLemmas
 pub mod LoadLemmas
 pub mod EndLemmas
+pub mod BareLemmas

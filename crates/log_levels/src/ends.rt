@@ -60,9 +60,15 @@ impl LogMap {
             map_after (updates ++ taking (first_of (map_after updates)))
             ≡ drop 1 (map_after updates) }
     {
-        let first = self.first();
-        match self.take_out(alloc, first) {
-            Ok(()) => Ok(first),
+        let _ = self.accepted();
+        let Some((key, value)) = self.first() else {
+            return Ok(None);
+        };
+        match self.del(alloc, key) {
+            Ok(()) => {
+                self.leave_bare(0, key);
+                Ok(Some((key, value)))
+            }
             Err(fault) => Err(fault),
         }
     }
