@@ -74,13 +74,7 @@ fn first_inside(
 }
 
 /// A place behind a code outside such that, where the codes never fall, none before it is inside.
-fn place_past(
-    codes: &[u64],
-    hints: &[u64],
-    region: &Region,
-    corners: &Corners,
-    at: usize,
-) -> usize
+fn place_past(codes: &[u64], hints: &[u64], region: &Region, corners: &Corners, at: usize) -> usize
     requires region { IsRegion region.now }
     requires corners { AreCorners region.now corners.now }
     requires some_inside { ¬ IsEmpty region.now }

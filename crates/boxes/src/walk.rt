@@ -17,8 +17,8 @@ use bigmin::next_by_corners;
 use zorder::{Corners, Region, dilated_coordinate, is_empty};
 
 /// How many places behind a code are looked through for the end of a jump, before the index or the
-/// hints are asked. They are four lines of the cache side by side; a lookup reads as many, one after the
-/// other.
+/// hints are asked. They are four lines of the cache side by side; a lookup reads as many, one
+/// after the other.
 pub const NEAR: usize = 32;
 
 /// How many codes are tested one by one before whole cells of them are tried, and between.
