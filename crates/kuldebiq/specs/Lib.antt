@@ -8,3 +8,4 @@ pub mod Changes
 pub mod Updates
 pub mod Pairs
 pub mod Loading
+pub mod Points

@@ -13,6 +13,7 @@
 #![tactic(auto)]
 
 mod answer;
+mod box_calls;
 mod building;
 mod find_calls;
 mod hints_calls;
