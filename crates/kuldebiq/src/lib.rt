@@ -15,6 +15,7 @@
 mod answer;
 mod box_calls;
 mod building;
+mod code_calls;
 mod find_calls;
 mod index_calls;
 mod index_handle;
