@@ -38,6 +38,7 @@ mod updates;
 ghost use Rattle.std.specs.Prelude.{◌≡◌};
 
 use answer::Answer;
+use box_calls::{RegionParts, Stretch};
 use index_handle::IndexHandle;
 use lines_handle::LinesHandle;
 use map_calls::Pair;
@@ -62,6 +63,10 @@ const _: () = prove!(size_of::<SegmentParts>() == 64);
 const _: () = prove!(size_of::<Pair>() == 16);
 
 const _: () = prove!(size_of::<UpdateParts>() == 24);
+
+const _: () = prove!(size_of::<RegionParts>() == 36);
+
+const _: () = prove!(size_of::<Stretch>() == 16);
 
 /// The version of the library, [`VERSION`].
 #[unsafe(no_mangle)]
