@@ -15,6 +15,7 @@
 mod answer;
 mod box_calls;
 mod building;
+mod code_calls;
 mod find_calls;
 mod hints_calls;
 mod hints_handle;
@@ -37,6 +38,7 @@ mod updates;
 ghost use Rattle.std.specs.Prelude.{◌≡◌};
 
 use answer::Answer;
+use box_calls::{RegionParts, Stretch};
 use hints_handle::HintsHandle;
 use index_handle::IndexHandle;
 use map_calls::Pair;
@@ -61,6 +63,10 @@ const _: () = prove!(size_of::<SegmentParts>() == 64);
 const _: () = prove!(size_of::<Pair>() == 16);
 
 const _: () = prove!(size_of::<UpdateParts>() == 24);
+
+const _: () = prove!(size_of::<RegionParts>() == 36);
+
+const _: () = prove!(size_of::<Stretch>() == 16);
 
 /// The version of the library, [`VERSION`].
 #[unsafe(no_mangle)]
