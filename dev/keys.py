@@ -50,8 +50,6 @@ import csv
 import importlib.util
 import io
 import os
-import shutil
-import subprocess
 import sys
 
 import key_maps
@@ -60,6 +58,8 @@ from key_maps import Refused
 MOST = (1 << 32) - 1
 # How many wrong rows are shown.
 TOLD = 20
+# Bytes in front of a text and behind it, so that eight of them can be taken together.
+SPARE = 32
 COORDINATES = {2: 1 << 32, 3: 1 << 21, 4: 1 << 16}
 BOM = b"\xef\xbb\xbf"
 SEPARATORS = {".csv": ",", ".tsv": "\t", ".tab": "\t"}
@@ -94,12 +94,15 @@ def go_on_with(module):
     tried = [sys.executable]
     if importlib.util.find_spec(module) or AGAIN in os.environ:
         return tried
+    # Here, since they take a while to be read.
+    import shutil
+    import subprocess
     for folder in [*os.environ.get("PATH", "").split(os.pathsep), "/usr/bin"]:
         python = shutil.which("python3", path=folder)
         if python and python not in tried:
             tried.append(python)
-            ran = subprocess.run([python, "-c", f"import {module}"], stderr=subprocess.DEVNULL)
-            if ran.returncode == 0:
+            seeks = f"import importlib.util as it, sys; sys.exit(not it.find_spec({module!r}))"
+            if subprocess.run([python, "-c", seeks], stderr=subprocess.DEVNULL).returncode == 0:
                 os.execve(python, [python, *sys.argv], {**os.environ, AGAIN: "1"})
     return tried
 
@@ -113,38 +116,43 @@ def need(module, what):
 
 
 def bytes_of(name):
-    """What a text holds, without its mark of byte order."""
-    if name == "-":
-        data = sys.stdin.buffer.read()
-    else:
-        if os.path.getsize(name) > LARGE:
-            go_on_with("numpy")
-        with open(name, "rb") as file:
-            data = file.read()
-    if data[:2] in (b"\xff\xfe", b"\xfe\xff"):
+    """A room with what a text holds, without its mark of byte order, and where that begins and
+    ends; there is room in front and behind."""
+    size = 0 if name == "-" else os.path.getsize(name)
+    if size > LARGE:
+        go_on_with("numpy")
+    with open(0 if name == "-" else name, "rb", buffering=0, closefd=name != "-") as file:
+        room, end = bytearray(SPARE + size + 1 + SPARE), SPARE
+        while True:
+            if end + SPARE >= len(room):
+                room += bytes(len(room))
+            with memoryview(room)[end:len(room) - SPARE] as rest:
+                read = file.readinto(rest)
+            if not read:
+                break
+            end += read
+    if room[SPARE:SPARE + 2] in (b"\xff\xfe", b"\xfe\xff"):
         raise Wrong(f"{name}: a text in UTF-16: have it written in UTF-8")
-    return data[len(BOM):] if data.startswith(BOM) else data
+    return room, SPARE + len(BOM) * room.startswith(BOM, SPARE), end
 
 
 def text_of(data):
-    return data.decode("utf-8", "surrogateescape")
+    return str(data, "utf-8", "surrogateescape")
 
 
 def read_text(name, is_points):
     """A text: a cell a line, or for points a cell a word."""
-    data, fast = bytes_of(name), numpy_or_none()
+    (room, low, high), fast = bytes_of(name), numpy_or_none()
     if fast and is_points:
-        columns, rows, odd = fast.words(fast.Text(data))
+        columns, rows, odd = fast.words(fast.Text(room, low, high))
         if odd is not None:
             raise Wrong(f"{name}:{odd[0]}: {odd[1]} numbers in place of {len(columns)}")
         return Source(name, columns, rows, True)
     if fast:
-        text = fast.Text(data)
-        cells = fast.Cells(text, *fast.lines(text)).stripped()
-        kept = fast.numpy.flatnonzero((cells.starts < cells.ends) & (cells.heads() != ord("#")))
-        return Source(name, [cells.take(kept)], kept + 1, True)
+        cells, rows = fast.lines(fast.Text(room, low, high))
+        return Source(name, [cells], rows, True)
     found, rows, width = [], [], None if is_points else 1
-    for number, line in enumerate(text_of(data).split("\n"), 1):
+    for number, line in enumerate(text_of(room[low:high]).split("\n"), 1):
         words = line.replace(",", " ").split() if is_points else [line.strip()]
         if not words or not words[0] or words[0].startswith("#"):
             continue
@@ -167,13 +175,14 @@ def places_of(columns, head, name):
 
 
 def read_csv(name, columns, separator):
-    data, fast = bytes_of(name), numpy_or_none()
-    head = io.StringIO(text_of(data[:LARGE]), newline="")
+    (room, low, high), fast = bytes_of(name), numpy_or_none()
+    has = lambda byte: room.find(byte, low, high) >= 0
+    head = io.StringIO(text_of(room[low:min(high, low + LARGE)]), newline="")
     first = next(csv.reader(head, delimiter=separator), [])
     places, has_names = places_of(columns, first, name)
     # Lines may end with a carriage return alone.
-    if fast and b'"' not in data and (b"\n" in data or b"\r" not in data):
-        cells, rows, short = fast.fields(fast.Text(data), separator, places)
+    if fast and not has(b'"') and (has(b"\n") or not has(b"\r")):
+        cells, rows, short = fast.fields(fast.Text(room, low, high), separator, places)
         if has_names:
             cells = [it.take(slice(1, None)) for it in cells]
             rows, short = rows[1:], short[short > 0] - 1
@@ -181,7 +190,7 @@ def read_csv(name, columns, separator):
             raise Wrong(f"{name}:{rows[short[0]]}: no column {max(places) + 1}")
         return Source(name, cells, rows, True)
     found, rows, number = [], [], 1
-    lines = csv.reader(io.StringIO(text_of(data), newline=""), delimiter=separator)
+    lines = csv.reader(io.StringIO(text_of(room[low:high]), newline=""), delimiter=separator)
     for cells in lines:
         begun, number = number, lines.line_num + 1
         if not cells or (has_names and begun == 1):
@@ -397,7 +406,8 @@ def write_numbers(name, columns, width):
     with open(name, "wb") as file:
         file.write(count.to_bytes(8, "little"))
         if fast:
-            fast.numpy.stack(columns, axis=1).astype(f"<u{width}").tofile(file)
+            whole = columns[0] if len(columns) == 1 else fast.numpy.stack(columns, axis=1)
+            whole.astype(f"<u{width}", copy=False).tofile(file)
             return
         numbers = array.array({4: "I", 8: "Q"}[width], bytes(width * count * len(columns)))
         for place, column in enumerate(columns):
@@ -419,7 +429,7 @@ def write(given, columns, rows):
     if given.rows:
         write_rows(given.rows, columns[0], rows, order)
     keys = sorted(columns[0]) if order is not None and not numpy_or_none() else (
-        columns[0][order] if order is not None else numpy_or_none().numpy.sort(columns[0]))
+        columns[0][order] if order is not None else numpy_or_none().ascending(columns[0]))
     write_numbers(given.file, [keys], width)
 
 

@@ -338,6 +338,41 @@ class Fast(Plain):
                           ["--time"], ["--nanoseconds"], ["--prefix"], ["--signed", "--narrow"]):
                 self.agree(text, cells, words)
 
+    def test_texts_of_many_pieces(self):
+        draw = random.Random(11)
+        forms = [lambda: str(draw.getrandbits(64)), lambda: f" {draw.getrandbits(draw.choice((4, 60)))}\t",
+                 lambda: "# none", lambda: "", lambda: "\r", lambda: "0" * 24 + "7", lambda: str(MOST)]
+        for weights in ([1, 0, 0, 0, 0, 0, 0], [50, 50, 1, 1, 1, 1, 1]):
+            lines = [form() for form in draw.choices(forms, weights, k=40_000)]
+            numbered = sorted((int(it), at) for at, it in enumerate(lines, 1) if it.strip().isdigit())
+            self.assertEqual(self.made("t", "\n".join(lines), "--rows", "rows"), [it for it, _ in numbered])
+            self.assertEqual(self.rows(), [f"{key} {row}" for key, row in numbered])
+            lines[35_432] = str(MOST + 1)
+            self.assertIn(f"t:35433: `{MOST + 1}` is not from 0", self.refused("t", "\n".join(lines)))
+
+    def test_csv_of_many_pieces(self):
+        words = ["--column", "2", "--scale", "100"]
+        keys = [at * 100 + at % 100 for at in range(50_000)]
+        for more in (lambda at: "", lambda at: ",y" * (at % 9999 == 0) + "\n\r" * (at % 7777 == 0)):
+            rows = [f"{at * at},{at}.{at % 100:02},x{more(at)}" for at in range(50_000)]
+            self.assertEqual(self.made("a.csv", "\n".join(rows), *words), keys)
+        rows[8000] = "8000"
+        # Line 7777 has a blank one behind it, and so has line 0.
+        self.assertIn("a.csv:8003: no column 2", self.refused("a.csv", "\n".join(rows), *words))
+
+    def test_points_of_many_pieces(self):
+        lines = [f"{at},{at // 7}" + "\n#" * (at % 9999 == 0) for at in range(40_000)]
+        self.assertEqual(self.made("t", "\n".join(lines), "--points", width=4),
+                         [it for at in range(40_000) for it in (at, at // 7)])
+        lines[30_000] += " 1"
+        self.assertIn("t:30005: 3 numbers in place of 2", self.refused("t", "\n".join(lines), "--points"))
+
+    def test_keys_that_lie_close_together(self):
+        for low in (0, MOST - 2999):
+            keys = [low + it for it in range(2000)] + [low + 2999] * 3 + [low + 5] * 2
+            random.Random(3).shuffle(keys)
+            self.assertEqual(self.made("t", "\n".join(map(str, keys))), sorted(keys))
+
     def agree(self, text, cells, words):
         """Both refuse the same cells in the same words, and make the same keys of the others."""
         self.put("a.csv", text)

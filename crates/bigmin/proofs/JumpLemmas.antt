@@ -82,7 +82,7 @@ module _ (region : Region) (is : IsRegion region) where
   high_fits = code-lt region.d is.dimension region.high
 
   -- a number inside is a code
-  IsCode-inside : (w : ℕ) → w < 2 ^ 64 → IsInside region w → IsCode region.d w
+  pub IsCode-inside : (w : ℕ) → w < 2 ^ 64 → IsInside region w → IsCode region.d w
   IsCode-inside w fits inside =
       let at_most = rises region.d is.dimension w (code region.d region.high) fits high_fits
       (λ c below. omega (arith, (inside c below).1, coordinate-code region.d is.dimension region.high is.high c below)) in

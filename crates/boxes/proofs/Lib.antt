@@ -3,6 +3,7 @@ pub mod InsideTest
 pub mod LookedLemmas
 pub mod OrderedCorners
 mod CellLemmas
+mod PlaceLemmas
 pub mod CodeLists
 pub mod OneCount
 pub mod CallerLemmas

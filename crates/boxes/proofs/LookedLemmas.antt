@@ -8,6 +8,7 @@ use Rattle.std.specs.Prelude.{All}
 use Rattle.std.specs.List.Sorted.{IsNonDecreasing}
 use Rattle.std.proofs.lemmas.Bool.{cases_lt, cases_eq, cond-true, cond-false}
 use Rattle.std.proofs.lemmas.List.{drop_more, get_or-take, get_or-drop, length-take-le, length-drop}
+use Rattle.std.proofs.lemmas.List.Sorted.{IsNonDecreasingBy-drop, IsNonDecreasingBy-take}
 use Rattle.zorder.specs.declared.regions.Region.{Region}
 use Rattle.zorder.specs.Codes.{IsCode, code}
 use Rattle.zorder.specs.Regions.{IsEmpty, IsRegion, IsInside}
@@ -229,6 +230,10 @@ module _ (region : Region) (codes : List ℕ) (of : AreOfRegion region codes) wh
   pub not_empty : (at looked : ℕ) → at < length codes → HasWalked region codes at looked → IsEmpty region → ⊥
   not_empty at looked within walked (c, below, falls) =
       let is_due = walked.due within in omega (arith, is_due.inside c below)
+
+-- what stands side by side in a list that never falls doesn't fall
+pub part_sorted : (xs : List ℕ) (at count : ℕ) → IsNonDecreasing xs → IsNonDecreasing (take count (drop at xs))
+part_sorted xs at count order = IsNonDecreasingBy-take (λ (x : ℕ). x) count (drop at xs) (IsNonDecreasingBy-drop (λ (x : ℕ). x) at xs order)
 
 -- the place of a code that isn't below another, behind one that is, is the lower bound
 pub bound_between : (shown codes : List ℕ) (z place : ℕ) → shown ≡ codes → IsNonDecreasing shown → place < length shown → slice_index shown (place - 1) < z →

@@ -37,16 +37,15 @@ fn is_cell_within(d: u32, low: u64, high: u64, first: u64, last: u64) -> bool
 }
 
 /// A place from one on up to which all codes lie between two others, coordinate by coordinate,
-/// found by whole cells. It need not be the last.
+/// where they never fall; found by whole cells. It need not be the last.
 #[inline(always)]
 pub fn over_cells(d: u32, low: u64, high: u64, codes: &[u64], at: usize) -> usize
     requires dimension { IsDimension d }
     requires ordered { AreOrdered d low high }
-    requires sorted { IsNonDecreasing codes.now }
     requires here { at ≤ length codes.now }
     ensures onwards { at ≤ result }
     ensures within { result ≤ length codes.now }
-    ensures between { (j : ℕ) → at ≤ j → j < result
+    ensures between { IsNonDecreasing codes.now → (j : ℕ) → at ≤ j → j < result
         → IsBetween d low high (slice_index codes.now j) }
 {
     let mut place = at;

@@ -19,9 +19,11 @@ mod boxes;
 mod cells;
 mod codes;
 mod found;
+mod places;
 mod walk;
 
 pub use answer::one_answer;
 pub use boxes::Boxes;
 pub use found::Found;
+pub use places::next_places;
 pub use walk::Walk;

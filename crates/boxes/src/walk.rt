@@ -16,10 +16,10 @@ use crate::cells::over_cells;
 use bigmin::next_by_corners;
 use zorder::{Corners, Region, dilated_coordinate, is_empty};
 
-/// How many places behind a code are looked through for the end of a jump, before the index is
-/// asked. They are four lines of the cache side by side; a lookup reads as many, one after the
-/// other.
-const NEAR: usize = 32;
+/// How many places behind a code are looked through for the end of a jump, before the index or the
+/// hints are asked. They are four lines of the cache side by side; a lookup reads as many, one
+/// after the other.
+pub const NEAR: usize = 32;
 
 /// How many codes are tested one by one before whole cells of them are tried, and between.
 const ONE_BY_ONE: usize = 16;
@@ -153,16 +153,16 @@ impl Boxes {
     }
 }
 
-/// How many numbers from the front on are below another one.
+/// How many numbers are below another one. Where they never fall those stand in front.
 ///
-/// They never fall, so all that are below are counted: a branch on where the first other one stands
-/// is mispredicted half of the time.
+/// All are counted: a branch on where the first other one stands is mispredicted half of the time.
 #[inline(always)]
-fn front_below(numbers: &[u64], least: u64) -> usize
-    requires order { IsNonDecreasing numbers.now }
+pub fn front_below(numbers: &[u64], least: u64) -> usize
     ensures within { result ≤ length numbers.now }
-    ensures below { (k : ℕ) → k < result → slice_index numbers.now k < least }
-    ensures from { result < length numbers.now → least ≤ slice_index numbers.now result }
+    ensures below { IsNonDecreasing numbers.now → (k : ℕ) → k < result
+        → slice_index numbers.now k < least }
+    ensures from { IsNonDecreasing numbers.now → result < length numbers.now
+        → least ≤ slice_index numbers.now result }
 {
     let mut count = 0usize;
     for number in numbers {
@@ -171,16 +171,16 @@ fn front_below(numbers: &[u64], least: u64) -> usize
     count
 }
 
-/// The end of the codes inside a region that stand side by side from a place on.
-fn stretch_end(region: &Region, corners: &Corners, codes: &[u64], at: usize) -> usize
+/// The end of the codes inside a region that stand side by side from a place on, where the codes
+/// never fall. In any codes it is a place from there on whose code isn't inside, or the end.
+pub fn stretch_end(region: &Region, corners: &Corners, codes: &[u64], at: usize) -> usize
     requires region { IsRegion region.now }
     requires corners { AreCorners region.now corners.now }
     requires some_inside { ¬ IsEmpty region.now }
-    requires sorted { IsNonDecreasing codes.now }
     requires here { at ≤ length codes.now }
     ensures onwards { at ≤ result }
     ensures within { result ≤ length codes.now }
-    ensures inside { (j : ℕ) → at ≤ j → j < result
+    ensures inside { IsNonDecreasing codes.now → (j : ℕ) → at ≤ j → j < result
         → IsInside region.now (slice_index codes.now j) }
     ensures outside { result < length codes.now
         → ¬ IsInside region.now (slice_index codes.now result) }
@@ -198,11 +198,10 @@ fn stretch_end(region: &Region, corners: &Corners, codes: &[u64], at: usize) -> 
 fn between_until(d: u32, low: u64, high: u64, codes: &[u64], at: usize) -> usize
     requires dimension { IsDimension d }
     requires ordered { AreOrdered d low high }
-    requires sorted { IsNonDecreasing codes.now }
     requires here { at ≤ length codes.now }
     ensures onwards { at ≤ result }
     ensures within { result ≤ length codes.now }
-    ensures between { (j : ℕ) → at ≤ j → j < result
+    ensures between { IsNonDecreasing codes.now → (j : ℕ) → at ≤ j → j < result
         → IsBetween d low high (slice_index codes.now j) }
     ensures not { result < length codes.now
         → ¬ IsBetween d low high (slice_index codes.now result) }

@@ -1,10 +1,11 @@
 pub mod Owned
 pub mod Answers
 pub mod Building
-pub mod Lines
+pub mod Hints
 pub mod Positions
 pub mod Segments
 pub mod Changes
 pub mod Updates
 pub mod Pairs
 pub mod Loading
+pub mod Points

@@ -47,6 +47,23 @@ pub const NO_SUCH_PLACE: u32 = 12;
 /// An update is neither a put nor a deletion nor a sweep. The number is the first place of one.
 pub const NO_SUCH_KIND: u32 = 13;
 
+/// A point or a region has no such number of coordinates, which is 2, 3 or 4. The number is that
+/// number.
+pub const DIMS_OUT_OF_RANGE: u32 = 14;
+
+/// A number is too great for a coordinate. The number is the first place of one.
+pub const COORDINATE_TOO_GREAT: u32 = 15;
+
+/// A coordinate of a region has a low above its high, or a high that is too great. The number is
+/// the first such coordinate.
+pub const NO_INTERVAL: u32 = 16;
+
+/// A number is no code of a point of three coordinates: it is 2^63 or more. The number is its place.
+pub const NO_CODE: u32 = 17;
+
+/// The coordinates end within a point. The number is how many they are.
+pub const PART_OF_A_POINT: u32 = 18;
+
 /// What a call answers: how it ended, and a number, which is what was asked for where the call was
 /// done, and else tells why it was refused.
 #[repr(C)]

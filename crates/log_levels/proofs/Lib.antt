@@ -15,3 +15,4 @@ pub mod WalkLemmas
 pub mod OrderLemmas
 pub mod RangeLemmas
 pub mod LoadLemmas
+pub mod EndLemmas

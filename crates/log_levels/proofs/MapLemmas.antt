@@ -103,7 +103,7 @@ value-insert-other (pair ∷ pairs) key value q other = elim (cases_order key pa
 ]
 
 -- a key taken out
-remove-here : (pair : ℕ × ℕ) (pairs : List (ℕ × ℕ)) (key : ℕ) → key ≡ pair.0 → remove_entry (is_at (nat_cmp key)) (pair ∷ pairs) ≡ pairs
+pub remove-here : (pair : ℕ × ℕ) (pairs : List (ℕ × ℕ)) (key : ℕ) → key ≡ pair.0 → remove_entry (is_at (nat_cmp key)) (pair ∷ pairs) ≡ pairs
 remove-here pair pairs key same = cond-true _ _ _ (is_at-eqb key pair.0 ∙ eq-eqb key pair.0 same)
 
 remove-later : (pair : ℕ × ℕ) (pairs : List (ℕ × ℕ)) (key : ℕ) → (key ≡ pair.0 → ⊥) → remove_entry (is_at (nat_cmp key)) (pair ∷ pairs) ≡ pair ∷ remove_entry (is_at (nat_cmp key)) pairs

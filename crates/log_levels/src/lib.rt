@@ -14,6 +14,7 @@
 #![tactic(auto)]
 
 mod apply;
+mod ends;
 mod fault;
 mod growth;
 mod heads;

@@ -17,8 +17,8 @@ between_until-requires-in_default-clause-ordered c =
 
 pub returns-in-2-clause-inside : goal.returns-in-2-clause-inside
 returns-in-2-clause-inside c =
-    λ j from to. inside-from_corners c.args.region.now c.requires.region c.args.corners.now c.requires.corners 2 (slice_index c.args.codes.now j) (sym c.in-2.is)
-    (c.type_inv.codes j).fits (c.between_until.ensures.between j from to)
+    λ sorted j from to. inside-from_corners c.args.region.now c.requires.region c.args.corners.now c.requires.corners 2 (slice_index c.args.codes.now j) (sym c.in-2.is)
+    (c.type_inv.codes j).fits (c.between_until.ensures.between sorted j from to)
 
 pub returns-in-2-clause-outside : goal.returns-in-2-clause-outside
 returns-in-2-clause-outside c =
@@ -28,8 +28,8 @@ returns-in-2-clause-outside c =
 
 pub returns-in-3-clause-inside : goal.returns-in-3-clause-inside
 returns-in-3-clause-inside c =
-    λ j from to. inside-from_corners c.args.region.now c.requires.region c.args.corners.now c.requires.corners 3 (slice_index c.args.codes.now j) (sym c.in-3.is)
-    (c.type_inv.codes j).fits (c.between_until-in-3.ensures.between j from to)
+    λ sorted j from to. inside-from_corners c.args.region.now c.requires.region c.args.corners.now c.requires.corners 3 (slice_index c.args.codes.now j) (sym c.in-3.is)
+    (c.type_inv.codes j).fits (c.between_until-in-3.ensures.between sorted j from to)
 
 pub returns-in-3-clause-outside : goal.returns-in-3-clause-outside
 returns-in-3-clause-outside c =
@@ -40,8 +40,8 @@ returns-in-3-clause-outside c =
 pub returns-in_default-clause-inside : goal.returns-in_default-clause-inside
 returns-in_default-clause-inside c =
     let four : 4 ≡ c.args.region.now.d = omega (arith, c.requires.region.dimension) in
-    λ j from to. inside-from_corners c.args.region.now c.requires.region c.args.corners.now c.requires.corners 4 (slice_index c.args.codes.now j) four
-    (c.type_inv.codes j).fits (c.between_until-in_default.ensures.between j from to)
+    λ sorted j from to. inside-from_corners c.args.region.now c.requires.region c.args.corners.now c.requires.corners 4 (slice_index c.args.codes.now j) four
+    (c.type_inv.codes j).fits (c.between_until-in_default.ensures.between sorted j from to)
 
 pub returns-in_default-clause-outside : goal.returns-in_default-clause-outside
 returns-in_default-clause-outside c =

@@ -1,4 +1,4 @@
-use Rattle.command_line.proofs.definition.lines_command.Goals as goal
+use Rattle.command_line.proofs.definition.hints_command.Goals as goal
 
 pub returns : goal.returns
 returns c =

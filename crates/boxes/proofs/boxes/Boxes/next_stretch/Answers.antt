@@ -23,7 +23,7 @@ over_outside-requires-clause-walked c =
     let place : at + (end - at) ≡ end = omega (arith, c.stretch_end-end.ensures.onwards) in
     subst (λ (n : ℕ). HasWalked region codes n (c.args.walk.now.looked + (end - at))) place
     (walk_along region codes of at c.args.walk.now.looked (end - at) (omega (arith, c.stretch_end-end.ensures.within, ap length is)) c.requires.walked
-    (λ k from to. subst (IsInside region) (ap (λ (xs : List ℕ). slice_index xs k) is) (c.stretch_end-end.ensures.inside k from (omega arith))))
+    (λ k from to. subst (IsInside region) (ap (λ (xs : List ℕ). slice_index xs k) is) (c.stretch_end-end.ensures.inside c.codes-codes.ensures.never_falls k from (omega arith))))
 
 pub returns-clause-found : goal.returns-clause-found
 returns-clause-found c =
@@ -36,7 +36,7 @@ returns-clause-found c =
     let end = c.stretch_end-end.result in
     let place : at + (end - at) ≡ end = omega (arith, c.stretch_end-end.ensures.onwards) in
     inside_fronts region codes of at (end - at) (omega (arith, c.stretch_end-end.ensures.within, ap length is))
-    (λ k from to. subst (IsInside region) (ap (λ (xs : List ℕ). slice_index xs k) is) (c.stretch_end-end.ensures.inside k from (omega arith)))
+    (λ k from to. subst (IsInside region) (ap (λ (xs : List ℕ). slice_index xs k) is) (c.stretch_end-end.ensures.inside c.codes-codes.ensures.never_falls k from (omega arith)))
     ∙ ap (λ (xs : List ℕ). take (end - at) (drop at xs) ++ codes_inside region (drop (at + (end - at)) codes)) (sym is)
     ∙ ap (λ (n : ℕ). take (end - at) (drop at shown) ++ codes_inside region (drop n codes)) place
     ∙ ap (λ (xs : List ℕ). take (end - at) (drop at shown) ++ xs) c.over_outside.ensures.same
