@@ -8,3 +8,4 @@ pub mod Mirrored
 pub mod Stretches
 pub mod NewPoint
 pub mod PairLine
+pub mod FlattestLine

@@ -7,7 +7,9 @@ ghost use Rattle.exact_cross.specs.Steep.{IsSteepOf, line_of_pair};
 ghost use Rattle.exact_cross.specs.Cuts.{IsCutOf};
 ghost use Rattle.hulls.specs.Hulls.{MatchOffer, mirrored, bound_of, room_of, spare, StandsFor};
 ghost use Rattle.hulls.specs.Hulls.{IsNext, IsAhead, EndOn};
+ghost use Rattle.hulls.specs.FlatLines.{IsFlatLine};
 
+use crate::flat::FlatLine;
 use crate::hull::Hull;
 use crate::vertex::Vertex;
 use budget::{NoMemory, Steps};
@@ -258,5 +260,34 @@ impl Hulls {
             }
         };
         (low.place, b, line)
+    }
+
+    /// The flattest line within the error bound of the run.
+    ///
+    /// Of a run of one point it is the level line through the point. Where the run's places are at
+    /// even steps, the mean of this line and that of [`line`](Hulls::line) passes all of them
+    /// exactly. Takes no step.
+    pub fn flat_line(&self) -> FlatLine
+        requires { (p : Points) × (eps : ℕ) × (s : ℕ) × (e : ℕ) × StandsFor self.now p eps s e }
+        ensures { (p : Points) (eps s e : ℕ) → StandsFor self.now p eps s e →
+            IsFlatLine p eps s e result }
+    {
+        let low = self.flat.lower();
+        let height = u64::from(u32::MAX - low.height);
+        if low.place == self.flat.upper() {
+            return FlatLine {
+                x0: low.x,
+                y0: height,
+                rise: 0,
+                run: 1,
+            };
+        }
+        let (fall, run) = self.flat.rise_and_run();
+        FlatLine {
+            x0: low.x,
+            y0: height + u64::from(self.eps),
+            rise: -fall,
+            run,
+        }
     }
 }

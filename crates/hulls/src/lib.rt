@@ -11,9 +11,11 @@
 #![tactic(auto)]
 
 mod fitting;
+mod flat;
 mod hull;
 mod search;
 mod slope;
 mod vertex;
 
 pub use fitting::{Hulls, Offer};
+pub use flat::FlatLine;

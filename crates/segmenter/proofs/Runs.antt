@@ -8,6 +8,12 @@ use Rattle.exact_cross.specs.PointLists.{points_in}
 use Rattle.exact_cross.specs.Lines.{SomeLineFits}
 use Rattle.exact_cross.specs.Covers.{IsLongest}
 use Rattle.exact_cross.specs.Cuts.{IsCutOf, HasItsCut}
+use Rattle.exact_cross.specs.declared.line.Line.{Line}
+use Rattle.exact_cross.specs.Steep.{IsSteepOf}
+use Rattle.exact_cross.specs.Segments.{IsSteepSegment}
+use Rattle.hulls.specs.declared.flat.FlatLine.{FlatLine}
+use Rattle.hulls.specs.FlatLines.{IsFlatLine, MeanRises}
+use Rattle.hulls.proofs.FlattestLine.{MeanRises-from_lines}
 use Rattle.hulls.specs.declared.fitting.Hulls.{Hulls}
 use Rattle.hulls.specs.Hulls.{StandsFor, IsNext}
 
@@ -27,3 +33,10 @@ HasItsCut-cut p eps to start e w segment starts cuts before own = record {
   last = λ at_end. absurd (omega arith);
   other = λ more. (w, cuts, subst (λ (s : ℕ). IsCutOf p eps s e w) (sym starts) own);
 }
+
+-- the mean of the segment's line and the flattest doesn't fall
+pub MeanRises-of_run : (hulls : Hulls) (p : Points) (eps s e : ℕ) (segment : Segment) (flat : FlatLine) → StandsFor hulls p eps s e → segment.start ≡ s →
+    IsSteepSegment p eps segment e → IsFlatLine p eps s e flat → MeanRises segment.line flat
+MeanRises-of_run hulls p eps s e segment flat stands starts steep is =
+    subst (λ (line : Line). MeanRises line flat) (sym steep.line)
+    (MeanRises-from_lines p eps s e segment.a segment.b flat stands.ascends stands.steep.pair.some stands.inside (subst (λ (n : ℕ). IsSteepOf p eps n e segment.a segment.b) starts steep.pair) is)

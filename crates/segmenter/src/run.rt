@@ -8,20 +8,22 @@ ghost use Rattle.exact_cross.specs.Segments.{IsSteepSegment};
 ghost use Rattle.exact_cross.specs.Cuts.{HasItsCut};
 ghost use Rattle.hulls.specs.Hulls.{MatchOffer, room_of, bound_of, spare, StandsFor, AreEven};
 ghost use Rattle.hulls.specs.Hulls.{EndOn};
+ghost use Rattle.hulls.specs.FlatLines.{IsFlatLine, MeanRises};
 ghost use Rattle.segmenter.specs.Stretches.{IsInStretch, IsRefused};
 
 use budget::Steps;
 use exact_cross::{MAX_EPSILON, PointList, Segment, Witness};
-use hulls::{Hulls, Offer};
+use hulls::{FlatLine, Hulls, Offer};
 use std::sync::ledger::Ledger;
 
 /// How many places at even steps are a stretch, which is passed by its ends.
 const SHORTEST: u32 = 8;
 
-/// A segment and the end of its run, a place.
+/// A segment, the flattest line of its run and the run's end, a place.
 #[derive(Clone, Copy)]
 pub struct Run {
     pub segment: Segment,
+    pub flat: FlatLine,
     pub end: u32,
 }
 
@@ -29,7 +31,8 @@ pub struct Run {
 ///
 /// This is for a caller that goes from run to run by itself: the greedy segments are those of the
 /// longest runs, each from the end of the one before it. The segment has the run's steep pair, and
-/// its cut unless the run ends at `to`. The hulls begin anew with the error bound that they were
+/// its cut unless the run ends at `to`; the mean of its line and the flattest is within the error
+/// bound, too, and exact where the run's places are at even steps. The hulls begin anew with the error bound that they were
 /// made with, and have room for the places `start..to`. It takes at most 10 steps for each place of
 /// the run, and no memory. Of places at even steps, eight or more in a row, only the first two and
 /// the last of the run are looked at.
@@ -50,6 +53,9 @@ pub fn longest_run<L: Ledger>(
     ensures longest { IsLongest (points_in points.entry) (bound_of hulls.old) to start result.end }
     ensures steep { IsSteepSegment (points_in points.entry)
         (bound_of hulls.old) result.segment result.end }
+    ensures flat { IsFlatLine (points_in points.entry)
+        (bound_of hulls.old) start result.end result.flat }
+    ensures middle { MeanRises result.segment.line result.flat }
     ensures cut { HasItsCut (points_in points.entry)
         (bound_of hulls.old) to result.segment result.end }
     ensures cost { steps.new + 10 * start ≤ steps.old + 10 * result.end }
@@ -65,12 +71,17 @@ pub fn longest_run<L: Ledger>(
             let segment = segment_of(hulls, start, Some(witness));
             return Run {
                 segment,
+                flat: hulls.flat_line(),
                 end: last + 1,
             };
         }
     }
     let segment = segment_of(hulls, start, None);
-    Run { segment, end: to }
+    Run {
+        segment,
+        flat: hulls.flat_line(),
+        end: to,
+    }
 }
 
 /// How a run went on: its last place from now on, and the answer to the place after it, or
