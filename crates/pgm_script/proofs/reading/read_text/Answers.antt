@@ -7,7 +7,8 @@ use Rattle.pgm_script.proofs.reading.read_text.Goals as goal
 
 pub returns-clause-reading : goal.returns-clause-reading
 returns-clause-reading g c =
-    text-read g.F.Shelf c.args.limit c.args.shelf.now c.read_all.new.shelf _ (omega (arith, c.in_ok-read_all.ensures.within)) c.in_ok-read_all.ensures.reading
+    text-read g.F.Shelf c.args.limit c.args.shelf.now c.read_all.new.shelf _
+    (omega (arith, c.in_ok-read_all.ensures.within)) c.in_ok-read_all.ensures.reading
 
 pub returns-in_err-read_all-clause-reading : goal.returns-in_err-read_all-clause-reading
 returns-in_err-read_all-clause-reading g c =
@@ -17,11 +18,15 @@ returns-in_err-read_all-clause-reading g c =
 
 pub returns-clause-wherever : goal.returns-clause-wherever
 returns-clause-wherever g c =
-    let reads = text-read g.F.Shelf c.args.limit c.args.shelf.now c.read_all.new.shelf _ (omega (arith, c.in_ok-read_all.ensures.within)) c.in_ok-read_all.ensures.reading in
-    text-wherever c.args.limit _ _ (g.F.Shelf.faults c.args.shelf.now) (g.F.Shelf.faults c.read_all.new.shelf) reads.read.text_is
+    let reads = text-read g.F.Shelf c.args.limit c.args.shelf.now c.read_all.new.shelf _
+    (omega (arith, c.in_ok-read_all.ensures.within)) c.in_ok-read_all.ensures.reading in
+    text-wherever c.args.limit _ _
+    (g.F.Shelf.faults c.args.shelf.now) (g.F.Shelf.faults c.read_all.new.shelf) reads.read.text_is
 
 pub returns-in_err-read_all-clause-wherever : goal.returns-in_err-read_all-clause-wherever
 returns-in_err-read_all-clause-wherever g c =
     let p = err_from_is_err_and c.from_residual.result c.from_residual.ensures.1 in
-    let fails = text-fails g.F.Shelf c.args.limit c.args.shelf.now c.read_all.new.shelf c.in_err-read_all.field-0.0 c.in_err-read_all.ensures.reading in
-    rw (p.1, p.2) (fault-wherever c.args.limit _ _ (g.F.Shelf.faults c.args.shelf.now) (g.F.Shelf.faults c.read_all.new.shelf) fails.fault fails.cause)
+    let fails = text-fails g.F.Shelf c.args.limit
+    c.args.shelf.now c.read_all.new.shelf c.in_err-read_all.field-0.0 c.in_err-read_all.ensures.reading in
+    rw (p.1, p.2) (fault-wherever c.args.limit _ _
+    (g.F.Shelf.faults c.args.shelf.now) (g.F.Shelf.faults c.read_all.new.shelf) fails.fault fails.cause)
