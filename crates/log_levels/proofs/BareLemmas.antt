@@ -11,10 +11,10 @@ use Rattle.log_levels.specs.declared.update.Update.{Update}
 use Rattle.log_levels.specs.declared.update.Update.TheVariants.{Del, Sweep}
 use Rattle.log_levels.specs.Accepted.{entries_of}
 use Rattle.log_levels.specs.Kept.{IsBareIn, IsIn, IsNextLive, value_of}
-use Rattle.log_levels.specs.Maps.{first_of, is_between, map_after, pairs_between, updated, value_at}
+use Rattle.log_levels.specs.Maps.{first_of, last_of, is_between, map_after, pairs_between, updated, value_at}
 use Rattle.log_levels.specs.Shapes.{Held, IsCutOf, StandsFor}
 use Rattle.log_levels.proofs.EndLemmas.{first-cons, map_after-more}
-use Rattle.log_levels.proofs.MapLemmas.{RisesFrom, between-inside, rises-after, pairs-bare, value-below, value-filter-dropped, value-remove-other, value-remove-same}
+use Rattle.log_levels.proofs.MapLemmas.{RisesFrom, between-inside, previous-reaches, rises-after, pairs-bare, value-below, value-filter-dropped, value-remove-other, value-remove-same}
 use Rattle.log_levels.proofs.SearchLemmas.{one-value}
 use Rattle.log_levels.proofs.ValueLemmas.{value-after}
 
@@ -90,6 +90,25 @@ value-taken updates key value other is at_most = ap (λ map. value_at map other)
       | inl less ↦ less
       | inr above ↦ absurd (apart (omega arith))
     ]
+
+-- once the greatest key is taken, none is left from it on
+pub value-taken-last : (updates : List Update) (key value other : ℕ) → Some (key, value) ≡ last_of (map_after updates) → key ≤ other → other ≤ 18446744073709551615
+    → value_at (map_after (updates ++ Del key ∷ [])) other ≡ None
+value-taken-last updates key value other is at_least within = ap (λ map. value_at map other) (map_after-more updates (Del key)) ∙ elim (cases_eq other key) [
+  | inl same ↦ value-remove-same 0 (map_after updates) key other (rises-after updates) same
+  | inr apart ↦ value-remove-other (map_after updates) key other apart ∙ above apart (value_at (map_after updates) other) refl
+]
+  where
+    key-of : Option (ℕ × ℕ) → ℕ
+    key-of None = 0
+    key-of (Some pair) = pair.0
+
+    above : (other ≡ key → ⊥) → (found : Option ℕ) → value_at (map_after updates) other ≡ found → value_at (map_after updates) other ≡ None
+    above apart None there = there
+    above apart (Some there_value) there =
+        let (found, at, reaches) = previous-reaches 0 (map_after updates) 18446744073709551615 other there_value (rises-after updates) within there in
+        let same : key ≡ found.0 = ap key-of (is ∙ at) in
+        absurd (apart (omega (arith, same, reaches, at_least)))
 
 -- what a search finds behind bare numbers is what one finds from before them
 pub next-bare : (entries : List Entry) (from start : ℕ) (found : Option (ℕ × ℕ)) → from ≤ start

@@ -1,5 +1,5 @@
 -- The ordered map: its keys rise, and its answers follow from its values.
-use Rattle.std.proofs.Common.{◌≡◌, ℕ, ◌+◌, ◌<◌, ◌≤◌, eqb, ltb, leb, Bool, true, false, not, cond, if◌then◌else◌, List, [], ◌∷◌, length, reverse, filter, find, Some, None, refl, sym, ap, ◌∙◌, subst, inl, inr, arith, nat_cmp, Less, Equal, Greater, length-append}
+use Rattle.std.proofs.Common.{◌≡◌, ℕ, ◌+◌, ◌<◌, ◌≤◌, eqb, ltb, leb, Bool, true, false, not, cond, if◌then◌else◌, List, [], ◌∷◌, length, reverse, filter, find, Option, Some, None, refl, sym, ap, ◌∙◌, subst, inl, inr, arith, nat_cmp, Less, Equal, Greater, length-append}
 use Rattle.std.proofs.lemmas.List.{length-map, reverse-append}
 use Rattle.std.proofs.lemmas.List.Folds.{find-append}
 use Rattle.std.specs.Option.{option_or}
@@ -239,6 +239,50 @@ previous-is low (pair ∷ pairs) q key value (from, rest) le is none = elim (cas
   where
     pair-is : (pair : ℕ × ℕ) (key value : ℕ) → pair.0 ≡ key → Some pair.1 ≡ Some value → Some pair ≡ Some (key, value)
     pair-is (k, v) key value same_key same_value = cc
+
+previous-later : (pair : ℕ × ℕ) (pairs : List (ℕ × ℕ)) (q : ℕ) (found : ℕ × ℕ) → previous_to pairs q ≡ Some found → previous_to (pair ∷ pairs) q ≡ Some found
+previous-later pair pairs q found at = previous-cons pair pairs q ∙ ap (λ later. option_or later (if leb pair.0 q then Some pair else None)) at
+
+previous-here : (pair : ℕ × ℕ) (pairs : List (ℕ × ℕ)) (q : ℕ) → previous_to pairs q ≡ None → pair.0 ≤ q → previous_to (pair ∷ pairs) q ≡ Some pair
+previous-here pair pairs q none within =
+    previous-cons pair pairs q ∙ ap (λ later. option_or later (if leb pair.0 q then Some pair else None)) none
+    ∙ cond-true (leb pair.0 q) (Some pair) None (le-leb pair.0 q within)
+
+-- it isn't below the keys of a map
+previous-above : (low : ℕ) (pairs : List (ℕ × ℕ)) (q : ℕ) (found : ℕ × ℕ) → RisesFrom low pairs → previous_to pairs q ≡ Some found → low ≤ found.0
+previous-above low [] q found rises at = cc
+previous-above low (pair ∷ pairs) q found (from, rest) at = either (previous_to pairs q) refl (λ other there. previous-above (pair.0 + 1) pairs q other rest there)
+  where
+    key-of : Option (ℕ × ℕ) → ℕ
+    key-of None = 0
+    key-of (Some other) = other.0
+
+    either : (later : Option (ℕ × ℕ)) → previous_to pairs q ≡ later → ((other : ℕ × ℕ) → previous_to pairs q ≡ Some other → pair.0 + 1 ≤ other.0) → low ≤ found.0
+    either (Some other) there above =
+        let same : other.0 ≡ found.0 = ap key-of (sym (previous-later pair pairs q other there) ∙ at) in
+        omega (arith, same, above other there)
+    either None there above = elim (cases_lt q pair.0) [
+      | inl past ↦
+          let none : None ≡ Some found = sym (previous-cons pair pairs q ∙ ap (λ later. option_or later (if leb pair.0 q then Some pair else None)) there
+          ∙ cond-false (leb pair.0 q) (Some pair) None (lt-leb pair.0 q past)) ∙ at in cc
+      | inr within ↦ let same : pair.0 ≡ found.0 = ap key-of (sym (previous-here pair pairs q there within) ∙ at) in omega (arith, same)
+    ]
+
+-- nor below one that is within the bound
+pub previous-reaches : (low : ℕ) (pairs : List (ℕ × ℕ)) (q key value : ℕ) → RisesFrom low pairs → key ≤ q → value_at pairs key ≡ Some value
+    → (found : ℕ × ℕ) × (previous_to pairs q ≡ Some found) × (key ≤ found.0)
+previous-reaches low [] q key value rises le is = cc
+previous-reaches low (pair ∷ pairs) q key value (from, rest) le is = elim (cases_order key pair.0) [
+  | inl here ↦ go here (previous_to pairs q) refl
+  | inr (inl less) ↦ let apart : Some value ≡ None = sym is ∙ value-below pair.0 (pair ∷ pairs) key (omega arith, rest) less in cc
+  | inr (inr after) ↦
+      let (found, at, reaches) = previous-reaches (pair.0 + 1) pairs q key value rest le (sym (value-later pair pairs key (λ same. absurd (omega arith))) ∙ is) in
+      (found, previous-later pair pairs q found at, reaches)
+]
+  where
+    go : key ≡ pair.0 → (later : Option (ℕ × ℕ)) → previous_to pairs q ≡ later → (found : ℕ × ℕ) × (previous_to (pair ∷ pairs) q ≡ Some found) × (key ≤ found.0)
+    go here (Some other) at = (other, previous-later pair pairs q other at, omega (arith, here, previous-above (pair.0 + 1) pairs q other rest at))
+    go here None at = (pair, previous-here pair pairs q at (omega (arith, here, le)), omega (arith, here))
 
 -- the keys from one bound to another
 pub between-inside : (low high key : ℕ) → low ≤ key → key ≤ high → is_between low high key ≡ true

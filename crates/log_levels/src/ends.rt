@@ -85,21 +85,16 @@ impl LogMap {
         ensures taken { (updates : List Update) → StandsFor self.old updates →
             AreApplied self.old self.new (taking (last_of (map_after updates))) result }
     {
-        let last = self.last();
-        match self.take_out(alloc, last) {
-            Ok(()) => Ok(last),
+        let _ = self.accepted();
+        let Some((key, value)) = self.last() else {
+            return Ok(None);
+        };
+        match self.del(alloc, key) {
+            Ok(()) => {
+                self.leave_bare(key, u64::MAX);
+                Ok(Some((key, value)))
+            }
             Err(fault) => Err(fault),
-        }
-    }
-
-    /// Deletes the key that was found, if one was.
-    fn take_out(&mut self, alloc: Global, found: Option<(u64, u64)>) -> Result<(), MapFault>
-        ensures { (updates : List Update) → StandsFor self.old updates →
-            AreApplied self.old self.new (taking found) result }
-    {
-        match found {
-            Some((key, _)) => self.del(alloc, key),
-            None => Ok(()),
         }
     }
 }
