@@ -25,5 +25,5 @@ mod walk;
 pub use answer::one_answer;
 pub use boxes::Boxes;
 pub use found::Found;
-pub use places::next_places;
+pub use places::{count_places, next_places};
 pub use walk::Walk;
