@@ -146,7 +146,7 @@ def rows_of(text, word):
 
 
 def asked(text, record, kind, names):
-    """The three ways of `bench lookup` and `bench lines`, of each thing that was asked."""
+    """The three ways of `bench lookup` and `bench hints`, of each thing that was asked."""
     sums = re.findall(r"^checksum (\d+)$", text, re.M)
     for name, part in zip(names, text.split("checksum ")[1:]):
         for way in ("alone", "chained", "together"):
@@ -198,7 +198,7 @@ def lookups(runs, record):
         agree(kind, sums)
 
 
-def lines(runs, record):
+def hints(runs, record):
     """Lookups over borrowed keys, and rivals: their times, and the bytes beyond the keys."""
     for kind in runs.kinds():
         keys, questions, sums = runs.keys(kind), runs.questions(kind), {}
@@ -208,14 +208,14 @@ def lines(runs, record):
             for name, way in ways.items():
                 record.put(kind, f"{name} bytes", int(way["bytes"]))
             for eps in (16, 64):
-                text = runs.run(runs.bench, "lines", keys, questions, eps)
+                text = runs.run(runs.bench, "hints", keys, questions, eps)
                 names = f"{eps} own", f"{eps} other"
                 for number, one in enumerate(asked(text, record, kind, names)):
                     sums[f"bench {eps} {number}"] = one
-                for words in rows_of(text, "words"):
-                    name = f"{eps} {words['words']}"
-                    record.add(kind, f"{name} build", float(words["build"]) * 1e3)
-                    record.put(kind, f"{name} bytes", int(words["bytes"]))
+                for made in rows_of(text, "hints"):
+                    name = f"{eps} {made['hints']}"
+                    record.add(kind, f"{name} build", float(made["build"]) * 1e3)
+                    record.put(kind, f"{name} bytes", int(made["bytes"]))
         agree(kind, sums)
 
 
@@ -523,7 +523,7 @@ def from_c(runs, record):
         for line in text.splitlines()[1:]:
             threads, *nanoseconds = line.split()
             row = f"{threads} thread{'s' if threads != '1' else ''}"
-            for series, each in zip(("lines", "beside", "apart"), nanoseconds):
+            for series, each in zip(("hints", "beside", "apart"), nanoseconds):
                 record.add(row, series, float(each))
 
 
@@ -545,7 +545,7 @@ def levels(runs):
         (folder / f"{name}.svg").write_text(drawn)
 
 
-PARTS = {"lookups": lookups, "lines": lines, "memory": memory, "building": building,
+PARTS = {"lookups": lookups, "hints": hints, "memory": memory, "building": building,
          "segmenting": segmenting, "pieces": pieces, "questions": questions, "boxes": boxes,
          "near": near, "nearest": nearest, "map": ordered_map, "readers": readers,
          "senders": senders, "explain": explain, "from_c": from_c, "levels": levels}

@@ -12,7 +12,7 @@ from tables import (EIGHT, NEIGHBOURS, PAGE, REGULAR, TABLES, WAYS, between, fit
 LOOKUPS = "lookups.cpp", "learned.hpp", "pgm_index.hpp", "searches.hpp", "make_inputs.cpp"
 MEASURES = {
     "lookups": (("bucketed", "levels"), ("lookups",), (*LOOKUPS, "searchsorted.py")),
-    "lines": (("lines",), ("borrowed",), LOOKUPS),
+    "hints": (("hints",), ("borrowed",), LOOKUPS),
     "memory": (("levels", "index_file"), ("lookups",), LOOKUPS),
     "building": (("levels", "index_file", "sosd_reader"), (), ("reading.cpp", "pgm_index.hpp")),
     "segmenting": (("segmenter", "piece_join"), ("segmenting",), ("fitter.cpp", "pgm_index.hpp")),
@@ -116,7 +116,7 @@ def seen_lookups(record):
             f"{part('16 index together')} and {part('64 index together')}")
 
 
-def seen_lines(record):
+def seen_hints(record):
     def part(way):
         return of_both(record, way, "lower_bound alone")
     return (f"{part('16 own alone')} of the former in the mean with ε 16, where the latter takes "
@@ -186,7 +186,7 @@ def seen_explain(record):
     return f"{part:.2f} of its processor time"
 
 
-SEEN = {"lookups": seen_lookups, "lines": seen_lines, "segmenting": seen_segmenting,
+SEEN = {"lookups": seen_lookups, "hints": seen_hints, "segmenting": seen_segmenting,
         "building": seen_building, "questions": seen_questions, "boxes": seen_boxes,
         "near": seen_near, "map": seen_map, "readers": seen_readers, "senders": seen_senders,
         "explain": seen_explain}

@@ -106,7 +106,7 @@ PICTURES = (
                ("RMI 2^20", "rmi_20 alone")),
         proved(("Index", "16 index alone"), ("Buckets", "16 buckets alone"),
                ("Index, 16", "16 index together"), ("Buckets, 16", "16 buckets together"))),
-    one("lines", "lines", "nanoseconds a question, ε 16",
+    one("hints", "hints", "nanoseconds a question, ε 16",
         beside(("std::lower_bound", "lower_bound alone"), ("C++ PGM", "pgm_16 alone"),
                ("RadixSpline", "spline_16 alone")),
         proved(("position", "16 own alone"), ("position, chained", "16 own chained"),
@@ -140,7 +140,7 @@ PICTURES = (
     one("saved", "building", "seconds, ε 64", proved(
         ("build", "build 1"), ("save", "save"), ("check", "check"))),
     one("from_c", "from_c", "nanoseconds a question of one thread", proved(
-        ("kuldebiq_find", "lines"), ("handles side by side", "beside"),
+        ("kuldebiq_find", "hints"), ("handles side by side", "beside"),
         ("64 bytes apart", "apart"))),
 )
 
@@ -219,15 +219,15 @@ def bars(picture, record):
 INDEXES = (
     ("Index", ("ε 16", "lookups", "16 index", "memory", "index 16"),
      ("ε 64", "lookups", "64 index", "memory", "index 64")),
-    ("lines", ("ε 16", "lines", "16 own", "lines", "16 own bytes"),
-     ("ε 64", "lines", "64 own", "lines", "64 own bytes")),
+    ("hints", ("ε 16", "hints", "16 own", "hints", "16 own bytes"),
+     ("ε 64", "hints", "64 own", "hints", "64 own bytes")),
     ("C++ PGM-index", ("ε 16", "lookups", "pgm_16", "memory", "pgm_16"),
      ("ε 64", "lookups", "pgm_64", "memory", "pgm_64")),
     ("C++ PGM-index by buckets", ("ε 16", "lookups", "buckets_16", "memory", "buckets_16")),
     ("RadixSpline", ("ε 16", "lookups", "spline_16", "memory", "spline_16")),
     ("RMI", ("2^16", "lookups", "rmi_16", "memory", "rmi_16")),
 )
-PARTS_OF_BYTES = "lookups", "lines", "memory"
+PARTS_OF_BYTES = "lookups", "hints", "memory"
 
 
 def points_of(point, found):

@@ -8,7 +8,7 @@
 #   --print         for a try: the record goes to out/bench/records, pictures to out/bench/pictures,
 #                   tables to the screen, and the tree stays as it is
 #
-# Parts: lookups lines memory building segmenting pieces questions boxes near nearest map readers
+# Parts: lookups hints memory building segmenting pieces questions boxes near nearest map readers
 # senders explain from_c, and levels, the pictures of indexes.
 #
 # A part writes its record first, bench/records/PART.json: the numbers of all rounds, the machine,

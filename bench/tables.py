@@ -139,16 +139,16 @@ def says_of_tables(record):
                   (("`Index`", "16 index"), ("`Buckets`", "16 buckets")))
 
 
-def says_of_lines(record):
+def says_of_hints(record):
     other = parts(record, "64 other alone", "lower_bound alone", EIGHT)
     return shares(record, (("C++ PGM, ε 16", "pgm_16"), ("RadixSpline, ε 16", "spline_16"),
                            ("`position`, ε 16", "16 own"), ("ε 64", "64 own")),
                   (("halving", "halving"), ("C++ PGM, ε 64", "pgm_64"),
                    ("`positions`, ε 16", "16 own"), ("ε 64", "64 own"))) + (
-        f" With the words of other keys {mean(other):.2f} ({max(other):.2f}) over the eight.")
+        f" With the hints of other keys {mean(other):.2f} ({max(other):.2f}) over the eight.")
 
 
-def says_of_words(record):
+def says_of_made_hints(record):
     sizes, builds = ([parts(record, f"{eps} own {what}", f"pgm_{eps} {what}", EIGHT)
                       for eps in (16, 64)] for what in ("bytes", "build"))
     said = ("In geometric means over the eight kinds, of the C++ PGM-index's: bytes "
@@ -291,21 +291,21 @@ TABLES = (
         ("RMI 2^20", alone("rmi_20")), ("`Index`", alone("16 index")),
         ("`Buckets`", alone("16 buckets")), ("`Index`, 16", together("16 index")),
         ("`Buckets`, 16", together("16 buckets"))], says_of_tables, keys_and_questions),
-    Table("lines", "lines", "nanoseconds", [
+    Table("hints", "hints", "nanoseconds", [
         ("`std::lower_bound`", alone("lower_bound")), ("C++ PGM, ε 16", alone("pgm_16")),
         ("ε 64", alone("pgm_64")), ("RadixSpline, ε 16", alone("spline_16")),
         ("`position`, ε 16", alone("16 own")), ("ε 64", alone("64 own")),
-        ("ε 64, words of other keys", alone("64 other")), ("halving, 16", together("halving")),
+        ("ε 64, hints of other keys", alone("64 other")), ("halving, 16", together("halving")),
         ("C++ PGM, 16, ε 64", together("pgm_64")), ("`positions`, ε 16", together("16 own")),
-        ("ε 64", together("64 own"))], says_of_lines, keys_and_questions),
-    Table("words of lines", "lines", "bytes; milliseconds of building", [
+        ("ε 64", together("64 own"))], says_of_hints, keys_and_questions),
+    Table("hints that are made", "hints", "bytes; milliseconds of building", [
         (head, number(f"{way} {what}", form))
         for what, form, heads in (
-            ("bytes", COUNT, ("C++ PGM, ε 16", "ε 64", "RadixSpline, ε 16", "words, ε 16", "ε 64")),
+            ("bytes", COUNT, ("C++ PGM, ε 16", "ε 64", "RadixSpline, ε 16", "hints, ε 16", "ε 64")),
             ("build", "{:.0f}", ("C++ PGM builds, ε 16", "ε 64", "RadixSpline, ε 16",
-                                 "`lines_of`, ε 16", "ε 64")))
+                                 "`hints_of`, ε 16", "ε 64")))
         for head, way in zip(heads, ("pgm_16", "pgm_64", "spline_16", "16 own", "64 own"))],
-        says_of_words),
+        says_of_made_hints),
     Table("building", "building", "seconds", [
         ("`build`, 1", number("build 1", "{:.3g}")), ("4", number("build 4", "{:.3g}")),
         ("C++ build", number("C++ build", "{:.3g}")), ("C++ read", number("C++ read", "{:.3g}"))],
@@ -357,6 +357,6 @@ TABLES = (
             ("RMI 2^16", "rmi_16"), ("`btree_map`, with the keys", "btree_map"))],
         says_of_memory),
     Table("from C", "from_c", "threads; nanoseconds", [
-        ("`kuldebiq_find`", number("lines")), ("handles side by side", number("beside")),
+        ("`kuldebiq_find`", number("hints")), ("handles side by side", number("beside")),
         ("64 bytes apart", number("apart"))], of=keys_and_questions),
 )

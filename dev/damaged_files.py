@@ -1,12 +1,12 @@
 #!/usr/bin/env python3
 """Runs the built program on damaged files: damaged_files.py [CASES [SEED [PROGRAM]]].
 
-Good key files, point files, scripts, saved indexes and files of lines are damaged: bytes are
+Good key files, point files, scripts, saved indexes and files of hints are damaged: bytes are
 flipped, cut off or doubled, counts lie, and files are random bytes. Each run has an address space of
 1 GiB. It has to end with one of the statuses 0 to 8, never by a signal, and with the status's text:
 some lines and no fault line, nothing, or one fault line of that status. What `save` writes has to be
 an index that `check` passes, and a damaged index that `check` passes has to be the one that `save`
-writes. What `find` writes has to be what `query` writes, whatever lines lead it. At the end it
+writes. What `find` writes has to be what `query` writes, whatever hints lead it. At the end it
 prints how often each status came, and for what.
 """
 import collections
@@ -25,7 +25,7 @@ FAULTS = {2: b"fault usage", 3: b"fault read", 5: b"fault keys ", 6: b"fault scr
           7: b"fault full ", 8: b"fault index "}
 LIMIT = 1 << 30
 MAGIC = b"PGMINDEX"
-LINES = b"kbqline1"
+HINTS = b"KBQHINT1"
 
 
 def key_file(rng, wide):
@@ -86,7 +86,7 @@ def damaged(rng, good):
     return bytes(data)
 
 
-COMMANDS = ("build", "explain", "query", "relax", "save", "check", "lines", "find", "box", "near",
+COMMANDS = ("build", "explain", "query", "relax", "save", "check", "hints", "find", "box", "near",
             "replay", "mix")
 
 
@@ -102,10 +102,10 @@ def random_index(rng):
     return MAGIC + struct.pack("<III", *bounds, len(levels)) + b"".join(levels)
 
 
-def random_lines(rng):
-    """Words in the format of lines or in none, with any numbers in them."""
-    words = [rng.randrange(rng.choice((8, 1 << 64))) for _ in range(rng.randrange(40))]
-    return rng.choice((LINES, b"")) + struct.pack(f"<{len(words)}Q", *words)
+def random_hints(rng):
+    """Hints in the format or in none, with any numbers in them."""
+    numbers = [rng.randrange(rng.choice((8, 1 << 64))) for _ in range(rng.randrange(40))]
+    return rng.choice((HINTS, b"")) + struct.pack(f"<{len(numbers)}Q", *numbers)
 
 
 def map_case(rng, command):
@@ -134,10 +134,10 @@ def key_case(rng, command, saved):
         return ["check", "file", "index"] + narrow, files
     if command == "find":
         files = {"file": keys if rng.random() < 0.9 else files["file"]}
-        good = saved(["lines", "file"] + eps + narrow, {"file": keys})
-        files["lines"] = damaged(rng, good if rng.random() < 0.8 else random_lines(rng))
+        good = saved(["hints", "file"] + eps + narrow, {"file": keys})
+        files["hints"] = damaged(rng, good if rng.random() < 0.8 else random_hints(rng))
         files["script"] = damaged(rng, script(rng, [("find", 1)]))
-        return ["find", "file", "lines", "script"] + narrow, files
+        return ["find", "file", "hints", "script"] + narrow, files
     words = [command, "file"] + eps + narrow
     if command in ("query", "relax"):
         files["script"] = damaged(rng, script(rng, [("find", 1)]))
@@ -167,8 +167,8 @@ def wrong(status, out, command):
     lines = out.split(b"\n")
     if status == 0 and command == "save":
         return None if out.startswith(MAGIC) else "no saved index"
-    if status == 0 and command == "lines":
-        return None if out.startswith(LINES) and len(out) % 8 == 0 else "no words of lines"
+    if status == 0 and command == "hints":
+        return None if out.startswith(HINTS) and len(out) % 8 == 0 else "no hints"
     if status == 0:
         whole = b"fault" not in out and (not out or out.endswith(b"\n"))
         return None if whole else "a text with a fault"

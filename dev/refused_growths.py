@@ -49,8 +49,8 @@ void *aligned_alloc(size_t a, size_t n) { return OR_REFUSED(__libc_memalign(a, n
 
 def rows():
     """Words and what is written to the file SCRIPT: one cut, several levels, points, boxes, updates
-    in batches and of senders, drawn inputs, an index that is built, saved and checked, and lines
-    that are made and lead. INDEX and LINES are an index and lines that the program wrote."""
+    in batches and of senders, drawn inputs, an index that is built, saved and checked, and hints
+    that are made and lead. INDEX and HINTS are an index and hints that the program wrote."""
     puts = "".join(f"put {key} {key}\n" for key in range(700))
     dealt = "".join(f"put {key} {key}\n" for key in range(200))
     finds = "find 7\nfind 99991\n"
@@ -72,8 +72,8 @@ def rows():
          dealt + "get 7\nnext 100\n"),
         (["save", primes, *two], None),
         (["check", primes, "INDEX"], None),
-        (["lines", primes, "--eps", "4"], None),
-        (["find", primes, "LINES", "SCRIPT"], finds),
+        (["hints", primes, "--eps", "4"], None),
+        (["find", primes, "HINTS", "SCRIPT"], finds),
         (["drill", "300", "7", "--workers", "2"], None),
     ]
 
@@ -126,8 +126,8 @@ def main():
         with open(source, "w") as file:
             file.write(SHIM)
         subprocess.run(["cc", "-O2", "-shared", "-fPIC", "-o", shim, source, "-ldl"], check=True)
-        files = {name: os.path.join(folder, name.lower()) for name in ("SCRIPT", "INDEX", "LINES")}
-        for name, command in (("INDEX", "save"), ("LINES", "lines")):
+        files = {name: os.path.join(folder, name.lower()) for name in ("SCRIPT", "INDEX", "HINTS")}
+        for name, command in (("INDEX", "save"), ("HINTS", "hints")):
             with open(files[name], "wb") as file:
                 made = [program, command, "data/primes.keys", "--eps", "4"]
                 file.write(subprocess.run(made, cwd=TOP, stdout=subprocess.PIPE, check=True).stdout)

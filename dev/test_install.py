@@ -100,10 +100,10 @@ class Install(unittest.TestCase):
         self.assertRegex(self.asked()[0], "^copy: all check --jobs [234]$")
         self.assertEqual(self.asked()[1:], ["kuldebiq: lib"])
         self.assertNotIn("side_by_side", ran.stderr)
-        for name in ("budget", "lines", "piece_join", "levels", "kuldebiq"):
+        for name in ("budget", "hints", "piece_join", "levels", "kuldebiq"):
             self.assertIn(f"kuldebiq: {name} is proved\n", ran.stderr)
         # What doesn't stand on `levels` is taken from the copy.
-        for name, is_taken in (("budget", True), ("lines", True), ("levels", False), ("near", False)):
+        for name, is_taken in (("budget", True), ("hints", True), ("levels", False), ("near", False)):
             stamp = self.top / f"crates/{name}/out/rlib/stamp"
             self.assertEqual(stamp.exists(), is_taken, name)
         (self.room / "asked").unlink()

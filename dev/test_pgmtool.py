@@ -112,7 +112,7 @@ class Words(unittest.TestCase):
     def test_words_that_are_taken(self):
         for words in ["build f", "build f --eps 0", "build --eps=1048576 f", "build --eps +007 f",
                       "build f --narrow --rec 4", "drill 1 0", "drill 1000000 2147483647",
-                      "build -- --eps", "replay s --levels 26", "lines f --eps 3"]:
+                      "build -- --eps", "replay s --levels 26", "hints f --eps 3"]:
             self.assertEqual(self.wrong(*words.split()), "", words)
 
     def test_words_that_are_not(self):

@@ -17,8 +17,8 @@ replay SCRIPT|what a map answers to a script's questions, after its updates and 
 mix SCRIPT|what `replay` writes, of updates that senders send in threads of their own
 save FILE|the index of a key file, as bytes that `check` takes
 check FILE INDEX|whether a saved index is the one index of a key file
-lines FILE|hints for a key file: numbers that say where in it to look first
-find FILE LINES SCRIPT|what `query` writes, led by a file of hints, whatever that holds
+hints FILE|hints for a key file: numbers that say where in it to look first
+find FILE HINTS SCRIPT|what `query` writes, led by a file of hints, whatever that holds
 drill N SEED|what is counted of N inputs of each kind, drawn from a seed
 TEXT
 }
@@ -31,8 +31,8 @@ N|1|1000000||drill|how many inputs of each kind
 SEED|0|2147483647||drill|what they are drawn from
 --eps|0|1048576|64|build explain query relax save drill|error bound of level 0, in places
 --rec|0|1048576|4|build explain query relax save drill|that of the levels above
---eps|0|1048576|32|lines|error bound of the lines, in places
---narrow||||build explain query relax save check lines find|keys are 32 bits wide, and not 64
+--eps|0|1048576|32|hints|error bound of the hints, in places
+--narrow||||build explain query relax save check hints find|keys are 32 bits wide, and not 64
 --workers|1|64|4|build explain query relax save drill|threads that build it
 --windows||||query|the windows along each lookup in the index, too
 --buckets|0|20|0|query|find segments by a table over so many top bits of a key, by none with 0
@@ -52,7 +52,7 @@ remarks() {
 box|A point is in a box if each of its coordinates is from LOW_i to HIGH_i, both included.
 near|The distance is the greatest difference of a coordinate (Chebyshev), not the Euclidean one.
 relax|The slack is how many segments fewer another index could have, at most.
-find|LINES is what `lines` wrote for the keys; any other file makes it slow, and no answer wrong.
+find|HINTS is what `hints` wrote for the keys; any other file makes it slow, and no answer wrong.
 TEXT
 }
 

@@ -106,7 +106,7 @@ if have "$cxx"; then
     both "$cxx" examples/cpp/compare.cpp 50000 -std=gnu++17 -pthread -Wno-pedantic
     both "$cxx" examples/cpp/threads.cpp "" -std=c++17 -pthread
     if has_spans "$cxx"; then
-        both "$cxx" examples/cpp/lines.cpp "" -std=c++20
+        both "$cxx" examples/cpp/hints.cpp "" -std=c++20
     fi
     ran="$ran, C++"
 fi

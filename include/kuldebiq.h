@@ -8,12 +8,11 @@
  * hint is a number that leads a lookup and need not be trusted. An entry is what an update costs a
  * map: one for each put or deletion.
  *
- * What to take. Take lines (kuldebiq_find) where many threads ask at once, or where the keys are to
- * stay where they lie, as in a mapped file: a lookup is given the keys and the words of the lines,
- * which are hints; it needs no handle and takes no memory. Else take an index, which keeps a copy
- * of the keys and has a handle for each thread, or a map, whose keys come and go. A call writes to
- * its handle, so handles that lie in one cache line slow one another down: give each at least 64
- * bytes of its own.
+ * What to take. Take hints (kuldebiq_find) where many threads ask at once, or where the keys are to
+ * stay where they lie, as in a mapped file: a lookup is given the keys and the hints, needs no
+ * handle and takes no memory. Else take an index, which keeps a copy of the keys and has a handle
+ * for each thread, or a map, whose keys come and go. A call writes to its handle, so handles that
+ * lie in one cache line slow one another down: give each at least 64 bytes of its own.
  *
  * What is proved. What a call answers, what it writes, and what a handle holds afterwards are
  * proved to be what is said below, if the caller keeps to the rules here. Three things are tested
@@ -21,8 +20,8 @@
  * list, and that what a handle held is freed. How long a call takes and how much memory it asks for
  * is described only.
  *
- * Handles. A kuldebiq_index, a kuldebiq_map or a kuldebiq_lines is a variable of yours that holds
- * an index, a map or lines, or nothing. Begin with KULDEBIQ_NOTHING. From then on only the calls
+ * Handles. A kuldebiq_index, a kuldebiq_map or a kuldebiq_hints is a variable of yours that holds
+ * an index, a map or hints, or nothing. Begin with KULDEBIQ_NOTHING. From then on only the calls
  * change it: don't copy it, don't write to it, and don't free what it points to. The _free call
  * frees what the handle holds and leaves it holding nothing; it may be called again. A call that
  * fills a handle frees what it held before. Each other call refuses a handle that holds nothing,
@@ -32,8 +31,8 @@
  * aligned as its type needs, and points to as many values of its type as the call is told. The
  * values of one pointer lie apart from those of each other pointer of the call, unless both are
  * only read. A pointer that goes with a count may be null if the count is 0: (NULL, 0) is an empty
- * list in each call, and no room. Keys, words of lines, questions, updates and pairs to load are
- * only read. Nobody may write to them while the call runs; they may be freed once it has returned.
+ * list in each call, and no room. Keys, hints, questions, updates and pairs to load are only
+ * read. Nobody may write to them while the call runs; they may be freed once it has returned.
  * Nothing that a call gives points into what a handle holds. A compiler that knows the attribute
  * nonnull warns of a null handle, and -fsanitize=undefined reports one where it is passed.
  *
@@ -54,7 +53,7 @@
  * between the two, such as a lock, or starting or joining a thread. No call waits, and none starts
  * a thread.
  *
- * Costs. None of this is proved. A lookup by lines or in an index searches a few segments, and then
+ * Costs. None of this is proved. A lookup by hints or in an index searches a few segments, and then
  * the keys near the place to which they lead: epsilon says how near. If many questions come in one
  * call, their reads of memory overlap.
  *
@@ -208,10 +207,10 @@ typedef struct kuldebiq_map {
     void *held;
 } kuldebiq_map;
 
-/* A handle to lines, or to nothing. */
-typedef struct kuldebiq_lines {
+/* A handle to hints, or to nothing. */
+typedef struct kuldebiq_hints {
     void *held;
-} kuldebiq_lines;
+} kuldebiq_hints;
 
 /* What a handle begins with: kuldebiq_index index = KULDEBIQ_NOTHING; */
 #define KULDEBIQ_NOTHING {NULL}
@@ -289,7 +288,7 @@ KULDEBIQ_IS(sizeof(void *) == 8 && sizeof(size_t) == 8);
 KULDEBIQ_IS(sizeof(kuldebiq_answer) == 16 && offsetof(kuldebiq_answer, number) == 8);
 KULDEBIQ_IS(sizeof(kuldebiq_index) == 8 && offsetof(kuldebiq_index, held) == 0);
 KULDEBIQ_IS(sizeof(kuldebiq_map) == 8 && offsetof(kuldebiq_map, held) == 0);
-KULDEBIQ_IS(sizeof(kuldebiq_lines) == 8 && offsetof(kuldebiq_lines, held) == 0);
+KULDEBIQ_IS(sizeof(kuldebiq_hints) == 8 && offsetof(kuldebiq_hints, held) == 0);
 KULDEBIQ_IS(sizeof(kuldebiq_segment) == 64 && offsetof(kuldebiq_segment, a) == 4);
 KULDEBIQ_IS(offsetof(kuldebiq_segment, b) == 8 && offsetof(kuldebiq_segment, side) == 12);
 KULDEBIQ_IS(offsetof(kuldebiq_segment, p) == 16 && offsetof(kuldebiq_segment, q) == 20);
@@ -308,29 +307,29 @@ KULDEBIQ_IS(sizeof(kuldebiq_stretch) == 16 && offsetof(kuldebiq_stretch, end) ==
 /* The version of the library, to be compared with KULDEBIQ_VERSION, that of this header. */
 uint32_t kuldebiq_version(void);
 
-/* ---- Lookups by lines ----
+/* ---- Lookups by hints ----
  *
- * The keys stay yours, and so do the words of the lines, which lead a lookup among them. Both may
- * lie in memory or be mapped from files. The words are hints: those that kuldebiq_lines_write gave
- * for these very keys make a lookup fast; damaged words, those of other keys, or none, (NULL, 0),
- * make it slower and nothing else. Nor do the keys have to be in order. Where they fall somewhere,
+ * The keys stay yours, and so do the hints, numbers that lead a lookup among them. Both may lie in
+ * memory or be mapped from files. The hints that kuldebiq_hints_write gave for these very keys make
+ * a lookup fast; damaged hints, those of other keys, or none, (NULL, 0), make it slower and nothing
+ * else. Nor do the keys have to be in order. Where they fall somewhere,
  * a lookup returns a place that brackets the question: the key before that place is below the
  * question, unless the place is 0, and the key at it isn't, unless the place is count. There may be
- * several such places. Which one is returned depends on the words, and kuldebiq_find_many may write
+ * several such places. Which one is returned depends on the hints, and kuldebiq_find_many may write
  * another one than kuldebiq_find returns. */
 
 /* Returns how many keys are below the question, if the keys never fall: the place of the first key
  * that is not below the question, or count if there is none. In any keys it returns a place from 0
  * to count that brackets the question. */
-size_t kuldebiq_find(const uint64_t *keys, size_t count, const uint64_t *lines, size_t words,
+size_t kuldebiq_find(const uint64_t *keys, size_t count, const uint64_t *hints, size_t hint_count,
                      uint64_t question);
 
 /* Returns how many keys are at most the question, if the keys never fall: all of them for 2^64 - 1.
  * The keys that equal the question then stand from the place that kuldebiq_find returns up to this
  * one. In any keys it returns a place from 0 to count: the key before it is at most the question,
  * unless the place is 0, and the key at it isn't, unless the place is count. */
-size_t kuldebiq_find_past(const uint64_t *keys, size_t count, const uint64_t *lines, size_t words,
-                          uint64_t question);
+size_t kuldebiq_find_past(const uint64_t *keys, size_t count, const uint64_t *hints,
+                          size_t hint_count, uint64_t question);
 
 /* Writes the place of each question, faster than a call for each. If the keys never fall, it is
  * what kuldebiq_find returns, and in any keys a place that brackets the question. The number is how
@@ -339,45 +338,44 @@ size_t kuldebiq_find_past(const uint64_t *keys, size_t count, const uint64_t *li
  *
  * Refused with KULDEBIQ_TOO_LITTLE_ROOM. Then nothing is written. */
 KULDEBIQ_NODISCARD
-kuldebiq_answer kuldebiq_find_many(const uint64_t *keys, size_t count, const uint64_t *lines,
-                                   size_t words, const uint64_t *questions, size_t asked,
+kuldebiq_answer kuldebiq_find_many(const uint64_t *keys, size_t count, const uint64_t *hints,
+                                   size_t hint_count, const uint64_t *questions, size_t asked,
                                    size_t *places, size_t room);
 
-/* Makes the lines of the sorted keys, and has the handle hold them. The keys are judged first,
- * before any memory is asked for. They aren't copied.
+/* Makes hints of the sorted keys, and has the handle hold them. The keys are judged first, before
+ * any memory is asked for. They aren't copied.
  *
- * epsilon is the error bound, in positions, at most 1,048,576. There are as few lines as possible
- * within epsilon of the keys' positions, as many as level 0 of an index has segments. The words
+ * epsilon is the error bound, in positions, at most 1,048,576. The hints describe as few lines as
+ * possible within epsilon of the keys' positions, as many as level 0 of an index has segments. They
  * lead each question to within epsilon + 2 of its position. A greater bound takes as many lines or
  * fewer, and a lookup reads more keys.
  *
- * The number is how many words there are: six, a table, and three for each line, in all at most six
+ * The number is how many hints there are: six, a table, and three for each line, in all at most six
  * and five for each line. What the handle held before is freed.
  *
  * Refused with KULDEBIQ_EPSILON_TOO_GREAT, KULDEBIQ_TOO_MANY_KEYS, KULDEBIQ_UNSORTED or
  * KULDEBIQ_NO_MEMORY, judged in this order. Then the handle holds what it held. */
 KULDEBIQ_NODISCARD
-kuldebiq_answer kuldebiq_lines_build(kuldebiq_lines *lines, const uint64_t *keys, size_t count,
+kuldebiq_answer kuldebiq_hints_build(kuldebiq_hints *hints, const uint64_t *keys, size_t count,
                                      uint32_t epsilon) KULDEBIQ_NOT_NULL((1));
 
-/* The number is how many words the lines have.
+/* The number is how many hints the handle holds.
  *
  * Refused with KULDEBIQ_NOTHING_HELD. */
 KULDEBIQ_NODISCARD
-kuldebiq_answer kuldebiq_lines_words(kuldebiq_lines *lines) KULDEBIQ_NOT_NULL((1));
+kuldebiq_answer kuldebiq_hints_count(kuldebiq_hints *hints) KULDEBIQ_NOT_NULL((1));
 
-/* Writes the words of the lines, to be kept, saved or mapped. A file of them has each word in 64
- * bits, lowest byte first. The number is how many words there are. room is how many words there is
- * room for.
+/* Writes the hints, to be kept, saved or mapped. A file of them has each hint in 64 bits, lowest
+ * byte first. The number is how many hints there are. room is how many hints there is room for.
  *
  * Refused with KULDEBIQ_NOTHING_HELD or KULDEBIQ_TOO_LITTLE_ROOM, judged in this order. Then
  * nothing is written. */
 KULDEBIQ_NODISCARD
-kuldebiq_answer kuldebiq_lines_write(kuldebiq_lines *lines, uint64_t *words, size_t room)
+kuldebiq_answer kuldebiq_hints_write(kuldebiq_hints *hints, uint64_t *to, size_t room)
     KULDEBIQ_NOT_NULL((1));
 
 /* Frees what the handle holds, if anything. It holds nothing then. */
-void kuldebiq_lines_free(kuldebiq_lines *lines) KULDEBIQ_NOT_NULL((1));
+void kuldebiq_hints_free(kuldebiq_hints *hints) KULDEBIQ_NOT_NULL((1));
 
 /* ---- Boxes in sorted codes ----
  *

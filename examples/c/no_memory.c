@@ -100,23 +100,23 @@ int main(void) {
                positions[0] == 100 && positions[2] == 102,
            "positions without memory");
     expect(is(kuldebiq_index_share(&index, &other), KULDEBIQ_NO_MEMORY, 0), "a share");
-    /* Places come by lines, also without memory; the lines that a handle holds stand. */
-    kuldebiq_lines lines = KULDEBIQ_NOTHING;
-    static uint64_t words[COUNT];
+    /* Places come by hints, also without memory; the hints that a handle holds stand. */
+    kuldebiq_hints hints = KULDEBIQ_NOTHING;
+    static uint64_t numbers[COUNT];
     granted = 1000;
-    answer = kuldebiq_lines_build(&lines, keys, COUNT, 64);
-    expect(answer.status == KULDEBIQ_DONE && answer.number <= COUNT, "lines");
+    answer = kuldebiq_hints_build(&hints, keys, COUNT, 64);
+    expect(answer.status == KULDEBIQ_DONE && answer.number <= COUNT, "hints");
     for (tries = 0;; tries++) {
         granted = tries;
-        kuldebiq_answer other_lines = kuldebiq_lines_build(&lines, keys, 4000, 2);
-        if (other_lines.status == KULDEBIQ_DONE) break;
-        expect(is(other_lines, KULDEBIQ_NO_MEMORY, 0), "lines without memory");
-        expect(is(kuldebiq_lines_words(&lines), KULDEBIQ_DONE, answer.number), "that lines stand");
+        kuldebiq_answer other_hints = kuldebiq_hints_build(&hints, keys, 4000, 2);
+        if (other_hints.status == KULDEBIQ_DONE) break;
+        expect(is(other_hints, KULDEBIQ_NO_MEMORY, 0), "hints without memory");
+        expect(is(kuldebiq_hints_count(&hints), KULDEBIQ_DONE, answer.number), "that hints stand");
     }
     granted = 0;
-    answer = kuldebiq_lines_write(&lines, words, COUNT);
-    expect(answer.status == KULDEBIQ_DONE, "words without memory");
-    expect(kuldebiq_find(keys, 4000, words, answer.number, 50) == 8, "a place without memory");
+    answer = kuldebiq_hints_write(&hints, numbers, COUNT);
+    expect(answer.status == KULDEBIQ_DONE, "hints without memory");
+    expect(kuldebiq_find(keys, 4000, numbers, answer.number, 50) == 8, "a place without memory");
     kuldebiq_map map = KULDEBIQ_NOTHING;
     expect(is(kuldebiq_map_new(&map, 4), KULDEBIQ_NO_MEMORY, 0), "a map");
     granted = 1000;
@@ -133,7 +133,7 @@ int main(void) {
     }
     load_and_compact(&map);
     kuldebiq_map_free(&map);
-    kuldebiq_lines_free(&lines);
+    kuldebiq_hints_free(&hints);
     kuldebiq_index_free(&index);
     kuldebiq_index_free(&other);
     expect(blocks == 0, "that all memory is given back");

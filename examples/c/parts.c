@@ -1,7 +1,7 @@
-/* A sorted list in four parts, each a file that is mapped, with lines of its own: docs/scale.md. The
- * place of a question is the part's offset and the place in the part. Which part it is, is asked of
- * the parts' first keys, a list with lines of its own too. Each place is compared with that in the
- * whole list. */
+/* A sorted list in four parts, each a mapped file with hints of its own: docs/scale.md. The place of
+ * a question is the part's offset and the place in the part. Which part it is, is asked of the parts'
+ * first keys, a list with hints of its own too. Each place is compared with that in the whole
+ * list. */
 #define _POSIX_C_SOURCE 200809L
 #include "kuldebiq.h"
 
@@ -22,26 +22,26 @@ static void expect(bool holds, const char *what) {
     }
 }
 
-typedef struct words {
+typedef struct numbers {
     const uint64_t *at;
     size_t count;
-} words;
+} numbers;
 
-/* The lines of keys, in room that the caller frees. */
-static words lines_of(words keys) {
-    kuldebiq_lines lines = KULDEBIQ_NOTHING;
-    kuldebiq_answer made = kuldebiq_lines_build(&lines, keys.at, keys.count, EPSILON);
+/* Hints of keys, in room that the caller frees. */
+static numbers hints_of(numbers keys) {
+    kuldebiq_hints hints = KULDEBIQ_NOTHING;
+    kuldebiq_answer made = kuldebiq_hints_build(&hints, keys.at, keys.count, EPSILON);
     expect(made.status == KULDEBIQ_DONE, kuldebiq_status_text(made.status));
     uint64_t *room = malloc(made.number * 8);
     expect(room != NULL, "no memory was found");
-    kuldebiq_answer written = kuldebiq_lines_write(&lines, room, made.number);
+    kuldebiq_answer written = kuldebiq_hints_write(&hints, room, made.number);
     expect(written.status == KULDEBIQ_DONE, kuldebiq_status_text(written.status));
-    kuldebiq_lines_free(&lines);
-    return (words){room, written.number};
+    kuldebiq_hints_free(&hints);
+    return (numbers){room, written.number};
 }
 
 /* Keys in a file without a name, where they are mapped. */
-static words stored(words keys) {
+static numbers stored(numbers keys) {
     char name[] = "/tmp/kuldebiq-XXXXXX";
     int file = mkstemp(name);
     expect(file >= 0, "a file that can't be made");
@@ -51,23 +51,23 @@ static words stored(words keys) {
     void *at = mmap(NULL, size, PROT_READ, MAP_SHARED, file, 0);
     expect(at != MAP_FAILED, "a file that can't be mapped");
     close(file);
-    return (words){at, keys.count};
+    return (numbers){at, keys.count};
 }
 
-/* The parts: their keys, their lines, the first keys with lines of their own, and the offsets. */
+/* The parts: their keys, their hints, the first keys with hints of their own, and the offsets. */
 typedef struct parts {
-    words keys[PARTS], lines[PARTS], first_lines;
+    numbers keys[PARTS], hints[PARTS], first_hints;
     uint64_t first[PARTS];
     uint64_t offset[PARTS];
 } parts;
 
 static uint64_t place_in(const parts *all, uint64_t question) {
-    size_t before = kuldebiq_find((const uint64_t *)all->first, PARTS, all->first_lines.at,
-                                  all->first_lines.count, question);
+    size_t before = kuldebiq_find((const uint64_t *)all->first, PARTS, all->first_hints.at,
+                                  all->first_hints.count, question);
     size_t part = before == 0 ? 0 : before - 1;
-    words keys = all->keys[part], lines = all->lines[part];
+    numbers keys = all->keys[part], hints = all->hints[part];
     return all->offset[part] +
-           kuldebiq_find(keys.at, keys.count, lines.at, lines.count, question);
+           kuldebiq_find(keys.at, keys.count, hints.at, hints.count, question);
 }
 
 int main(void) {
@@ -79,14 +79,14 @@ int main(void) {
     static const size_t edge[PARTS + 1] = {0, 10001, 10002, 70000, COUNT};
     parts all;
     for (int i = 0; i < PARTS; i++) {
-        all.keys[i] = stored((words){squares + edge[i], edge[i + 1] - edge[i]});
-        all.lines[i] = lines_of(all.keys[i]);
+        all.keys[i] = stored((numbers){squares + edge[i], edge[i + 1] - edge[i]});
+        all.hints[i] = hints_of(all.keys[i]);
         all.first[i] = squares[edge[i]];
         all.offset[i] = edge[i];
     }
-    all.first_lines = lines_of((words){all.first, PARTS});
+    all.first_hints = hints_of((numbers){all.first, PARTS});
 
-    words whole = lines_of((words){squares, COUNT});
+    numbers whole = hints_of((numbers){squares, COUNT});
     for (uint64_t i = 0; i < COUNT; i++) {
         for (uint64_t q = squares[i] < 1 ? 0 : squares[i] - 1; q <= squares[i] + 1; q++) {
             expect(place_in(&all, q) ==
@@ -100,9 +100,9 @@ int main(void) {
 
     for (int i = 0; i < PARTS; i++) {
         munmap((void *)(uintptr_t)all.keys[i].at, all.keys[i].count * 8);
-        free((void *)(uintptr_t)all.lines[i].at);
+        free((void *)(uintptr_t)all.hints[i].at);
     }
-    free((void *)(uintptr_t)all.first_lines.at);
+    free((void *)(uintptr_t)all.first_hints.at);
     free((void *)(uintptr_t)whole.at);
     free(squares);
     return 0;

@@ -60,41 +60,41 @@ Keys random_questions(std::mt19937_64 &random, const Keys &keys) {
     return questions;
 }
 
-// The words of the lines of keys, behind which two more numbers stay as they are.
-Keys lines_of(const Keys &keys, std::uint32_t epsilon) {
-    kuldebiq_lines lines = KULDEBIQ_NOTHING;
-    expect(is(kuldebiq_lines_words(&lines), KULDEBIQ_NOTHING_HELD, 0), "no words of no lines");
-    const kuldebiq_answer made = kuldebiq_lines_build(&lines, keys.data(), keys.size(), epsilon);
-    expect(made.status == KULDEBIQ_DONE && gives(kuldebiq_lines_words(&lines), made.number),
-           "how many words");
-    Keys words(made.number + 2, 7);
-    expect(is(kuldebiq_lines_write(&lines, words.data(), made.number - 1), KULDEBIQ_TOO_LITTLE_ROOM,
+// Hints of keys, behind which two more numbers stay as they are.
+Keys hints_of(const Keys &keys, std::uint32_t epsilon) {
+    kuldebiq_hints held = KULDEBIQ_NOTHING;
+    expect(is(kuldebiq_hints_count(&held), KULDEBIQ_NOTHING_HELD, 0), "no number of no hints");
+    const kuldebiq_answer made = kuldebiq_hints_build(&held, keys.data(), keys.size(), epsilon);
+    expect(made.status == KULDEBIQ_DONE && gives(kuldebiq_hints_count(&held), made.number),
+           "how many hints");
+    Keys hints(made.number + 2, 7);
+    expect(is(kuldebiq_hints_write(&held, hints.data(), made.number - 1), KULDEBIQ_TOO_LITTLE_ROOM,
               made.number) &&
-               words[0] == 7 &&
-               is(kuldebiq_lines_write(&lines, nullptr, 0), KULDEBIQ_TOO_LITTLE_ROOM, made.number),
-           "room for too few words");
-    expect(gives(kuldebiq_lines_write(&lines, words.data(), words.size()), made.number), "the words");
-    expect(words[made.number] == 7 && words[made.number + 1] == 7, "what lies behind the words");
-    words.resize(made.number);
-    const std::uint64_t lines_told = words[2];
-    expect(words.size() >= 6 + 3 * lines_told && words.size() <= 6 + 5 * lines_told,
-           "how many words there are for so many lines");
+               hints[0] == 7 &&
+               is(kuldebiq_hints_write(&held, nullptr, 0), KULDEBIQ_TOO_LITTLE_ROOM, made.number),
+           "room for too few hints");
+    expect(gives(kuldebiq_hints_write(&held, hints.data(), hints.size()), made.number), "the hints");
+    expect(hints[made.number] == 7 && hints[made.number + 1] == 7, "what lies behind the hints");
+    hints.resize(made.number);
+    const std::uint64_t lines = hints[2];
+    expect(hints.size() >= 6 + 3 * lines && hints.size() <= 6 + 5 * lines,
+           "how many hints there are for so many lines");
     // A refusal leaves the handle as it is.
     const Keys falling{1, 4, 4, 3, 2};
-    expect(is(kuldebiq_lines_build(&lines, falling.data(), 5, epsilon), KULDEBIQ_UNSORTED, 3) &&
-               is(kuldebiq_lines_build(&lines, falling.data(), 5, 1048577), KULDEBIQ_EPSILON_TOO_GREAT,
+    expect(is(kuldebiq_hints_build(&held, falling.data(), 5, epsilon), KULDEBIQ_UNSORTED, 3) &&
+               is(kuldebiq_hints_build(&held, falling.data(), 5, 1048577), KULDEBIQ_EPSILON_TOO_GREAT,
                   1048577) &&
-               gives(kuldebiq_lines_words(&lines), made.number),
-           "lines that are refused");
-    kuldebiq_lines_free(&lines);
-    kuldebiq_lines_free(&lines);
-    return words;
+               gives(kuldebiq_hints_count(&held), made.number),
+           "hints that are refused");
+    kuldebiq_hints_free(&held);
+    kuldebiq_hints_free(&held);
+    return hints;
 }
 
 // The places of all questions, in a room for three more, which stay as they are.
-std::vector<std::size_t> places_of(const Keys &keys, const Keys &words, const Keys &questions) {
+std::vector<std::size_t> places_of(const Keys &keys, const Keys &hints, const Keys &questions) {
     std::vector<std::size_t> places(questions.size() + 3, 7);
-    expect(gives(kuldebiq_find_many(keys.data(), keys.size(), words.data(), words.size(),
+    expect(gives(kuldebiq_find_many(keys.data(), keys.size(), hints.data(), hints.size(),
                                     questions.data(), questions.size(), places.data(), places.size()),
                  questions.size()),
            "how many places");
@@ -103,16 +103,16 @@ std::vector<std::size_t> places_of(const Keys &keys, const Keys &words, const Ke
     return places;
 }
 
-// By these words, which need not be those of the keys.
-void compare_found(const Keys &keys, const Keys &words, const Keys &questions) {
-    const std::vector<std::size_t> places = places_of(keys, words, questions);
+// By these hints, which need not be those of the keys.
+void compare_found(const Keys &keys, const Keys &hints, const Keys &questions) {
+    const std::vector<std::size_t> places = places_of(keys, hints, questions);
     for (std::size_t i = 0; i < questions.size(); i++) {
         const std::uint64_t want = below(keys, questions[i]);
         const auto after = std::upper_bound(keys.begin(), keys.end(), questions[i]);
         expect(places[i] == want, "one of many places");
-        expect(kuldebiq_find(keys.data(), keys.size(), words.data(), words.size(), questions[i]) == want,
+        expect(kuldebiq_find(keys.data(), keys.size(), hints.data(), hints.size(), questions[i]) == want,
                "a place");
-        expect(kuldebiq_find_past(keys.data(), keys.size(), words.data(), words.size(), questions[i]) ==
+        expect(kuldebiq_find_past(keys.data(), keys.size(), hints.data(), hints.size(), questions[i]) ==
                    std::size_t(after - keys.begin()),
                "the place past a question");
     }
@@ -125,34 +125,34 @@ bool is_bracket(const Keys &keys, std::uint64_t question, std::size_t place) {
 }
 
 // Places in keys that may fall.
-void compare_brackets(const Keys &keys, const Keys &words, const Keys &questions) {
-    const std::vector<std::size_t> places = places_of(keys, words, questions);
+void compare_brackets(const Keys &keys, const Keys &hints, const Keys &questions) {
+    const std::vector<std::size_t> places = places_of(keys, hints, questions);
     for (std::size_t i = 0; i < questions.size(); i++) {
         const std::size_t place =
-            kuldebiq_find(keys.data(), keys.size(), words.data(), words.size(), questions[i]);
+            kuldebiq_find(keys.data(), keys.size(), hints.data(), hints.size(), questions[i]);
         expect(is_bracket(keys, questions[i], place), "a bracket");
         expect(is_bracket(keys, questions[i], places[i]), "one of many brackets");
     }
 }
 
 void compare_finding(std::mt19937_64 &random, const Keys &keys, const Keys &questions) {
-    const Keys words = lines_of(keys, EPSILON);
-    compare_found(keys, words, questions);
+    const Keys hints = hints_of(keys, EPSILON);
+    compare_found(keys, hints, questions);
     const Keys few(questions.begin(), questions.begin() + std::min<std::size_t>(questions.size(), 2000));
-    compare_found(keys, lines_of(keys, 0), few);
+    compare_found(keys, hints_of(keys, 0), few);
     compare_found(keys, {}, few);
-    compare_found({}, words, few);
-    Keys damaged = words;
+    compare_found({}, hints, few);
+    Keys damaged = hints;
     for (std::size_t i = 2; i < damaged.size(); i += 1 + random() % 8) damaged[i] = random();
     compare_found(keys, damaged, few);
     Keys mixed = keys;
     std::shuffle(mixed.begin(), mixed.end(), random);
-    compare_brackets(mixed, words, few);
+    compare_brackets(mixed, hints, few);
     // Each second key is 9: a question between them has eight brackets.
     const Keys in_turn{1, 9, 1, 9, 1, 9, 1, 9, 1, 9, 1, 9, 1, 9, 1, 9};
     compare_brackets(in_turn, {0, 0}, {0, 1, 5, 9, 10});
     std::size_t room[2] = {7, 7};
-    expect(is(kuldebiq_find_many(keys.data(), keys.size(), words.data(), words.size(), few.data(),
+    expect(is(kuldebiq_find_many(keys.data(), keys.size(), hints.data(), hints.size(), few.data(),
                                  few.size(), room, 1),
               KULDEBIQ_TOO_LITTLE_ROOM, few.size()) &&
                room[0] == 7 && room[1] == 7,
@@ -162,7 +162,7 @@ void compare_finding(std::mt19937_64 &random, const Keys &keys, const Keys &ques
     expect(kuldebiq_find(nullptr, 0, nullptr, 0, 5) == 0 &&
                kuldebiq_find_past(nullptr, 0, nullptr, 0, UINT64_MAX) == 0,
            "a place among no keys");
-    expect(lines_of({}, EPSILON).size() >= 6, "lines of no keys");
+    expect(hints_of({}, EPSILON).size() >= 6, "hints of no keys");
 }
 
 void compare_positions(kuldebiq_index &index, const Keys &keys, const Keys &questions) {
@@ -275,9 +275,9 @@ void compare_refusals(kuldebiq_index &index, const Keys &keys) {
                "too many keys");
         munmap(nowhere, many * sizeof(std::uint64_t));
     }
-    kuldebiq_lines no_lines = KULDEBIQ_NOTHING;
-    std::uint64_t words[6];
-    expect(is(kuldebiq_lines_write(&no_lines, words, 6), KULDEBIQ_NOTHING_HELD, 0), "no lines");
+    kuldebiq_hints no_hints = KULDEBIQ_NOTHING;
+    std::uint64_t numbers[6];
+    expect(is(kuldebiq_hints_write(&no_hints, numbers, 6), KULDEBIQ_NOTHING_HELD, 0), "no hints");
     expect(is(kuldebiq_positions(&index, keys.data(), 3, room, 2), KULDEBIQ_TOO_LITTLE_ROOM, 3),
            "room for too few");
     expect(is(kuldebiq_positions(&none, keys.data(), 3, room, 2), KULDEBIQ_NOTHING_HELD, 0),

@@ -4,7 +4,7 @@
 //     threads KEYS QUESTIONS
 //
 // it prints the nanoseconds that each thread takes for a question, for 1, 2 and 4 threads: by
-// kuldebiq_find over keys and lines that all share, and by kuldebiq_position with a handle for each,
+// kuldebiq_find over keys and hints that all share, and by kuldebiq_position with a handle for each,
 // side by side in one array, or 64 bytes apart. Threads that cost one another nothing take as long as
 // one.
 #include "kuldebiq.h"
@@ -47,15 +47,15 @@ Numbers random_numbers(std::uint64_t seed, std::size_t count) {
     return numbers;
 }
 
-Numbers lines_of(const Numbers &keys) {
-    kuldebiq_lines lines = KULDEBIQ_NOTHING;
-    const kuldebiq_answer made = kuldebiq_lines_build(&lines, keys.data(), keys.size(), 64);
-    expect(made.status == KULDEBIQ_DONE, "lines");
-    Numbers words(made.number);
-    const kuldebiq_answer written = kuldebiq_lines_write(&lines, words.data(), words.size());
-    expect(written.status == KULDEBIQ_DONE && written.number == words.size(), "their words");
-    kuldebiq_lines_free(&lines);
-    return words;
+Numbers hints_of(const Numbers &keys) {
+    kuldebiq_hints held = KULDEBIQ_NOTHING;
+    const kuldebiq_answer made = kuldebiq_hints_build(&held, keys.data(), keys.size(), 64);
+    expect(made.status == KULDEBIQ_DONE, "hints");
+    Numbers hints(made.number);
+    const kuldebiq_answer written = kuldebiq_hints_write(&held, hints.data(), hints.size());
+    expect(written.status == KULDEBIQ_DONE && written.number == hints.size(), "their hints");
+    kuldebiq_hints_free(&held);
+    return hints;
 }
 
 // Has each thread ask its questions, and adds what it is told to its sum. Gives the nanoseconds that
@@ -112,7 +112,7 @@ Numbers wanted(const Numbers &keys, const std::vector<Numbers> &questions) {
 void run(std::size_t count, std::size_t each, bool timed) {
     Numbers keys = random_numbers(1, count);
     std::sort(keys.begin(), keys.end());
-    const Numbers lines = lines_of(keys);
+    const Numbers hints = hints_of(keys);
     kuldebiq_index index = KULDEBIQ_NOTHING;
     expect(kuldebiq_index_build(&index, keys.data(), keys.size(), 64, 4).status == KULDEBIQ_DONE,
            "an index");
@@ -122,8 +122,8 @@ void run(std::size_t count, std::size_t each, bool timed) {
     if (timed) std::cout << "threads  find  side by side  64 bytes apart\n";
     for (const std::size_t threads : {1, 2, 4}) {
         Numbers found(4), beside(4), apart(4);
-        const double by_lines = asked(questions, threads, found, [&](std::size_t, std::uint64_t q) {
-            return kuldebiq_find(keys.data(), keys.size(), lines.data(), lines.size(), q);
+        const double by_hints = asked(questions, threads, found, [&](std::size_t, std::uint64_t q) {
+            return kuldebiq_find(keys.data(), keys.size(), hints.data(), hints.size(), q);
         });
         const double side_by_side = asked_by<Beside>(index, questions, threads, beside);
         const double far_apart = asked_by<Apart>(index, questions, threads, apart);
@@ -134,7 +134,7 @@ void run(std::size_t count, std::size_t each, bool timed) {
         }
         if (timed) {
             std::cout << std::fixed << std::setprecision(0) << std::setw(7) << threads << std::setw(6)
-                      << by_lines << std::setw(14) << side_by_side << std::setw(16) << far_apart << '\n';
+                      << by_hints << std::setw(14) << side_by_side << std::setw(16) << far_apart << '\n';
         } else {
             std::cout << "threads " << threads << ": no difference\n";
         }

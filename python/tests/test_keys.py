@@ -293,7 +293,7 @@ def test_hints_are_saved_and_loaded(tmp_path):
     assert loaded.positions(row).tolist() == list(range(5000))
 
 
-@pytest.mark.parametrize("content", [b"", b"1234567", b"12345678", bytes(64), b"kbqline"])
+@pytest.mark.parametrize("content", [b"", b"1234567", b"12345678", bytes(64), b"KBQHINT"])
 def test_a_file_of_something_else_is_no_hints(tmp_path, content):
     path, keys = tmp_path / "some.file", SortedKeys(PRIMES)
     path.write_bytes(content)

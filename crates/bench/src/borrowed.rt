@@ -1,12 +1,12 @@
-// Times lookups over keys that stay where they are: `bench lines KEYS QUERIES EPS`.
+// Times lookups over keys that stay where they are: `bench hints KEYS QUERIES EPS`.
 ghost use Rattle.std.specs.Prelude.{◌≤◌};
 
 use crate::lookups::{Asked, ask};
 use crate::shared::{ROUNDS, error_bound, keys_of, questions_of};
 use anyhow::{Result, bail};
 use exact_cross::MAX_EPSILON;
+use hints::{hints_of, position, positions};
 use key_points::KeysFault;
-use lines::{lines_of, position, positions};
 use std::alloc::{AllocError, Global};
 use std::rt::{Clock, Files};
 use std::time::{Duration, Instant};
@@ -14,24 +14,24 @@ use std::time::{Duration, Instant};
 /// How many questions are asked in the same room.
 const ROOM: usize = 1024;
 
-/// Keys that stay where they are, and words that say where to look first.
+/// Keys that stay where they are, and hints that say where to look first.
 #[derive(Clone, Copy)]
-struct Lined<'a> {
+struct Hinted<'a> {
     keys: &'a [u64],
-    words: &'a [u64],
+    hints: &'a [u64],
 }
 
-impl<'a> Asked for Lined<'a> {
+impl<'a> Asked for Hinted<'a> {
     #[inline(always)]
     fn position(&self, q: u64) -> u64 {
-        position(self.keys, self.words, q) as u64
+        position(self.keys, self.hints, q) as u64
     }
 
     fn sum_together(&self, _alloc: Global, questions: &[u64]) -> Result<u64, AllocError> {
         let mut places = [0usize; ROOM];
         let mut sum = 0u64;
         for few in questions.chunks(ROOM) {
-            positions(self.keys, self.words, few, &mut places);
+            positions(self.keys, self.hints, few, &mut places);
             for k in 0..few.len().min(ROOM) {
                 sum = sum.wrapping_add(places[k] as u64);
             }
@@ -40,7 +40,7 @@ impl<'a> Asked for Lined<'a> {
     }
 }
 
-/// Times lookups over the keys of a file by the questions of another, first with the words of the
+/// Times lookups over the keys of a file by the questions of another, first with the hints of the
 /// keys, and then with those of the questions, which lead anywhere.
 ///
 /// Both files are a 64-bit count and numbers of 64 bits, little-endian; those of the key file never
@@ -52,14 +52,14 @@ pub fn run<R: AllocGlobal + Files + Print + Clock>(rt: &R, words: &[String]) -> 
             let keys = keys_of(rt, keys.as_str())?;
             let questions = questions_of(rt, questions.as_str())?;
             println!(rt; "keys {} questions {}", keys.len(), questions.len())?;
-            ask_by_words(rt, &keys, &questions, eps)
+            ask_by_hints(rt, &keys, &questions, eps)
         }
-        _ => bail!("usage: bench lines KEYS QUERIES EPS"),
+        _ => bail!("usage: bench hints KEYS QUERIES EPS"),
     }
 }
 
-/// Asks all questions with the words of the keys, and with those of the questions.
-fn ask_by_words<R: AllocGlobal + Print + Clock>(
+/// Asks all questions with the hints of the keys, and with those of the questions.
+fn ask_by_hints<R: AllocGlobal + Print + Clock>(
     rt: &R,
     keys: &[u64],
     questions: &[u64],
@@ -67,19 +67,19 @@ fn ask_by_words<R: AllocGlobal + Print + Clock>(
 ) -> Result<()>
     requires { eps ≤ MAX_EPSILON }
 {
-    let words = words_of(rt, "own", keys, eps)?;
-    let lined = Lined {
+    let hints = hints_for(rt, "own", keys, eps)?;
+    let hinted = Hinted {
         keys,
-        words: &words,
+        hints: &hints,
     };
-    ask(rt, &lined, questions)?;
+    ask(rt, &hinted, questions)?;
     let others = sorted(rt.alloc(), questions)?;
-    let words = words_of(rt, "other", &others, eps)?;
-    let lined = Lined {
+    let hints = hints_for(rt, "other", &others, eps)?;
+    let hinted = Hinted {
         keys,
-        words: &words,
+        hints: &hints,
     };
-    ask(rt, &lined, questions)
+    ask(rt, &hinted, questions)
 }
 
 fn sorted(alloc: Global, questions: &[u64]) -> Result<Vec<u64>, AllocError> {
@@ -89,8 +89,8 @@ fn sorted(alloc: Global, questions: &[u64]) -> Result<Vec<u64>, AllocError> {
     Ok(sorted)
 }
 
-/// The words of keys. Prints how many lines and bytes they are, and the seconds of making them.
-fn words_of<R: AllocGlobal + Print + Clock>(
+/// The hints of keys. Prints how many lines and bytes they are, and the seconds of making them.
+fn hints_for<R: AllocGlobal + Print + Clock>(
     rt: &R,
     whose: &str,
     keys: &[u64],
@@ -104,19 +104,19 @@ fn words_of<R: AllocGlobal + Print + Clock>(
         make_and_drop(rt.alloc(), keys, eps)?;
         least = least.min(start.elapsed(rt)?);
     }
-    let words = lines_of(rt.alloc(), keys, eps)?;
+    let hints = hints_of(rt.alloc(), keys, eps)?;
     let (lines, bytes) = (
-        words.get(2).copied().unwrap_or(0),
-        words.len().saturating_mul(8),
+        hints.get(2).copied().unwrap_or(0),
+        hints.len().saturating_mul(8),
     );
     let building = least.as_secs_f64();
-    println!(rt; "words {whose} lines {lines} bytes {bytes} build {building}")?;
-    Ok(words)
+    println!(rt; "hints {whose} lines {lines} bytes {bytes} build {building}")?;
+    Ok(hints)
 }
 
 fn make_and_drop(alloc: Global, keys: &[u64], eps: u32) -> Result<(), KeysFault>
     requires { eps ≤ MAX_EPSILON }
 {
-    let _words = lines_of(alloc, keys, eps)?;
+    let _hints = hints_of(alloc, keys, eps)?;
     Ok(())
 }

@@ -1,6 +1,6 @@
 //! `bench` times what the library does, and is an example of its caller: a command for each work.
 //!
-//! `bench segment KEYS EPS [WORKERS]`, `bench lookup KEYS QUERIES EPS [BITS]`, `bench lines KEYS
+//! `bench segment KEYS EPS [WORKERS]`, `bench lookup KEYS QUERIES EPS [BITS]`, `bench hints KEYS
 //! QUERIES EPS`, `bench read KEYS LOOKS`, `bench box POINTS DIMS SCRIPT..`, `bench near POINTS DIMS
 //! SCRIPT..` and `bench map N`. The README has what each times and prints. With no words it prints
 //! its commands. No contract says how long anything takes.
@@ -22,7 +22,7 @@ use std::rt::{Clock, Env, Files};
 use std::sync::Wait;
 use std::thread::Threads;
 
-const USAGE: &str = "usage: bench segment|lookup|lines|read|box|near|map ..";
+const USAGE: &str = "usage: bench segment|lookup|hints|read|box|near|map ..";
 
 fn main(rt: HostRuntime) -> Result<()> {
     let words: Vec<String> = env::args(&rt)?.collect(rt.alloc())?;
@@ -40,7 +40,7 @@ fn run<R: AllocGlobal + Files + Print + Clock + Threads + Wait + Sync>(
     match command.as_str() {
         "segment" => segmenting::run(rt, words),
         "lookup" => lookups::run(rt, words),
-        "lines" => borrowed::run(rt, words),
+        "hints" => borrowed::run(rt, words),
         "read" => readers::run(rt, words),
         "box" => regions::run(rt, words),
         "near" => nearest::run(rt, words),

@@ -8,7 +8,7 @@ ghost use Rattle.boxes.specs.BoxAnswers.{codes_inside};
 
 use crate::walk::{NEAR, front_below, stretch_end};
 use bigmin::next_by_corners;
-use lines::position;
+use hints::position;
 use std::ops::Range;
 use zorder::{Corners, Region, is_empty};
 

@@ -33,7 +33,7 @@ use Rattle.command_line.specs.Commands.{Command, application, commands, request_
 use Rattle.command_line.specs.declared.request.Request as declared
 use Rattle.command_line.specs.Requests.{Request, asked_of}
 use Rattle.command_line.specs.Words.{AreTaken, AskFor, request_of}
-use Rattle.command_line.specs.Passed.{ArePassed, AreDrillOptions, AreIndexOptions, AreLineOptions, AreQueryOptions, AreReplayOptions, IsDimensionOption, IsNarrowOption, IsPiecesOption, IsSendersOption}
+use Rattle.command_line.specs.Passed.{ArePassed, AreDrillOptions, AreHintOptions, AreIndexOptions, AreQueryOptions, AreReplayOptions, IsDimensionOption, IsNarrowOption, IsPiecesOption, IsSendersOption}
 use Rattle.command_line.proofs.PassedRows.{all_set, level_good, quiet}
 use Rattle.command_line.proofs.OptionReads.{number_reads, flag_reads, takes_numbers, takes_flag}
 
@@ -233,11 +233,11 @@ pub mix_options : Holds (codes "mix") (λ rows. AreReplayOptions rows × IsSende
 unfolding clap_on_literals
 mix_options rows passed = (replay_options (rules_of (codes "mix")) rows refl refl refl refl passed, number_reads (rules_of (codes "mix")) 1 MAX_SENDERS (codes "senders") rows refl passed)
 
-pub line_options : Holds (codes "lines") AreLineOptions
+pub hint_options : Holds (codes "hints") AreHintOptions
 unfolding clap_on_literals
-line_options rows passed = record {
-  eps = number_reads (rules_of (codes "lines")) 0 MAX_EPSILON (codes "eps") rows refl passed;
-  narrow = flag_reads (rules_of (codes "lines")) (codes "narrow") rows refl passed;
+hint_options rows passed = record {
+  eps = number_reads (rules_of (codes "hints")) 0 MAX_EPSILON (codes "eps") rows refl passed;
+  narrow = flag_reads (rules_of (codes "hints")) (codes "narrow") rows refl passed;
 }
 
 pub find_options : Holds (codes "find") IsNarrowOption

@@ -102,13 +102,13 @@ drill_rules = positional_number (codes "N") 1 MAX_DRAWN ∷ positional_number (c
 abbrev pub check_rules : List Rule
 check_rules = positional (codes "FILE") ∷ positional (codes "INDEX") ∷ flag (codes "narrow") ∷ []
 
--- a key file, the error bound of its lines, and how wide the keys are
-abbrev pub lines_rules : List Rule
-lines_rules = positional (codes "FILE") ∷ number (codes "eps") 0 MAX_EPSILON (codes "32") ∷ flag (codes "narrow") ∷ []
+-- a key file, the error bound of its hints, and how wide the keys are
+abbrev pub hints_rules : List Rule
+hints_rules = positional (codes "FILE") ∷ number (codes "eps") 0 MAX_EPSILON (codes "32") ∷ flag (codes "narrow") ∷ []
 
--- a key file, a file of lines, a script of questions, and how wide the keys are
+-- a key file, a file of hints, a script of questions, and how wide the keys are
 abbrev pub find_rules : List Rule
-find_rules = positional (codes "FILE") ∷ positional (codes "LINES") ∷ positional (codes "SCRIPT") ∷ flag (codes "narrow") ∷ []
+find_rules = positional (codes "FILE") ∷ positional (codes "HINTS") ∷ positional (codes "SCRIPT") ∷ flag (codes "narrow") ∷ []
 
 -- the program before its commands. No public clause cites it
 abbrev pub bare_program : App

@@ -1,9 +1,9 @@
 -- The commands, each in one row: the definition that `clap` is given, and what it finds for a command, follow from the rows.
 use Rattle.std.specs.Prelude.{List, [], ◌∷◌, ◌++◌, Option, codes, bytes_eq, map, find, option_map}
 use Rattle.clap.specs.Words.{Text, Row, Rule, Shape, App}
-use Rattle.command_line.specs.Application.{command, program_with, build_rules, query_rules, relax_rules, points_rules, replay_rules, mix_rules, lines_rules, find_rules, drill_rules, check_rules}
-use Rattle.command_line.specs.Requests.{Request, building_of, query_of, relax_of, searching_of, replaying_of, mix_of, lining_of, finding_of, drilling_of, checking_of}
-use Rattle.command_line.specs.Requests.Request.{build, explain, box, near, replay, lines, find as find_of, drill, save, check}
+use Rattle.command_line.specs.Application.{command, program_with, build_rules, query_rules, relax_rules, points_rules, replay_rules, mix_rules, hints_rules, find_rules, drill_rules, check_rules}
+use Rattle.command_line.specs.Requests.{Request, building_of, query_of, relax_of, searching_of, replaying_of, mix_of, hinting_of, finding_of, drilling_of, checking_of}
+use Rattle.command_line.specs.Requests.Request.{build, explain, box, near, replay, hints, find as find_of, drill, save, check}
 
 -- a command: its name, its arguments, and what it asks for by what was found for them
 pub record Command : Type 0 where
@@ -28,9 +28,9 @@ script_commands = row (codes "box") points_rules (λ rows. box (searching_of row
     ∷ row (codes "replay") replay_rules (λ rows. replay (replaying_of rows))
     ∷ row (codes "mix") mix_rules mix_of ∷ []
 
--- over lines of a key file
-abbrev pub line_commands : List Command
-line_commands = row (codes "lines") lines_rules (λ rows. lines (lining_of rows))
+-- over hints of a key file
+abbrev pub hint_commands : List Command
+hint_commands = row (codes "hints") hints_rules (λ rows. hints (hinting_of rows))
     ∷ row (codes "find") find_rules (λ rows. find_of (finding_of rows)) ∷ []
 
 -- over what is drawn, and over a saved index
@@ -40,7 +40,7 @@ other_commands = row (codes "drill") drill_rules (λ rows. drill (drilling_of ro
     ∷ row (codes "check") check_rules (λ rows. check (checking_of rows)) ∷ []
 
 abbrev pub commands : List Command
-commands = index_commands ++ script_commands ++ line_commands ++ other_commands
+commands = index_commands ++ script_commands ++ hint_commands ++ other_commands
 
 -- as `clap` is told commands
 abbrev pub shapes_of : List Command → List Shape

@@ -51,8 +51,8 @@ IsPiecesOption rows = IsNumberIn 1 MAX_PIECES (codes "pieces") rows
 abbrev pub IsNarrowOption : List Row → Type 0
 IsNarrowOption rows = IsFlag (codes "narrow") rows
 
--- what the options of lines hold
-pub record AreLineOptions (rows : List Row) : Type 0 where
+-- what the options of hints hold
+pub record AreHintOptions (rows : List Row) : Type 0 where
   pub eps : IsNumberIn 0 MAX_EPSILON (codes "eps") rows
   pub narrow : IsFlag (codes "narrow") rows
 

@@ -10,7 +10,7 @@ use Rattle.command_line.specs.declared.request.Searching as declared_searching
 use Rattle.command_line.specs.declared.request.Replaying as declared_replaying
 use Rattle.command_line.specs.declared.request.Drilling as declared_drilling
 use Rattle.command_line.specs.declared.request.Checking as declared_checking
-use Rattle.command_line.specs.declared.request.Lining as declared_lining
+use Rattle.command_line.specs.declared.request.Hinting as declared_hinting
 use Rattle.command_line.specs.declared.request.Finding as declared_finding
 use Rattle.command_line.specs.declared.request.Request as declared
 use Rattle.command_line.specs.declared.request.Request.TheVariants as variant
@@ -52,16 +52,16 @@ pub record Checking : Type 0 where
   pub index : Text
   pub narrow : Bool
 
--- a key file, and the error bound of the lines that are made of its keys
-pub record Lining : Type 0 where
+-- a key file, and the error bound of the hints that are made of its keys
+pub record Hinting : Type 0 where
   pub file : Text
   pub narrow : Bool
   pub eps : ℕ
 
--- a key file, a file of lines, and a script of questions
+-- a key file, a file of hints, and a script of questions
 pub record Finding : Type 0 where
   pub file : Text
-  pub lines : Text
+  pub hints : Text
   pub script : Text
   pub narrow : Bool
 
@@ -75,7 +75,7 @@ pub data Request : Type 0 where
   near : (searching : Searching) → Request
   replay : (replaying : Replaying) → Request
   mix : (replaying : Replaying) (senders : ℕ) → Request
-  lines : (lining : Lining) → Request
+  hints : (hinting : Hinting) → Request
   find : (finding : Finding) → Request
   drill : (drilling : Drilling) → Request
   save : (building : Building) → Request
@@ -123,8 +123,8 @@ replaying_of rows = record {
 abbrev pub mix_of : List Row → Request
 mix_of rows = mix (replaying_of rows) (number_in (codes "senders") 2 rows)
 
-abbrev pub lining_of : List Row → Lining
-lining_of rows = record {
+abbrev pub hinting_of : List Row → Hinting
+hinting_of rows = record {
   file = name_in (codes "FILE") rows;
   narrow = is_given (codes "narrow") rows;
   eps = number_in (codes "eps") 32 rows;
@@ -133,7 +133,7 @@ lining_of rows = record {
 abbrev pub finding_of : List Row → Finding
 finding_of rows = record {
   file = name_in (codes "FILE") rows;
-  lines = name_in (codes "LINES") rows;
+  hints = name_in (codes "HINTS") rows;
   script = name_in (codes "SCRIPT") rows;
   narrow = is_given (codes "narrow") rows;
 }
@@ -163,11 +163,11 @@ searched_of s = record { file = s.file.now; script = s.script.now; dims = s.dims
 abbrev pub replayed_of : declared_replaying.Replaying → Replaying
 replayed_of r = record { script = r.script.now; levels = r.plan.levels; batch = r.plan.batch; readers = r.plan.readers }
 
-abbrev pub lined_of : declared_lining.Lining → Lining
-lined_of l = record { file = l.file.now; narrow = l.narrow; eps = l.eps }
+abbrev pub hinted_of : declared_hinting.Hinting → Hinting
+hinted_of h = record { file = h.file.now; narrow = h.narrow; eps = h.eps }
 
 abbrev pub found_by : declared_finding.Finding → Finding
-found_by f = record { file = f.file.now; lines = f.lines.now; script = f.script.now; narrow = f.narrow }
+found_by f = record { file = f.file.now; hints = f.hints.now; script = f.script.now; narrow = f.narrow }
 
 abbrev pub drilled_of : declared_drilling.Drilling → Drilling
 drilled_of d = record { number = d.drill.number; seed = d.drill.seed; eps = d.bounds.eps; eps_rec = d.bounds.eps_rec }
@@ -184,7 +184,7 @@ asked_of (variant.Box searching) = box (searched_of searching)
 asked_of (variant.Near searching) = near (searched_of searching)
 asked_of (variant.Replay replaying) = replay (replayed_of replaying)
 asked_of (variant.Mix replaying senders) = mix (replayed_of replaying) senders.count
-asked_of (variant.Lines lining) = lines (lined_of lining)
+asked_of (variant.Hints hinting) = hints (hinted_of hinting)
 asked_of (variant.Find finding) = find (found_by finding)
 asked_of (variant.Drill drilling) = drill (drilled_of drilling)
 asked_of (variant.Save building) = save (built_of building)
@@ -200,7 +200,7 @@ first_file (box searching) = Some searching.file
 first_file (near searching) = Some searching.file
 first_file (replay replaying) = Some replaying.script
 first_file (mix replaying senders) = Some replaying.script
-first_file (lines lining) = Some lining.file
+first_file (hints hinting) = Some hinting.file
 first_file (find finding) = Some finding.file
 first_file (drill drilling) = None
 first_file (save building) = Some building.file

@@ -10,8 +10,8 @@ ghost use Rattle.command_line.specs.Application.{build_rules, index_rules, worke
 ghost use Rattle.command_line.specs.Application.{query_rules, relax_rules, points_rules};
 ghost use Rattle.command_line.specs.Application.{batch_rules, mix_rules, replay_rules};
 ghost use Rattle.command_line.specs.Application.{check_rules, drill_rules};
-ghost use Rattle.command_line.specs.Application.{find_rules, lines_rules};
-ghost use Rattle.command_line.specs.Commands.{application, index_commands, line_commands};
+ghost use Rattle.command_line.specs.Application.{find_rules, hints_rules};
+ghost use Rattle.command_line.specs.Commands.{application, hint_commands, index_commands};
 ghost use Rattle.command_line.specs.Commands.{script_commands, shapes_of};
 ghost use Rattle.exact_cross.specs.declared.TheConstants.{MAX_EPSILON};
 
@@ -27,17 +27,17 @@ use std::alloc::{AllocError, Global};
 pub fn application<'a>(alloc: Global) -> Result<Command<'a>, AllocError>
     ensures { IfOk result (λ program. app_of program ≡ application) }
 {
-    let program = added(with_line_commands(alloc)?, drill_command(alloc))?;
+    let program = added(with_hint_commands(alloc)?, drill_command(alloc))?;
     let program = added(program, index_command(alloc, "save"))?;
     added(program, check_command(alloc))
 }
 
-/// The program with its commands over an index, over points, over a map and over lines.
-fn with_line_commands<'a>(alloc: Global) -> Result<Command<'a>, AllocError>
+/// The program with its commands over an index, over points, over a map and over hints.
+fn with_hint_commands<'a>(alloc: Global) -> Result<Command<'a>, AllocError>
     ensures { IfOk result (λ program. app_of program
-        ≡ program_with (shapes_of (index_commands ++ script_commands ++ line_commands))) }
+        ≡ program_with (shapes_of (index_commands ++ script_commands ++ hint_commands))) }
 {
-    let program = added(with_script_commands(alloc)?, lines_command(alloc))?;
+    let program = added(with_script_commands(alloc)?, hints_command(alloc))?;
     added(program, find_command(alloc))
 }
 
@@ -169,21 +169,21 @@ fn check_command<'a>(alloc: Global) -> Result<Command<'a>, AllocError>
     with(command, flag(alloc, "narrow"))
 }
 
-/// A command that makes lines of a key file.
-fn lines_command<'a>(alloc: Global) -> Result<Command<'a>, AllocError>
-    ensures { IfOk result (IsCommandOf (codes "lines") lines_rules) }
+/// A command that makes hints of a key file.
+fn hints_command<'a>(alloc: Global) -> Result<Command<'a>, AllocError>
+    ensures { IfOk result (IsCommandOf (codes "hints") hints_rules) }
 {
-    let command = with(new_command(alloc, "lines"), positional(alloc, "FILE"));
+    let command = with(new_command(alloc, "hints"), positional(alloc, "FILE"));
     let command = with(command, number(alloc, "eps", 0, MAX_EPSILON, "32"));
     with(command, flag(alloc, "narrow"))
 }
 
-/// A command over a key file, a file of lines and a script of questions.
+/// A command over a key file, a file of hints and a script of questions.
 fn find_command<'a>(alloc: Global) -> Result<Command<'a>, AllocError>
     ensures { IfOk result (IsCommandOf (codes "find") find_rules) }
 {
     let command = with(new_command(alloc, "find"), positional(alloc, "FILE"));
-    let command = with(command, positional(alloc, "LINES"));
+    let command = with(command, positional(alloc, "HINTS"));
     let command = with(command, positional(alloc, "SCRIPT"));
     with(command, flag(alloc, "narrow"))
 }

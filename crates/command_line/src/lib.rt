@@ -13,6 +13,6 @@ mod request;
 mod words;
 
 pub use request::{
-    Building, Checking, Drilling, Finding, Lining, MAX_BATCH, Replaying, Request, Searching,
+    Building, Checking, Drilling, Finding, Hinting, MAX_BATCH, Replaying, Request, Searching,
 };
 pub use words::{NoRequest, requested, taken_words_ask};

@@ -42,9 +42,9 @@ pub struct Replaying<'a> {
     pub ghost few_updates: { plan.batch ≤ MAX_BATCH },
 }
 
-/// A key file, and the error bound of the lines that are made of its keys.
+/// A key file, and the error bound of the hints that are made of its keys.
 #[derive(Clone, Copy, Debug)]
-pub struct Lining<'a> {
+pub struct Hinting<'a> {
     /// The name of the key file.
     pub file: &'a str,
     /// Keys are 32 bits wide, and not 64.
@@ -54,13 +54,13 @@ pub struct Lining<'a> {
     pub ghost bounded: { eps ≤ MAX_EPSILON },
 }
 
-/// A key file, a file of lines of keys, and a script of questions.
+/// A key file, a file of hints of keys, and a script of questions.
 #[derive(Clone, Copy, Debug)]
 pub struct Finding<'a> {
     /// The name of the key file.
     pub file: &'a str,
-    /// The name of the file of lines.
-    pub lines: &'a str,
+    /// The name of the file of hints.
+    pub hints: &'a str,
     /// The name of the script.
     pub script: &'a str,
     /// Keys are 32 bits wide, and not 64.
@@ -134,12 +134,12 @@ pub enum Request<'a> {
         replaying: Replaying<'a>,
         senders: Senders,
     },
-    /// Write lines of the keys as words, of which a lookup is told where to look first.
-    Lines {
-        lining: Lining<'a>,
+    /// Write hints of the keys, which tell a lookup where to look first.
+    Hints {
+        hinting: Hinting<'a>,
     },
-    /// Write the position of each question's key in the file, by lookups over the keys and lines,
-    /// whatever the lines are.
+    /// Write the position of each question's key in the file, by lookups over the keys and hints,
+    /// whatever the hints are.
     Find {
         finding: Finding<'a>,
     },

@@ -18,12 +18,12 @@ ghost use Rattle.command_line.specs.Passed.{IsPiecesOption, IsSendersOption};
 ghost use Rattle.command_line.specs.Passed.{AreDrillOptions};
 ghost use Rattle.command_line.specs.Requests.{drilled_of, drilling_of};
 ghost use Rattle.command_line.specs.Requests.{checked_of, checking_of};
-ghost use Rattle.command_line.specs.Passed.{AreLineOptions, IsNarrowOption};
-ghost use Rattle.command_line.specs.Requests.{finding_of, found_by, lined_of, lining_of};
+ghost use Rattle.command_line.specs.Passed.{AreHintOptions, IsNarrowOption};
+ghost use Rattle.command_line.specs.Requests.{finding_of, found_by, hinted_of, hinting_of};
 
 use crate::definition::application;
 use crate::request::{
-    Building, Checking, Drilling, Finding, Lining, Replaying, Request, Searching,
+    Building, Checking, Drilling, Finding, Hinting, Replaying, Request, Searching,
 };
 use clap::ArgMatches;
 use clap::error::ErrorKind;
@@ -108,9 +108,9 @@ fn request_in<'a>(name: &str, found: &ArgMatches<'a>) -> Option<Request<'a>>
         Some(Request::Replay { replaying })
     } else if name == "mix" {
         Some(mix_in(found))
-    } else if name == "lines" {
-        let lining = lining_in(found);
-        Some(Request::Lines { lining })
+    } else if name == "hints" {
+        let hinting = hinting_in(found);
+        Some(Request::Hints { hinting })
     } else if name == "find" {
         let finding = finding_in(found);
         Some(Request::Find { finding })
@@ -224,11 +224,11 @@ fn senders_in(found: &ArgMatches<'_>) -> Senders
     }
 }
 
-fn lining_in<'a>(found: &ArgMatches<'a>) -> Lining<'a>
-    requires { AreLineOptions (rows_in found.now) }
-    ensures { lined_of result ≡ lining_of (rows_in found.now) }
+fn hinting_in<'a>(found: &ArgMatches<'a>) -> Hinting<'a>
+    requires { AreHintOptions (rows_in found.now) }
+    ensures { hinted_of result ≡ hinting_of (rows_in found.now) }
 {
-    Lining {
+    Hinting {
         file: name_in(found, "FILE"),
         narrow: is_given(found, "narrow"),
         eps: number_in(found, "eps", 32),
@@ -241,7 +241,7 @@ fn finding_in<'a>(found: &ArgMatches<'a>) -> Finding<'a>
 {
     Finding {
         file: name_in(found, "FILE"),
-        lines: name_in(found, "LINES"),
+        hints: name_in(found, "HINTS"),
         script: name_in(found, "SCRIPT"),
         narrow: is_given(found, "narrow"),
     }

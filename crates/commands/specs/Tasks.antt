@@ -15,7 +15,7 @@ pub record Bounds : Type 0 where
   pub eps : ℕ
   pub eps_rec : ℕ
 
--- each command, with its inputs and its options; `bits` is how many bits of a key the table of a query goes by, 0 where none is asked for; the words that a find is led by aren't told, since no answer depends on them
+-- each command, with its inputs and its options; `bits` is how many bits of a key the table of a query goes by, 0 where none is asked for; the hints that a find is led by aren't told, since no answer depends on them
 pub data Task : Type 0 where
   build : (keys : List ℕ) (bounds : Bounds) → Task
   explain : (keys : List ℕ) (bounds : Bounds) → Task
@@ -25,7 +25,7 @@ pub data Task : Type 0 where
   near : (d : ℕ) (coords : List ℕ) (centres : List Centre) → Task
   replay : (updates : List Update) (questions : List Question) (batch readers : ℕ) → Task
   mix : (updates : List Update) (questions : List Question) (readers senders : ℕ) → Task
-  lines : (keys : List ℕ) (eps : ℕ) → Task
+  hints : (keys : List ℕ) (eps : ℕ) → Task
   find : (keys questions : List ℕ) → Task
   drill : (n seed : ℕ) (bounds : Bounds) → Task
   save : (keys : List ℕ) (bounds : Bounds) → Task
@@ -50,7 +50,7 @@ task_of (variant.Box search) = box search.points.dims search.points.coords.items
 task_of (variant.Near neighbours) = near neighbours.points.dims neighbours.points.coords.items neighbours.centres.items
 task_of (variant.Replay history) = replay_of history
 task_of (variant.Mix mixing) = mix_of mixing
-task_of (variant.Lines fitting) = lines fitting.sorted.keys.items fitting.eps
+task_of (variant.Hints fitting) = hints fitting.sorted.keys.items fitting.eps
 task_of (variant.Find lookups) = find lookups.sorted.keys.items lookups.questions.items
 task_of (variant.Drill d bounds workers) = drill d.number d.seed (bounds_of bounds)
 task_of (variant.Save indexing) = save indexing.sorted.keys.items (bounds_of indexing.bounds)

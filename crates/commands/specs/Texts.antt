@@ -1,7 +1,7 @@
 -- The text of each task.
 use Rattle.std.specs.Prelude.{ℕ, List}
 use Rattle.commands.specs.Tasks.{Task}
-use Rattle.commands.specs.Tasks.Task.{build, explain, query, relax, box, near, replay, drill, save, check, mix, lines, find}
+use Rattle.commands.specs.Tasks.Task.{build, explain, query, relax, box, near, replay, drill, save, check, mix, hints, find}
 use Rattle.commands.specs.Texts.Build.{IsBuilt}
 use Rattle.commands.specs.Texts.Explain.{IsExplained}
 use Rattle.commands.specs.Texts.Query.{IsAnswered}
@@ -13,7 +13,7 @@ use Rattle.map_commands.specs.Mix.{IsMixedText}
 use Rattle.commands.specs.Texts.Drill.{IsDrilled}
 use Rattle.commands.specs.Texts.Save.{IsSaved}
 use Rattle.commands.specs.Texts.Check.{IsChecked}
-use Rattle.commands.specs.Texts.Lines.{AreLines}
+use Rattle.commands.specs.Texts.Hints.{AreHints}
 use Rattle.commands.specs.Texts.Find.{IsFound}
 pub mod Indexing
 pub mod Build
@@ -26,7 +26,7 @@ pub mod Neighbours
 pub mod Drill
 pub mod Save
 pub mod Check
-pub mod Lines
+pub mod Hints
 pub mod Find
 
 -- one equation for each command
@@ -39,7 +39,7 @@ IsText (box d coords regions) pieces = IsSearched d coords regions pieces
 IsText (near d coords centres) pieces = IsNearest d coords centres pieces
 IsText (replay updates questions batch readers) pieces = IsReplayed updates questions batch readers pieces
 IsText (mix updates questions readers senders) pieces = IsMixedText updates questions readers senders pieces
-IsText (lines keys eps) pieces = AreLines keys eps pieces
+IsText (hints keys eps) pieces = AreHints keys eps pieces
 IsText (find keys questions) pieces = IsFound keys questions pieces
 IsText (drill n seed bounds) pieces = IsDrilled n seed bounds pieces
 IsText (save keys bounds) pieces = IsSaved keys bounds pieces

@@ -9,23 +9,23 @@ ghost use Rattle.commands.specs.Texts.Query.{IsAnswered, find_line};
 use crate::query::fill_find_line;
 use crate::task::{Lookups, SortedKeys};
 use edge::{Failed, Sink};
-use lines::position;
+use hints::position;
 use written::{TextLine, Unfinished, hand_over};
 
-/// Writes how many keys are below each question, whatever the words are that say where to look
+/// Writes how many keys are below each question, whatever the hints are that say where to look
 /// first. It takes no memory.
 pub fn write<S: Sink>(lookups: Lookups, out: &mut S) -> Result<(), Unfinished>
     ensures { WritesText S.Sink out.old result out.new
         (IsFound lookups.sorted.keys.items lookups.questions.items) }
 {
-    Ok(write_answers(out, &lookups.sorted, &lookups.words, &lookups.questions)?)
+    Ok(write_answers(out, &lookups.sorted, &lookups.hints, &lookups.questions)?)
 }
 
 /// Writes the text line of each question.
 fn write_answers<S: Sink>(
     out: &mut S,
     sorted: &SortedKeys,
-    words: &[u64],
+    hints: &[u64],
     questions: &[u64],
 ) -> Result<(), Failed>
     ensures ok { OnOk result (Writes S.Sink out.old out.new
@@ -35,17 +35,17 @@ fn write_answers<S: Sink>(
 {
     let mut line = TextLine::new();
     for i in 0..questions.len() {
-        fill_answer(&mut line, sorted, words, questions[i]);
+        fill_answer(&mut line, sorted, hints, questions[i]);
         hand_over(out, line.as_bytes())?;
     }
     Ok(())
 }
 
 /// Fills the text line of a question.
-fn fill_answer(line: &mut TextLine, sorted: &SortedKeys, words: &[u64], question: u64)
+fn fill_answer(line: &mut TextLine, sorted: &SortedKeys, hints: &[u64], question: u64)
     ensures { line.new ≡ find_line question (lb sorted.now.keys.items question) }
 {
-    let place = position(sorted.keys.as_slice(), words, question) as u32;
+    let place = position(sorted.keys.as_slice(), hints, question) as u32;
     fill_find_line(line, question, place);
 }
 

@@ -23,8 +23,8 @@ mod drill;
 mod explain;
 mod find;
 mod finder;
+mod hint_numbers;
 mod indexing;
-mod line_words;
 mod neighbours;
 mod positions;
 mod query;
@@ -75,7 +75,7 @@ pub fn write<R: Threads + Wait + Sync, S: Sink, G: Gate>(
         Task::Near { neighbours } => neighbours::write(rt, alloc, neighbours, out),
         Task::Replay { history } => write_replay(rt, alloc, history, out, gate),
         Task::Mix { mixing } => write_mix(rt, alloc, mixing, out, gate),
-        Task::Lines { fitting } => line_words::write(alloc, fitting, out),
+        Task::Hints { fitting } => hint_numbers::write(alloc, fitting, out),
         Task::Find { lookups } => find::write(lookups, out),
         Task::Drill {
             drill,

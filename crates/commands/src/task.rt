@@ -85,7 +85,7 @@ pub struct Neighbours {
     pub ghost each: { All (λ centre. IsInRange points.dims centre.place) centres.items },
 }
 
-/// The keys of a file, and the error bound of the lines that are made of them.
+/// The keys of a file, and the error bound of the hints that are made of them.
 #[derive(Drop)]
 pub struct Fitting {
     pub sorted: SortedKeys,
@@ -94,12 +94,12 @@ pub struct Fitting {
     pub ghost bounded: { eps ≤ MAX_EPSILON },
 }
 
-/// The keys of a file, words that say where among them to look first, and questions.
+/// The keys of a file, hints that say where among them to look first, and questions.
 #[derive(Drop)]
 pub struct Lookups {
     pub sorted: SortedKeys,
-    /// Any words: no answer depends on them.
-    pub words: Vec<u64>,
+    /// Any hints: no answer depends on them.
+    pub hints: Vec<u64>,
     /// The questions, in turn.
     pub questions: Vec<u64>,
 }
@@ -142,11 +142,11 @@ pub enum Task {
     Mix {
         mixing: Mixing,
     },
-    /// Write words that say where among the keys to look first, as bytes.
-    Lines {
+    /// Write hints that say where among the keys to look first, as bytes.
+    Hints {
         fitting: Fitting,
     },
-    /// Write the position of each question's key, by lookups that such words lead.
+    /// Write the position of each question's key, by lookups that such hints lead.
     Find {
         lookups: Lookups,
     },

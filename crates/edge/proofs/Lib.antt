@@ -1,3 +1,4 @@
 pub mod CallerLemmas
 pub mod FileLemmas
 pub mod Parts
+pub mod ReaderLemmas

@@ -3,6 +3,8 @@ pub mod Counts
 pub mod Telling
 pub mod Shelf
 pub mod Reading
+pub mod Readers
+pub mod Unread
 pub mod Sink
 pub mod Files
 pub mod Taken

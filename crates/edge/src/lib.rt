@@ -17,13 +17,15 @@ mod mem_sink;
 mod out_sink;
 mod shelf;
 mod sink;
+mod unread;
 
 pub use failed::Failed;
 pub use file_shelf::FileShelf;
-pub use filling::{fill, next_byte};
+pub use filling::{fill, next_byte, read_all};
 pub use gate::{Gate, OpenGate, Place};
 pub use mem_shelf::MemShelf;
 pub use mem_sink::MemSink;
 pub use out_sink::OutSink;
 pub use shelf::Shelf;
 pub use sink::Sink;
+pub use unread::Unread;

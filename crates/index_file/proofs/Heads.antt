@@ -1,22 +1,25 @@
 -- The faults of the head, and of what stands behind it, are those of the file.
 --
--- Main results: `head-fails`, `head-leaves`. Where the bytes behind a front of the head stop in a part that goes on to an index, the file
--- stops, and those that it took are taken of the file.
-use Rattle.std.proofs.Common.{◌≡◌, ◌≢◌, ℕ, zero, suc, ◌+◌, ◌^◌, ◌<◌, ◌≤◌, List, [], ◌∷◌, ◌++◌, length, take, drop, get_or, refl, sym, ap, ◌∙◌, subst, append_assoc, length-append, arith, Option, Some, None, inl, inr, ⊎_elim}
+-- Main result: `head-fails`. Where the bytes behind a front of the head stop in a part that goes on to an index, the file stops, and
+-- those that were taken are taken of the file.
+use Rattle.std.proofs.Common.{◌≡◌, ◌≢◌, ℕ, zero, suc, ◌+◌, ◌^◌, ◌<◌, ◌≤◌, List, [], ◌∷◌, ◌++◌, length, take, drop, get_or, refl, sym, ap, ◌∙◌, subst, append_assoc, length-append, arith, Option, Some, None, inl, inr}
 use Rattle.std.specs.List.{flat_map}
 use Rattle.std.specs.Option.{IfSome}
 use Rattle.std.proofs.lemmas.List.{append-nil, take-append-drop, length-take-le, length-drop}
 use Rattle.std.proofs.lemmas.List.Elements.{All-nil}
 use Rattle.edge.specs.Reading.{HasRead}
+use Rattle.edge.specs.Readers.{ReadFails, ReadsPiece}
+use Rattle.edge.specs.declared.shelf.Shelf.{Ghosts}
+use Rattle.edge.proofs.ReaderLemmas.{fails-behind}
 use Rattle.index_file.specs.declared.saved.SavedRun.{SavedRun}
 use Rattle.index_file.specs.declared.fault.IndexFault.{IndexFault}
 use Rattle.index_file.specs.declared.fault.IndexFault.TheVariants.{ReadFault, Short, Magic, Epsilon, Side, Trailing, NoMemory}
 use Rattle.index_file.specs.Spelling.{SavedIndex, number, magic, level_bytes, head_bytes, index_bytes, LevelFits, IsBounded, IsSpelling}
-use Rattle.index_file.specs.Stops.{IsNumber, IsNoCut, AreLevels, AreBeforeLevelCut, IsFront, StopsIn, HasFault, TakesIn, Leaves}
+use Rattle.index_file.specs.Stops.{IsNumber, IsNoCut, AreLevels, AreBeforeLevelCut, IsFront, StopsIn, TakesIn, origin_of}
 use Rattle.index_file.specs.Faults.{IsFormUpTo, IsMagic, IsBeforeIndexCut, FailsAs, IsIndex, IsTaken}
 use Rattle.index_file.proofs.Numbers.{length-number}
 use Rattle.index_file.proofs.Lists.{many, length-many, All-many}
-use Rattle.index_file.proofs.Stopping.{GoesOn, Stands, front-moves, goes-behind, Leaves-behind}
+use Rattle.index_file.proofs.Stopping.{GoesOn, Stands, front-moves, goes-behind}
 
 -- the bytes that a part goes on by, where it was told how many bytes there are
 abbrev pub Continues : (List ℕ → Type 0) → ℕ → List ℕ → Type 0
@@ -42,13 +45,6 @@ module _ (Part Before : List ℕ → Type 0) (offset : ℕ) (piece : List ℕ) (
   part-fails bytes (Epsilon value) stops = absurd stops
   part-fails bytes (Trailing byte) stops = absurd stops
   part-fails bytes NoMemory stops = stops
-
-  pub head-fails : (told after : Option (List ℕ)) (fault : IndexFault) → HasRead told piece after → HasFault (StopsIn Part Before offset) after fault → HasFault FailsAs told fault
-  head-fails None after fault read has = tt
-  head-fails (Some x) None fault read has = absurd read
-  head-fails (Some x) (Some y) fault read has =
-      let P : List ℕ → Type 0 = λ w. FailsAs w fault in
-      ⊎_elim (λ p. inl p) (λ q. ⊎_elim (λ p. inr (inl p)) (λ r. inr (inr (subst P (sym read) (part-fails y fault r)))) q) has
 
 -- fewer than four bytes are the front of a number's
 short-number : (b : List ℕ) → IsFront IsNumber b → length b < 4
@@ -176,23 +172,23 @@ length-head eps eps_rec count =
     )
 
 -- a bound that is too great
-pub eps-fails : (told after : Option (List ℕ)) (value : ℕ) → 1048576 < value → value < 2 ^ 32 → HasRead told (magic ++ number value) after → HasFault FailsAs told (Epsilon value)
+pub eps-fails : (told after : Option (List ℕ)) (value : ℕ) → 1048576 < value → value < 2 ^ 32 → HasRead told (magic ++ number value) after → IfSome told (λ bytes. FailsAs bytes (Epsilon value))
 eps-fails None after value great fits read = tt
 eps-fails (Some x) None value great fits read = absurd read
 eps-fails (Some x) (Some y) value great fits read =
-    inr (inr (record { behind = y; great = great; fits = fits; stands = inl (read ∙ append_assoc magic (number value) y) }))
+    record { behind = y; great = great; fits = fits; stands = inl (read ∙ append_assoc magic (number value) y) }
 
 pub rec-fails : (told after : Option (List ℕ)) (eps value : ℕ) → eps ≤ 1048576 → 1048576 < value → value < 2 ^ 32 → HasRead told ((magic ++ number eps) ++ number value) after →
-    HasFault FailsAs told (Epsilon value)
+    IfSome told (λ bytes. FailsAs bytes (Epsilon value))
 rec-fails None after eps value small great fits read = tt
 rec-fails (Some x) None eps value small great fits read = absurd read
 rec-fails (Some x) (Some y) eps value small great fits read =
-    inr (inr (record {
+    record {
       behind = y;
       great = great;
       fits = fits;
       stands = inr (eps, small, read ∙ append_assoc (magic ++ number eps) (number value) y ∙ append_assoc magic (number eps) (number value ++ y));
-    }))
+    }
 
 -- lists that agree have the same front
 same-front : (n : ℕ) (xs ys : List ℕ) → n ≤ length xs → n ≤ length ys → ((k : ℕ) → k < n → get_or xs k 0 ≡ get_or ys k 0) → take n xs ≡ take n ys
@@ -210,7 +206,7 @@ front-get (suc n) (x ∷ xs) ys (suc k) less long = front-get n xs ys k (omega a
 
 -- the bytes end within PGMINDEX
 pub magic-short : (told : Option (List ℕ)) (got : ℕ) (buf : List ℕ) → length buf ≡ 8 → got < 8 → ((k : ℕ) → k < got → get_or buf k 0 ≡ get_or magic k 0) →
-    IfSome told (λ bytes. bytes ≡ take got buf) → HasFault FailsAs told (Short got)
+    IfSome told (λ bytes. bytes ≡ take got buf) → IfSome told (λ bytes. FailsAs bytes (Short got))
 magic-short None got buf long short agree ended = tt
 magic-short (Some bytes) got buf long short agree ended =
     let front : bytes ≡ take got magic = ended ∙ same-front got buf magic (omega arith) (omega arith) agree in
@@ -229,14 +225,14 @@ magic-short (Some bytes) got buf long short agree ended =
       stand = ap (λ (w : List ℕ). w ++ rest) front ∙ sym (append_assoc (take got magic) (drop got magic) (number 0 ++ (number 0 ++ number 0)))
           ∙ ap (λ (w : List ℕ). w ++ (number 0 ++ (number 0 ++ number 0))) (take-append-drop got magic) ∙ eps-stand 0;
     } in
-    inr (inr (record {
+    record {
       all = sym (ap length ended ∙ length-take-le got buf (omega arith));
       front = record { rest = rest; more = omega (arith, length-append (drop got magic) (number 0 ++ (number 0 ++ number 0)), length-drop got magic); whole = form };
-    }))
+    }
 
 -- a byte isn't that of PGMINDEX
 pub magic-fails : (told after : Option (List ℕ)) (at got : ℕ) (buf : List ℕ) → length buf ≡ 8 → got ≤ 8 → at < got → ((k : ℕ) → k < at → get_or buf k 0 ≡ get_or magic k 0) →
-    get_or buf at 0 ≢ get_or magic at 0 → HasRead told (take got buf) after → HasFault FailsAs told (Magic at)
+    get_or buf at 0 ≢ get_or magic at 0 → HasRead told (take got buf) after → IfSome told (λ bytes. FailsAs bytes (Magic at))
 magic-fails None after at got buf long within inside agree differs read = tt
 magic-fails (Some x) None at got buf long within inside agree differs read = absurd read
 magic-fails (Some x) (Some y) at got buf long within inside agree differs read =
@@ -250,13 +246,10 @@ magic-fails (Some x) (Some y) at got buf long within inside agree differs read =
       before = same-front at bytes magic (omega (arith, longer)) (omega arith) (λ k less. here k (omega arith) ∙ agree k less);
       differs = λ same. differs (sym (here at inside) ∙ same);
     } in
-    inr (inr (subst P (sym read) fails))
+    subst P (sym read) fails
 
-pub magic-read : (told after : Option (List ℕ)) (got : ℕ) (buf : List ℕ) → length buf ≡ 8 → got ≡ 8 → ((k : ℕ) → k < got → get_or buf k 0 ≡ get_or magic k 0) →
-    HasRead told (take got buf) after → HasRead told magic after
-magic-read told after got buf long all agree read =
-    let same : take got buf ≡ magic = same-front got buf magic (omega arith) (omega arith) agree ∙ ap (λ (n : ℕ). take n magic) all in
-    subst (λ (w : List ℕ). HasRead told w after) same read
+pub magic-read : (got : ℕ) (buf : List ℕ) → length buf ≡ 8 → got ≡ 8 → ((k : ℕ) → k < got → get_or buf k 0 ≡ get_or magic k 0) → take got buf ≡ magic
+magic-read got buf long all agree = same-front got buf magic (omega arith) (omega arith) agree ∙ ap (λ (n : ℕ). take n magic) all
 
 -- a byte behind the index, and none
 pub index-of : (index : SavedIndex) (count : ℕ) → length index.levels ≡ count → head_bytes index.eps index.eps_rec count ++ flat_map level_bytes index.levels ≡ index_bytes index
@@ -264,16 +257,16 @@ unfolding index_bytes
 index-of index count long = ap (λ (n : ℕ). head_bytes index.eps index.eps_rec n ++ flat_map level_bytes index.levels) (sym long)
 
 pub trailing-fails : (told after : Option (List ℕ)) (index : SavedIndex) (count byte : ℕ) → IsBounded index.eps index.eps_rec index.levels → length index.levels ≡ count →
-    HasRead told ((head_bytes index.eps index.eps_rec count ++ flat_map level_bytes index.levels) ++ byte ∷ []) after → HasFault FailsAs told (Trailing byte)
+    HasRead told ((head_bytes index.eps index.eps_rec count ++ flat_map level_bytes index.levels) ++ byte ∷ []) after → IfSome told (λ bytes. FailsAs bytes (Trailing byte))
 trailing-fails None after index count byte bounded long read = tt
 trailing-fails (Some x) None index count byte bounded long read = absurd read
 trailing-fails (Some x) (Some y) index count byte bounded long read =
-    inr (inr (record {
+    record {
       index = index;
       behind = y;
       bounded = bounded;
       stand = read ∙ append_assoc (head_bytes index.eps index.eps_rec count ++ flat_map level_bytes index.levels) (byte ∷ []) y ∙ ap (λ (w : List ℕ). w ++ byte ∷ y) (index-of index count long);
-    }))
+    }
 
 pub index-read : (told after : Option (List ℕ)) (index : SavedIndex) (count : ℕ) → IsBounded index.eps index.eps_rec index.levels → length index.levels ≡ count →
     HasRead told (head_bytes index.eps index.eps_rec count ++ flat_map level_bytes index.levels) after → IfSome after (λ bytes. bytes ≡ []) → IfSome told (IsSpelling index)
@@ -294,10 +287,14 @@ taken-in Part offset piece taken (Magic at) here goes takes = absurd takes
 taken-in Part offset piece taken (Epsilon value) here goes takes = absurd takes
 taken-in Part offset piece taken (Trailing byte) here goes takes = absurd takes
 
-pub head-leaves : (Part : List ℕ → Type 0) (offset : ℕ) (piece : List ℕ) (told before after : Option (List ℕ)) (fault : IndexFault) → offset ≡ length piece → GoesOn Part IsIndex piece →
-    HasRead told piece before → Leaves (TakesIn Part offset) before after fault → Leaves IsTaken told after fault
-head-leaves Part offset piece told before after fault here goes read =
-    Leaves-behind (TakesIn Part offset) IsTaken piece told before after fault read (λ taken takes. taken-in Part offset piece taken fault here goes takes)
+-- a fault behind a front of the head; `Kept` is what the taken bytes go on to where memory ran out
+pub head-fails : {S : Type 0} (shelf : Ghosts S) (Part Before Kept : List ℕ → Type 0) (offset : ℕ) (piece : List ℕ) (first old new : S) (fault : IndexFault) → offset ≡ length piece →
+    ReadsPiece shelf piece first old → Continues Part offset piece → Stands Before IsBeforeIndexCut piece → GoesOn Kept IsIndex piece →
+    ReadFails shelf (origin_of fault) (λ bytes. StopsIn Part Before offset bytes fault) (λ taken. TakesIn Kept offset taken fault) old new →
+    ReadFails shelf (origin_of fault) (λ bytes. FailsAs bytes fault) (λ taken. IsTaken taken fault) first new
+head-fails shelf Part Before Kept offset piece first old new fault here so_far goes stands kept =
+    fails-behind shelf (origin_of fault) _ _ _ _ piece first old new so_far
+    (λ bytes. part-fails Part Before offset piece here goes stands bytes fault) (λ taken. taken-in Kept offset piece taken fault here kept)
 
 -- levels behind their head are an index
 pub levels-index : (eps eps_rec count : ℕ) → eps ≤ 1048576 → eps_rec ≤ 1048576 → count < 2 ^ 32 → GoesOn (AreLevels count) IsIndex (head_bytes eps eps_rec count)

@@ -1,24 +1,26 @@
 -- A run by its bytes: thirteen, and eight more where it says under.
-use Rattle.std.proofs.Common.{◌≡◌, ℕ, ◌+◌, ◌<◌, ◌≤◌, List, [], ◌∷◌, ◌++◌, length, take, drop, get_or, refl, sym, ap, ◌∙◌, subst, append_assoc, length-append, arith, Option, Some, None, inl, inr, ⊎_elim}
+use Rattle.std.proofs.Common.{◌≡◌, ℕ, ◌+◌, ◌<◌, ◌≤◌, List, [], ◌∷◌, ◌++◌, length, take, drop, get_or, refl, sym, ap, ◌∙◌, subst, append_assoc, length-append, arith, Option, Some, None}
 use Rattle.std.specs.Option.{IfSome}
 use Rattle.std.proofs.lemmas.List.{take-append-drop, take-append-le, length-take-le, length-drop, append-nil}
 use Rattle.std.proofs.Math.Seq.{drop-cons}
 use Rattle.edge.specs.Reading.{HasRead}
-use Rattle.edge.proofs.CallerLemmas.{HasRead-append}
+use Rattle.edge.specs.Readers.{ReadFails}
+use Rattle.edge.specs.declared.shelf.Shelf.{Ghosts}
+use Rattle.edge.proofs.ReaderLemmas.{fails-behind, no_piece-read}
 use Rattle.index_file.specs.declared.saved.SavedRun.{SavedRun}
 use Rattle.index_file.specs.declared.saved.SavedCut.{SavedCut}
 use Rattle.index_file.specs.declared.saved.SavedCut.TheVariants.{Last, Over, Under}
 use Rattle.index_file.specs.declared.fault.IndexFault.{IndexFault}
 use Rattle.index_file.specs.declared.fault.IndexFault.TheVariants.{ReadFault, Short, Magic, Epsilon, Side, Trailing, NoMemory}
 use Rattle.index_file.specs.Spelling.{number, cut_bytes, pair_bytes, run_bytes}
-use Rattle.index_file.specs.Stops.{IsNumber, FollowsInCut, IsRun, IsBeforeCut, IsFront, EndsIn, StopsIn, HasFault}
+use Rattle.index_file.specs.Stops.{IsNumber, FollowsInCut, IsRun, IsBeforeCut, IsNoCut, IsFront, EndsIn, StopsIn, TakesIn, origin_of}
 use Rattle.index_file.proofs.Numbers.{length-number, number-in, take-split}
 
 -- the bytes end before the buffer is full
 pub ends-of : (told : Option (List ℕ)) (offset got : ℕ) (buf : List ℕ) → got < length buf → IfSome told (λ bytes. bytes ≡ take got buf) →
-    HasFault (EndsIn buf offset) told (Short (offset + got))
+    IfSome told (λ bytes. EndsIn buf offset bytes (Short (offset + got)))
 ends-of None offset got buf short ended = tt
-ends-of (Some bytes) offset got buf short ended = inr (inr (got, short, ended, refl))
+ends-of (Some bytes) offset got buf short ended = (got, short, ended, refl)
 
 -- each front of the buffer goes on to a whole
 abbrev pub Fronts : (List ℕ → Type 0) → List ℕ → Type 0
@@ -36,20 +38,21 @@ stops-ended Whole Before offset buf bytes (Epsilon value) fronts ends = ends
 stops-ended Whole Before offset buf bytes (Trailing byte) fronts ends = ends
 stops-ended Whole Before offset buf bytes NoMemory fronts ends = ends
 
-pub HasFault-ended : (Whole Before : List ℕ → Type 0) (offset : ℕ) (buf : List ℕ) (told : Option (List ℕ)) (fault : IndexFault) → Fronts Whole buf →
-    HasFault (EndsIn buf offset) told fault → HasFault (StopsIn Whole Before offset) told fault
-HasFault-ended Whole Before offset buf None fault fronts has = tt
-HasFault-ended Whole Before offset buf (Some bytes) fault fronts has =
-    ⊎_elim (λ p. inl p) (λ q. ⊎_elim (λ p. inr (inl p)) (λ r. inr (inr (stops-ended Whole Before offset buf bytes fault fronts r))) q) has
+-- a call that takes no memory
+takes-kept : (Kept : List ℕ → Type 0) (offset : ℕ) (taken : List ℕ) (fault : IndexFault) → TakesIn IsNoCut offset taken fault → TakesIn Kept offset taken fault
+takes-kept Kept offset taken NoMemory takes = absurd takes.1
+takes-kept Kept offset taken fault takes = takes
+
+pub ends-early : {S : Type 0} (shelf : Ghosts S) (Whole Before Kept : List ℕ → Type 0) (offset : ℕ) (buf : List ℕ) (old new : S) (fault : IndexFault) → Fronts Whole buf →
+    ReadFails shelf (origin_of fault) (λ bytes. EndsIn buf offset bytes fault) (λ taken. TakesIn IsNoCut offset taken fault) old new →
+    ReadFails shelf (origin_of fault) (λ bytes. StopsIn Whole Before offset bytes fault) (λ taken. TakesIn Kept offset taken fault) old new
+ends-early shelf Whole Before Kept offset buf old new fault fronts =
+    fails-behind shelf (origin_of fault) _ _ _ _ [] old old new (no_piece-read shelf old)
+    (λ bytes. stops-ended Whole Before offset buf bytes fault fronts) (λ taken. takes-kept Kept offset taken fault)
 
 -- the buffer itself is a whole
 pub fronts-of_buffer : (Whole : List ℕ → Type 0) (buf : List ℕ) → Whole buf → Fronts Whole buf
 fronts-of_buffer Whole buf whole = λ n short. (drop n buf, omega (arith, length-drop n buf), subst Whole (sym (take-append-drop n buf)) whole)
-
--- nothing was read
-pub HasRead-nothing : (told : Option (List ℕ)) → HasRead told [] told
-HasRead-nothing None = tt
-HasRead-nothing (Some bytes) = refl
 
 pub all-of : (xs : List ℕ) (n : ℕ) → length xs ≡ n → take n xs ≡ xs
 all-of xs n long = sym (append-nil (take n xs)) ∙ ap (λ (w : List ℕ). take n xs ++ w) (sym (none (drop n xs) (omega (arith, length-drop n xs)))) ∙ take-append-drop n xs
@@ -140,29 +143,27 @@ run-fronts buf long small = λ n short.
 
 -- the thirteenth byte is no side
 pub run-side : (told after : Option (List ℕ)) (offset at : ℕ) (buf : List ℕ) → length buf ≡ 13 → ((k : ℕ) → get_or buf k 0 < 256) → HasRead told buf after →
-    at ≡ offset + 12 → 2 < get_or buf 12 0 → HasFault (StopsIn IsRun IsBeforeCut offset) told (Side at (get_or buf 12 0))
+    at ≡ offset + 12 → 2 < get_or buf 12 0 → IfSome told (λ bytes. StopsIn IsRun IsBeforeCut offset bytes (Side at (get_or buf 12 0)))
 run-side None after offset at buf long small read place high = tt
 run-side (Some bytes) None offset at buf long small read place high = absurd read
 run-side (Some bytes) (Some left) offset at buf long small read place high =
     let stand : bytes ≡ take 12 buf ++ get_or buf 12 0 ∷ left =
     read ∙ ap (λ (w : List ℕ). w ++ left) (thirteen-of buf long) ∙ append_assoc (take 12 buf) (get_or buf 12 0 ∷ []) left in
-    inr (inr (record {
+    record {
       front = take 12 buf;
       behind = left;
       stand = stand;
       before_cut = before-cut-of buf (omega arith) small;
       place = omega (arith, length-take-le 12 buf (omega arith));
       no_side = high;
-    }))
+    }
 
 -- a run is its pair, and its cut
-pub run-read : (told mid after : Option (List ℕ)) (buf rest : List ℕ) (start a b : ℕ) (cut : SavedCut) → length buf ≡ 13 → pair_bytes start a b ≡ take 12 buf →
-    get_or buf 12 0 ∷ rest ≡ cut_bytes cut → HasRead told buf mid → HasRead mid rest after → HasRead told (run_bytes (record { start = start; a = a; b = b; cut = cut })) after
-run-read told mid after buf rest start a b cut long pair tail first second =
-    let whole : buf ++ rest ≡ run_bytes (record { start = start; a = a; b = b; cut = cut }) =
+pub run-read : (buf rest : List ℕ) (start a b : ℕ) (cut : SavedCut) → length buf ≡ 13 → pair_bytes start a b ≡ take 12 buf →
+    get_or buf 12 0 ∷ rest ≡ cut_bytes cut → buf ++ rest ≡ run_bytes (record { start = start; a = a; b = b; cut = cut })
+run-read buf rest start a b cut long pair tail =
     ap (λ (w : List ℕ). w ++ rest) (thirteen-of buf long) ∙ append_assoc (take 12 buf) (get_or buf 12 0 ∷ []) rest ∙
-    ap (λ (w : List ℕ). w ++ (get_or buf 12 0 ∷ rest)) (sym pair) ∙ ap (λ (w : List ℕ). pair_bytes start a b ++ w) tail ∙ run-of start a b cut in
-    subst (λ (w : List ℕ). HasRead told w after) whole (HasRead-append told mid after buf rest first second)
+    ap (λ (w : List ℕ). w ++ (get_or buf 12 0 ∷ rest)) (sym pair) ∙ ap (λ (w : List ℕ). pair_bytes start a b ++ w) tail ∙ run-of start a b cut
 
 pub length-pair : (start a b : ℕ) → length (pair_bytes start a b) ≡ 12
 unfolding pair_bytes
@@ -186,10 +187,6 @@ run-goes buf long small bytes follows =
     ap (λ (w : List ℕ). buf ++ w) (append-nil bytes) ∙ ap (λ (w : List ℕ). w ++ bytes) (thirteen-of buf long) ∙ append_assoc (take 12 buf) (get_or buf 12 0 ∷ []) bytes ∙
     ap (λ (w : List ℕ). w ++ (get_or buf 12 0 ∷ bytes)) pair.6 ∙ ap (λ (w : List ℕ). pair_bytes pair.0 pair.1 pair.2 ++ w) follows.2 ∙ run-of pair.0 pair.1 pair.2 cut in
     ([], (record { start = pair.0; a = pair.1; b = pair.2; cut = cut }, record { start = pair.3; a = pair.4; b = pair.5; cut = follows.1 }, whole))
-
--- all of the buffer was read
-pub whole-read : (told after : Option (List ℕ)) (buf : List ℕ) (n : ℕ) → length buf ≡ n → HasRead told (take n buf) after → HasRead told buf after
-whole-read told after buf n long read = subst (λ (w : List ℕ). HasRead told w after) (all-of buf n long) read
 
 -- a byte of at most 2 that is neither 0 nor 1
 pub follows-two : (byte : ℕ) (buf : List ℕ) → byte ≡ 2 → length buf ≡ 8 → ((k : ℕ) → get_or buf k 0 < 256) → FollowsInCut byte buf

@@ -1,11 +1,13 @@
 -- The reading of any bytes as the file of an index: the index, or the first fault in the order of the bytes.
-use Rattle.std.specs.Prelude.{◌≡◌, ◌≢◌, ◌⊎◌, ℕ, ◌+◌, ◌<◌, ◌≤◌, ◌^◌, List, [], ◌∷◌, ◌++◌, length, take, slice_index, Option, Result, Ok, Err}
+use Rattle.std.specs.Prelude.{◌≡◌, ◌≢◌, ◌⊎◌, ℕ, ◌+◌, ◌<◌, ◌≤◌, ◌^◌, List, [], ◌∷◌, ◌++◌, length, take, slice_index, Option, IfSome, Result, Ok, Err}
 use Rattle.edge.specs.Reading.{HasRead}
+use Rattle.edge.specs.Readers.{Reads}
+use Rattle.edge.specs.declared.shelf.Shelf.{Ghosts}
 use Rattle.exact_cross.specs.declared.TheConstants.{MAX_EPSILON}
 use Rattle.index_file.specs.declared.fault.IndexFault.{IndexFault}
 use Rattle.index_file.specs.declared.fault.IndexFault.TheVariants.{ReadFault, Short, Magic, Epsilon, Side, Trailing, NoMemory}
 use Rattle.index_file.specs.Spelling.{SavedIndex, number, magic, head_bytes, index_bytes, IsBounded, IsSpelling}
-use Rattle.index_file.specs.Stops.{AreLevels, AreBeforeLevelCut, IsFront, IsSide}
+use Rattle.index_file.specs.Stops.{AreLevels, AreBeforeLevelCut, IsFront, IsSide, origin_of}
 
 -- the bytes of any two bounds and of so many levels as follow, where a bound that is whole in the first `got` bytes isn't too great
 pub record IsFormUpTo (got : ℕ) (bytes : List ℕ) : Type 0 where
@@ -81,7 +83,12 @@ IsTaken taken (Trailing byte) = (front : List ℕ) × IsIndex front × (taken �
 IsTaken taken NoMemory = (rest : List ℕ) × IsIndex (taken ++ rest)
 IsTaken taken ReadFault = ⊥
 
--- what was left goes on behind the bytes that this answer takes, which for an index are its spelling
-abbrev pub HasTaken : Option (List ℕ) → Option (List ℕ) → Result SavedIndex IndexFault → Type 0
-HasTaken before after (Ok index) = HasRead before (index_bytes index) after
-HasTaken before after (Err fault) = (taken : List ℕ) × HasRead before taken after × IsTaken taken fault
+-- all bytes that were left are the spelling of the index
+pub record GivesIndex (index : SavedIndex) (before after : Option (List ℕ)) : Type 0 where
+  pub saved : IfSome before (IsSpelling index)
+  pub taken : HasRead before (index_bytes index) after
+
+-- a call that reads a front of the file, or all of it
+abbrev pub ReadsFile : {S T : Type 0} → Ghosts S → (T → Option (List ℕ) → Option (List ℕ) → Type 0)
+    → S → Result T IndexFault → S → Type 0
+ReadsFile shelf Gives old result new = Reads shelf origin_of Gives FailsAs IsTaken old result new

@@ -1,9 +1,10 @@
 -- Where the reading of a piece of the file stops.
-use Rattle.std.specs.Prelude.{◌≡◌, ◌⊎◌, ℕ, ◌+◌, ◌<◌, ◌≤◌, ◌^◌, List, ◌∷◌, ◌++◌, length, take, All, Option, IfSome, Result, MatchResult}
+use Rattle.std.specs.Prelude.{◌≡◌, ℕ, ◌+◌, ◌<◌, ◌^◌, List, ◌∷◌, ◌++◌, length, take, All, Option, Result}
 use Rattle.std.specs.List.{flat_map}
 use Rattle.edge.specs.Reading.{HasRead}
-use Rattle.edge.specs.Risen.{HasRisen}
-use Rattle.edge.specs.Shelf.{IsEmptied}
+use Rattle.edge.specs.Readers.{Origin, Reads}
+use Rattle.edge.specs.Readers.Origin.{of_shelf, of_memory, of_bytes}
+use Rattle.edge.specs.declared.shelf.Shelf.{Ghosts}
 use Rattle.index_file.specs.declared.saved.SavedRun.{SavedRun}
 use Rattle.index_file.specs.declared.saved.SavedCut.{SavedCut}
 use Rattle.index_file.specs.declared.fault.IndexFault.{IndexFault}
@@ -83,18 +84,15 @@ abbrev pub EndsIn : List ℕ → ℕ → List ℕ → IndexFault → Type 0
 EndsIn buf offset bytes (Short got) = (n : ℕ) × (n < length buf) × (bytes ≡ take n buf) × (got ≡ offset + n)
 EndsIn buf offset bytes _ = ⊥
 
--- the shelf failed, or memory ran out, or the fault is what `says` tells of the bytes that were left
-abbrev pub HasFault : (List ℕ → IndexFault → Type 0) → Option (List ℕ) → IndexFault → Type 0
-HasFault says told fault = IfSome told (λ bytes. (fault ≡ ReadFault) ⊎ (fault ≡ NoMemory) ⊎ says bytes fault)
-
--- the count of faults rose where this is the answer, else it stayed
-abbrev pub HasCauseOf : IndexFault → ℕ → ℕ → Type 0
-HasCauseOf ReadFault before after = (before ≤ after) × HasRisen before after
-HasCauseOf _ before after = after ≡ before
-
--- the same of a call, which leaves the count where it succeeds
-abbrev pub HasReadCause : {T : Type 0} → ℕ → ℕ → Result T IndexFault → Type 0
-HasReadCause before after result = MatchResult result (λ _. after ≡ before) (λ fault. HasCauseOf fault before after)
+-- where each fault comes from
+abbrev pub origin_of : IndexFault → Origin
+origin_of ReadFault = of_shelf
+origin_of NoMemory = of_memory
+origin_of (Short got) = of_bytes
+origin_of (Magic at) = of_bytes
+origin_of (Epsilon value) = of_bytes
+origin_of (Side at byte) = of_bytes
+origin_of (Trailing byte) = of_bytes
 
 -- the bytes that were taken, which begin at this offset of the file, where this is the fault: all up to it, and where memory ran out they go on to a whole piece
 abbrev pub TakesIn : (List ℕ → Type 0) → ℕ → List ℕ → IndexFault → Type 0
@@ -103,7 +101,17 @@ TakesIn Whole offset taken (Side at byte) = at + 1 ≡ offset + length taken
 TakesIn Whole offset taken NoMemory = (rest : List ℕ) × Whole (taken ++ rest)
 TakesIn Whole offset taken _ = ⊥
 
--- after `ReadFault` nothing is left, and after another fault what is behind the bytes that were taken
-abbrev pub Leaves : (List ℕ → IndexFault → Type 0) → Option (List ℕ) → Option (List ℕ) → IndexFault → Type 0
-Leaves says before after ReadFault = IsEmptied before after
-Leaves says before after fault = (taken : List ℕ) × HasRead before taken after × says taken fault
+-- a call that reads a piece whose bytes begin at this offset, and one that takes no memory and meets no cut byte
+abbrev pub ReadsIn : {S T : Type 0} → Ghosts S → (T → Option (List ℕ) → Option (List ℕ) → Type 0)
+    → (List ℕ → Type 0) → (List ℕ → Type 0) → ℕ → S → Result T IndexFault → S → Type 0
+ReadsIn shelf Gives Whole BeforeCut offset old result new =
+    Reads shelf origin_of Gives (StopsIn Whole BeforeCut offset) (TakesIn Whole offset) old result new
+
+abbrev pub ReadsFew : {S T : Type 0} → Ghosts S → (T → Option (List ℕ) → Option (List ℕ) → Type 0)
+    → (List ℕ → Type 0) → ℕ → S → Result T IndexFault → S → Type 0
+ReadsFew shelf Gives Whole offset old result new =
+    Reads shelf origin_of Gives (StopsIn Whole IsNoCut offset) (TakesIn IsNoCut offset) old result new
+
+-- the bytes that end this cut, of which this byte was read, came next
+abbrev pub GivesCut : ℕ → SavedCut → Option (List ℕ) → Option (List ℕ) → Type 0
+GivesCut byte cut before after = (rest : List ℕ) × (byte ∷ rest ≡ cut_bytes cut) × HasRead before rest after

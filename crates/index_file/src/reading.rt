@@ -1,20 +1,17 @@
 // Reading the file of an index: its head, its levels, and that nothing follows.
-ghost use Rattle.std.specs.Prelude.{◌≡◌, ◌≢◌, ◌+◌, ◌*◌, ◌<◌, ◌≤◌, ◌^◌, ℕ, List, ◌∷◌, length};
-ghost use Rattle.std.specs.Prelude.{◌⊎◌, Result, Err, take, drop, slice_index, All};
-ghost use Rattle.std.specs.Prelude.{IfOk, IfErr, OnOk, IfSome, MatchResult, IsErrOf};
+ghost use Rattle.std.specs.Prelude.{◌≡◌, ◌+◌, ◌*◌, ◌<◌, ◌≤◌, ◌^◌, ℕ, length, take, drop};
+ghost use Rattle.std.specs.Prelude.{◌⊎◌, Result, slice_index, All, IfOk, OnOk, IfSome, MatchResult};
 ghost use Rattle.std.specs.List.{flat_map};
-ghost use Rattle.edge.specs.Reading.{HasRead};
+ghost use Rattle.edge.specs.Readers.{Reads, GivesPiece};
 ghost use Rattle.edge.specs.Risen.{StaysQuiet};
-ghost use Rattle.edge.specs.Shelf.{IsEmptied};
 ghost use Rattle.index_file.specs.Spelling.{magic, number, cut_bytes, run_bytes};
-ghost use Rattle.index_file.specs.Spelling.{level_bytes, head_bytes, index_bytes, runs_of};
-ghost use Rattle.index_file.specs.Spelling.{SavedIndex};
-ghost use Rattle.index_file.specs.Spelling.{CutFits, RunFits, LevelFits, IsBounded, IsSpelling};
+ghost use Rattle.index_file.specs.Spelling.{level_bytes, head_bytes, runs_of, SavedIndex};
+ghost use Rattle.index_file.specs.Spelling.{CutFits, RunFits, LevelFits, IsBounded};
 ghost use Rattle.index_file.specs.Stops.{IsNumber, FollowsInCut, IsRun, IsBeforeCut, AreRuns};
 ghost use Rattle.index_file.specs.Stops.{AreBeforeCut, IsLevel, IsBeforeLevelCut, AreLevels};
-ghost use Rattle.index_file.specs.Stops.{AreBeforeLevelCut, IsNoCut, EndsIn, StopsIn, HasFault};
-ghost use Rattle.index_file.specs.Stops.{HasReadCause, TakesIn, Leaves};
-ghost use Rattle.index_file.specs.Faults.{FailsAs, ReadsAs, IsTaken, HasTaken};
+ghost use Rattle.index_file.specs.Stops.{AreBeforeLevelCut, IsNoCut, EndsIn, TakesIn, GivesCut};
+ghost use Rattle.index_file.specs.Stops.{origin_of, ReadsIn, ReadsFew};
+ghost use Rattle.index_file.specs.Faults.{ReadsAs, GivesIndex, ReadsFile};
 
 use crate::spelling::MAGIC;
 use crate::{IndexFault, Saved, SavedCut, SavedRun};
@@ -47,26 +44,17 @@ const FURTHEST: u64 = 1 << 62;
 /// `ReadFault` at once where the shelf failed; then nothing is left. `NoMemory` where memory for
 /// the next runs wasn't found, and where the levels so far have more than 2^62 bytes.
 pub fn read_index<F: Shelf>(alloc: Global, shelf: &mut F) -> Result<Saved, IndexFault>
-    // Where the shelf tells the bytes: they are the spelling of the index, or the fault is theirs,
-    // unless the shelf failed or memory ran out.
-    ensures saved { IfOk result (λ saved. IfSome (F.rest shelf.old) (IsSpelling saved)) }
-    ensures fault { IfErr result (HasFault FailsAs (F.rest shelf.old)) }
+    // The files stay, and the count rises only where the shelf failed. Where the shelf tells the
+    // bytes, they are the spelling of the index, or the fault is theirs. What is left is what was
+    // left, but for a front part: one byte past the last level, at most.
+    ensures reading { ReadsFile F.Shelf GivesIndex shelf.old result shelf.new }
     ensures wherever { IfSome (F.rest shelf.old)
         (λ bytes. (reading : Result SavedIndex IndexFault) → ReadsAs bytes reading →
         StaysQuiet (F.faults shelf.old) (F.faults shelf.new) →
         MatchResult result (λ saved. reading ≡ Ok saved)
         (λ fault. (fault ≡ IndexFault.NoMemory) ⊎ (reading ≡ Err fault))) }
-
     // Told or not.
     ensures bounded { IfOk result (λ saved. IsBounded saved.eps saved.eps_rec saved.levels) }
-    ensures cause { HasReadCause (F.faults shelf.old) (F.faults shelf.new) result }
-    ensures files { F.files shelf.new ≡ F.files shelf.old }
-
-    // What is left is what was left, but for a front part: one byte past the last level, at most.
-    ensures taken { result ≢ Err IndexFault.ReadFault →
-        HasTaken (F.rest shelf.old) (F.rest shelf.new) result }
-    ensures nothing_left { IsErrOf result IndexFault.ReadFault → IsEmptied (F.rest shelf.old)
-        (F.rest shelf.new) }
 {
     match read_file(alloc, shelf) {
         Ok(saved) => Ok(saved),
@@ -76,14 +64,8 @@ pub fn read_index<F: Shelf>(alloc: Global, shelf: &mut F) -> Result<Saved, Index
 
 /// The index that the file holds, or the fault that its bytes have.
 fn read_file<F: Shelf>(alloc: Global, shelf: &mut F) -> Result<Saved, IndexFault>
-    ensures saved { IfOk result (λ saved. IfSome (F.rest shelf.old) (IsSpelling saved)) }
-    ensures fault { IfErr result (HasFault FailsAs (F.rest shelf.old)) }
     ensures bounded { IfOk result (λ saved. IsBounded saved.eps saved.eps_rec saved.levels) }
-    ensures cause { HasReadCause (F.faults shelf.old) (F.faults shelf.new) result }
-    ensures files { F.files shelf.new ≡ F.files shelf.old }
-    ensures taken { IfOk result
-        (λ saved. HasRead (F.rest shelf.old) (index_bytes saved) (F.rest shelf.new)) }
-    ensures left { IfErr result (Leaves IsTaken (F.rest shelf.old) (F.rest shelf.new)) }
+    ensures reading { ReadsFile F.Shelf GivesIndex shelf.old result shelf.new }
 {
     let head = read_head(shelf)?;
     let mut at = 20;
@@ -105,15 +87,12 @@ struct Head {
 
 /// The head of the file.
 fn read_head<F: Shelf>(shelf: &mut F) -> Result<Head, IndexFault>
-    ensures read { IfOk result (λ head. HasRead (F.rest shelf.old)
-        (head_bytes head.eps head.eps_rec head.levels) (F.rest shelf.new)) }
     ensures small { IfOk result (λ head. head.eps ≤ MAX_EPSILON) }
     ensures small_rec { IfOk result (λ head. head.eps_rec ≤ MAX_EPSILON) }
     ensures few { IfOk result (λ head. head.levels < 2 ^ 32) }
-    ensures fault { IfErr result (HasFault FailsAs (F.rest shelf.old)) }
-    ensures cause { HasReadCause (F.faults shelf.old) (F.faults shelf.new) result }
-    ensures files { F.files shelf.new ≡ F.files shelf.old }
-    ensures left { IfErr result (Leaves IsTaken (F.rest shelf.old) (F.rest shelf.new)) }
+    ensures reading { ReadsFile F.Shelf
+        (GivesPiece (λ head. head_bytes head.eps head.eps_rec head.levels))
+        shelf.old result shelf.new }
 {
     read_magic(shelf)?;
     let mut at = 8;
@@ -135,11 +114,7 @@ fn read_head<F: Shelf>(shelf: &mut F) -> Result<Head, IndexFault>
 
 /// Takes `PGMINDEX`.
 fn read_magic<F: Shelf>(shelf: &mut F) -> Result<(), IndexFault>
-    ensures read { OnOk result (HasRead (F.rest shelf.old) magic (F.rest shelf.new)) }
-    ensures fault { IfErr result (HasFault FailsAs (F.rest shelf.old)) }
-    ensures cause { HasReadCause (F.faults shelf.old) (F.faults shelf.new) result }
-    ensures files { F.files shelf.new ≡ F.files shelf.old }
-    ensures left { IfErr result (Leaves IsTaken (F.rest shelf.old) (F.rest shelf.new)) }
+    ensures { ReadsFile F.Shelf (GivesPiece (λ _. magic)) shelf.old result shelf.new }
 {
     let mut bytes = [0; 8];
     let got = fill(shelf, &mut bytes)?;
@@ -157,14 +132,10 @@ fn read_magic<F: Shelf>(shelf: &mut F) -> Result<(), IndexFault>
 /// Fills the buffer with the next bytes. `at` is the offset of the next byte, before and after.
 fn fill_all<F: Shelf>(shelf: &mut F, bytes: &mut [u8], at: &mut u64) -> Result<(), IndexFault>
     requires room { at.old + length bytes.old < 2 ^ 64 }
-    ensures read { OnOk result (HasRead (F.rest shelf.old) bytes.new (F.rest shelf.new)) }
     ensures at { OnOk result (at.new ≡ at.old + length bytes.old) }
     ensures small { (k : ℕ) → slice_index bytes.new k < 256 }
-    ensures fault { IfErr result (HasFault (EndsIn bytes.new at.old) (F.rest shelf.old)) }
-    ensures cause { HasReadCause (F.faults shelf.old) (F.faults shelf.new) result }
-    ensures files { F.files shelf.new ≡ F.files shelf.old }
-    ensures left { IfErr result
-        (Leaves (TakesIn IsNoCut at.old) (F.rest shelf.old) (F.rest shelf.new)) }
+    ensures reading { Reads F.Shelf origin_of (GivesPiece (λ _. bytes.new)) (EndsIn bytes.new at.old)
+        (TakesIn IsNoCut at.old) shelf.old result shelf.new }
 {
     let got = fill(shelf, bytes)?;
     *at += got as u64;
@@ -177,15 +148,9 @@ fn fill_all<F: Shelf>(shelf: &mut F, bytes: &mut [u8], at: &mut u64) -> Result<(
 /// The next number, of four bytes.
 fn read_number<F: Shelf>(shelf: &mut F, at: &mut u64) -> Result<u32, IndexFault>
     requires room { at.old + 4 < 2 ^ 64 }
-    ensures read { IfOk result
-        (λ n. HasRead (F.rest shelf.old) (number n) (F.rest shelf.new)) }
     ensures at { OnOk result (at.new ≡ at.old + 4) }
-    ensures fault { IfErr result
-        (HasFault (StopsIn IsNumber IsNoCut at.old) (F.rest shelf.old)) }
-    ensures cause { HasReadCause (F.faults shelf.old) (F.faults shelf.new) result }
-    ensures files { F.files shelf.new ≡ F.files shelf.old }
-    ensures left { IfErr result
-        (Leaves (TakesIn IsNoCut at.old) (F.rest shelf.old) (F.rest shelf.new)) }
+    ensures reading { ReadsFew F.Shelf (GivesPiece number) IsNumber at.old
+        shelf.old result shelf.new }
 {
     let mut bytes = [0; 4];
     fill_all(shelf, &mut bytes, at)?;
@@ -205,17 +170,11 @@ fn number_at(bytes: &[u8], i: usize) -> u32
 fn read_cut<F: Shelf>(shelf: &mut F, at: &mut u64, byte: u8) -> Result<SavedCut, IndexFault>
     requires room { at.old + 8 < 2 ^ 64 }
     requires side { byte ≤ 2 }
-    ensures read { IfOk result (λ cut. (rest : List ℕ) × (byte ∷ rest ≡ cut_bytes cut)
-        × HasRead (F.rest shelf.old) rest (F.rest shelf.new)) }
     ensures fits { IfOk result CutFits }
     ensures at { IfOk result (λ cut. at.new + 1 ≡ at.old + length (cut_bytes cut)) }
     ensures few { OnOk result (at.new ≤ at.old + 8) }
-    ensures fault { IfErr result
-        (HasFault (StopsIn (FollowsInCut byte) IsNoCut at.old) (F.rest shelf.old)) }
-    ensures cause { HasReadCause (F.faults shelf.old) (F.faults shelf.new) result }
-    ensures files { F.files shelf.new ≡ F.files shelf.old }
-    ensures left { IfErr result
-        (Leaves (TakesIn IsNoCut at.old) (F.rest shelf.old) (F.rest shelf.new)) }
+    ensures reading { ReadsFew F.Shelf (GivesCut byte) (FollowsInCut byte) at.old
+        shelf.old result shelf.new }
 {
     if byte == 0 {
         return Ok(SavedCut::Last);
@@ -231,17 +190,11 @@ fn read_cut<F: Shelf>(shelf: &mut F, at: &mut u64, byte: u8) -> Result<SavedCut,
 /// The next run.
 fn read_run<F: Shelf>(shelf: &mut F, at: &mut u64) -> Result<SavedRun, IndexFault>
     requires room { at.old + 21 < 2 ^ 64 }
-    ensures read { IfOk result
-        (λ run. HasRead (F.rest shelf.old) (run_bytes run) (F.rest shelf.new)) }
     ensures fits { IfOk result RunFits }
     ensures at { IfOk result (λ run. at.new ≡ at.old + length (run_bytes run)) }
     ensures few { OnOk result (at.new ≤ at.old + 21) }
-    ensures fault { IfErr result
-        (HasFault (StopsIn IsRun IsBeforeCut at.old) (F.rest shelf.old)) }
-    ensures cause { HasReadCause (F.faults shelf.old) (F.faults shelf.new) result }
-    ensures files { F.files shelf.new ≡ F.files shelf.old }
-    ensures left { IfErr result
-        (Leaves (TakesIn IsRun at.old) (F.rest shelf.old) (F.rest shelf.new)) }
+    ensures reading { ReadsIn F.Shelf (GivesPiece run_bytes) IsRun IsBeforeCut at.old
+        shelf.old result shelf.new }
 {
     let mut front = [0; 13];
     fill_all(shelf, &mut front, at)?;
@@ -266,17 +219,11 @@ fn read_runs<F: Shelf>(
     at: &mut u64,
 ) -> Result<Vec<SavedRun>, IndexFault>
     requires room { at.old + 21 * count < 2 ^ 64 }
-    ensures read { IfOk result
-        (λ runs. HasRead (F.rest shelf.old) (flat_map run_bytes runs.items) (F.rest shelf.new)) }
     ensures fits { IfOk result (λ runs. All RunFits runs.items) }
     ensures len { IfOk result (λ runs. length runs.items ≡ count) }
     ensures at { IfOk result (λ runs. at.new ≡ at.old + length (flat_map run_bytes runs.items)) }
-    ensures fault { IfErr result
-        (HasFault (StopsIn (AreRuns count) (AreBeforeCut count) at.old) (F.rest shelf.old)) }
-    ensures cause { HasReadCause (F.faults shelf.old) (F.faults shelf.new) result }
-    ensures files { F.files shelf.new ≡ F.files shelf.old }
-    ensures left { IfErr result
-        (Leaves (TakesIn (AreRuns count) at.old) (F.rest shelf.old) (F.rest shelf.new)) }
+    ensures reading { ReadsIn F.Shelf (GivesPiece (λ runs. flat_map run_bytes runs.items))
+        (AreRuns count) (AreBeforeCut count) at.old shelf.old result shelf.new }
 {
     let mut runs = Vec::new(alloc);
     for done in 0..count {
@@ -298,16 +245,10 @@ fn read_level<F: Shelf>(
     at: &mut u64,
 ) -> Result<Vec<SavedRun>, IndexFault>
     requires room { at.old ≤ FURTHEST }
-    ensures read { IfOk result
-        (λ runs. HasRead (F.rest shelf.old) (level_bytes runs.items) (F.rest shelf.new)) }
     ensures fits { IfOk result (λ runs. LevelFits runs.items) }
     ensures at { IfOk result (λ runs. at.new ≡ at.old + length (level_bytes runs.items)) }
-    ensures fault { IfErr result
-        (HasFault (StopsIn IsLevel IsBeforeLevelCut at.old) (F.rest shelf.old)) }
-    ensures cause { HasReadCause (F.faults shelf.old) (F.faults shelf.new) result }
-    ensures files { F.files shelf.new ≡ F.files shelf.old }
-    ensures left { IfErr result
-        (Leaves (TakesIn IsLevel at.old) (F.rest shelf.old) (F.rest shelf.new)) }
+    ensures reading { ReadsIn F.Shelf (GivesPiece (λ runs. level_bytes runs.items))
+        IsLevel IsBeforeLevelCut at.old shelf.old result shelf.new }
 {
     let count = read_number(shelf, at)?;
     let runs = read_runs(alloc, shelf, count, at)?;
@@ -321,16 +262,11 @@ fn read_levels<F: Shelf>(
     count: u32,
     at: &mut u64,
 ) -> Result<Vec<Vec<SavedRun>>, IndexFault>
-    ensures read { IfOk result (λ levels. HasRead (F.rest shelf.old)
-        (flat_map level_bytes (runs_of levels.items)) (F.rest shelf.new)) }
     ensures fits { IfOk result (λ levels. All LevelFits (runs_of levels.items)) }
     ensures len { IfOk result (λ levels. length (runs_of levels.items) ≡ count) }
-    ensures fault { IfErr result (HasFault (StopsIn (AreLevels count)
-        (AreBeforeLevelCut count) at.old) (F.rest shelf.old)) }
-    ensures cause { HasReadCause (F.faults shelf.old) (F.faults shelf.new) result }
-    ensures files { F.files shelf.new ≡ F.files shelf.old }
-    ensures left { IfErr result
-        (Leaves (TakesIn (AreLevels count) at.old) (F.rest shelf.old) (F.rest shelf.new)) }
+    ensures reading { ReadsIn F.Shelf
+        (GivesPiece (λ levels. flat_map level_bytes (runs_of levels.items)))
+        (AreLevels count) (AreBeforeLevelCut count) at.old shelf.old result shelf.new }
 {
     let mut levels = Vec::new(alloc);
     for done in 0..count {

@@ -18,6 +18,8 @@ mod cut_witness_rows;
 #[cfg(test)]
 mod exact_cross_rows;
 #[cfg(test)]
+mod hints_rows;
+#[cfg(test)]
 mod hulls_rows;
 #[cfg(test)]
 mod index_file_rows;
@@ -25,8 +27,6 @@ mod index_file_rows;
 mod key_points_rows;
 #[cfg(test)]
 mod levels_rows;
-#[cfg(test)]
-mod lines_rows;
 #[cfg(test)]
 mod near_rows;
 #[cfg(test)]

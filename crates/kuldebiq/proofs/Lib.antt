@@ -1,7 +1,7 @@
 pub mod Values
 pub mod Crossing
 pub mod IndexHandles
-pub mod LinesHandles
+pub mod HintsHandles
 pub mod MapHandles
 pub mod Judged
 pub mod PairLemmas

@@ -1,7 +1,7 @@
 pub mod Owned
 pub mod Answers
 pub mod Building
-pub mod Lines
+pub mod Hints
 pub mod Positions
 pub mod Segments
 pub mod Changes

@@ -1,7 +1,7 @@
-//! Lookups by lines, the index and the map for C and C++.
+//! Lookups by hints, the index and the map for C and C++.
 //!
 //! Each call is named `kuldebiq_..` and is declared in `include/kuldebiq.h`, which says for each
-//! what C owes. A lookup by lines is given keys and words, and answers a place. Each other call is
+//! what C owes. A lookup by hints is given these and keys, and answers a place. Each other call is
 //! passed the place of a handle, which is a pointer in C's memory, null where it holds nothing, and
 //! answers a status and a number ([`Answer`]): what a call can test is tested, and refused with a
 //! number that says why.
@@ -17,12 +17,12 @@ mod box_calls;
 mod building;
 mod code_calls;
 mod find_calls;
+mod hints_calls;
+mod hints_handle;
 mod index_calls;
 mod index_handle;
+mod kept_hints;
 mod kept_index;
-mod kept_lines;
-mod lines_calls;
-mod lines_handle;
 mod load_calls;
 mod loose;
 mod making;
@@ -39,8 +39,8 @@ ghost use Rattle.std.specs.Prelude.{◌≡◌};
 
 use answer::Answer;
 use box_calls::{RegionParts, Stretch};
+use hints_handle::HintsHandle;
 use index_handle::IndexHandle;
-use lines_handle::LinesHandle;
 use map_calls::Pair;
 use map_handle::MapHandle;
 use segment_parts::SegmentParts;
@@ -54,7 +54,7 @@ const _: () = prove!(size_of::<Answer>() == 16);
 
 const _: () = prove!(size_of::<IndexHandle>() == 8);
 
-const _: () = prove!(size_of::<LinesHandle>() == 8);
+const _: () = prove!(size_of::<HintsHandle>() == 8);
 
 const _: () = prove!(size_of::<MapHandle>() == 8);
 
@@ -79,7 +79,7 @@ pub extern "C" fn kuldebiq_version() -> u32
 /// Handles may go to another thread: this is checked only where both are [`Send`]. It runs nothing.
 pub fn handles_may_move() {
     moves::<IndexHandle>();
-    moves::<LinesHandle>();
+    moves::<HintsHandle>();
     moves::<MapHandle>();
 }
 

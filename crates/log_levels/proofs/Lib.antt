@@ -15,3 +15,5 @@ pub mod WalkLemmas
 pub mod OrderLemmas
 pub mod RangeLemmas
 pub mod LoadLemmas
+pub mod EndLemmas
+pub mod BareLemmas

@@ -103,7 +103,7 @@ value-insert-other (pair ∷ pairs) key value q other = elim (cases_order key pa
 ]
 
 -- a key taken out
-remove-here : (pair : ℕ × ℕ) (pairs : List (ℕ × ℕ)) (key : ℕ) → key ≡ pair.0 → remove_entry (is_at (nat_cmp key)) (pair ∷ pairs) ≡ pairs
+pub remove-here : (pair : ℕ × ℕ) (pairs : List (ℕ × ℕ)) (key : ℕ) → key ≡ pair.0 → remove_entry (is_at (nat_cmp key)) (pair ∷ pairs) ≡ pairs
 remove-here pair pairs key same = cond-true _ _ _ (is_at-eqb key pair.0 ∙ eq-eqb key pair.0 same)
 
 remove-later : (pair : ℕ × ℕ) (pairs : List (ℕ × ℕ)) (key : ℕ) → (key ≡ pair.0 → ⊥) → remove_entry (is_at (nat_cmp key)) (pair ∷ pairs) ≡ pair ∷ remove_entry (is_at (nat_cmp key)) pairs
@@ -241,7 +241,7 @@ previous-is low (pair ∷ pairs) q key value (from, rest) le is none = elim (cas
     pair-is (k, v) key value same_key same_value = cc
 
 -- the keys from one bound to another
-between-inside : (low high key : ℕ) → low ≤ key → key ≤ high → is_between low high key ≡ true
+pub between-inside : (low high key : ℕ) → low ≤ key → key ≤ high → is_between low high key ≡ true
 between-inside low high key above below = and_from _ _ (le-leb low key above) (le-leb key high below)
 
 between-below : (low high key : ℕ) → key < low → is_between low high key ≡ false
@@ -303,6 +303,20 @@ pairs-end (pair ∷ pairs) low high none bound (from, rest) =
           let apart : Some pair.1 ≡ None = sym (value-here pair pairs pair.0 refl) ∙ none pair.0 (leb-true _ _ bounds.0) (leb-true _ _ bounds.1) in cc
       | inr outside ↦ pairs-dropped pair pairs low high outside ∙ later
     ]
+
+-- without keys before a number it makes no difference where they begin
+pub pairs-bare : (bound : ℕ) (pairs : List (ℕ × ℕ)) (low start high : ℕ) → RisesFrom bound pairs → low ≤ start
+    → ((key : ℕ) → low ≤ key → key < start → value_at pairs key ≡ None) → pairs_between pairs low high ≡ pairs_between pairs start high
+pairs-bare bound [] low start high rises le none = refl
+pairs-bare bound (pair ∷ pairs) low start high (from, rest) le none = elim (cases_lt pair.0 low) [
+  | inl before ↦ pairs-dropped pair pairs low high (between-below low high pair.0 before)
+      ∙ pairs-bare (pair.0 + 1) pairs low start high rest le (λ key above below. sym (value-later pair pairs key (λ same. absurd (omega arith))) ∙ none key above below)
+      ∙ sym (pairs-dropped pair pairs start high (between-below start high pair.0 (omega arith)))
+  | inr at_least ↦ elim (cases_lt pair.0 start) [
+    | inl bare ↦ let apart : Some pair.1 ≡ None = sym (value-here pair pairs pair.0 refl) ∙ none pair.0 at_least bare in cc
+    | inr behind ↦ pairs-same start (pair ∷ pairs) low high (behind, rest) le
+  ]
+]
 
 pub count-pairs : (pairs : List (ℕ × ℕ)) (low high : ℕ) → count_between pairs low high ≡ length (pairs_between pairs low high)
 count-pairs [] low high = refl

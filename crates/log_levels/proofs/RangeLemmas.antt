@@ -1,5 +1,5 @@
 -- Pairs of a range that are written one behind the other.
-use Rattle.std.proofs.Common.{◌≡◌, ℕ, ◌+◌, ◌<◌, ◌≤◌, min, List, [], ◌∷◌, ◌++◌, length, take, drop, get_or, slice_set, sym, ap, ◌∙◌, arith, length-drop}
+use Rattle.std.proofs.Common.{◌≡◌, ℕ, ◌+◌, ◌<◌, ◌≤◌, min, List, [], ◌∷◌, ◌++◌, length, take, drop, get_or, slice_set, refl, sym, ap, ◌∙◌, arith, length-drop}
 use Rattle.std.proofs.lemmas.List.{take_more, take_more_set, drop-set-lt, drop_more, length-set}
 
 -- the first pairs are written, so many; what is behind them is as it was, and these are left
@@ -10,6 +10,17 @@ pub record IsWritten (pairs left now old : List (ℕ × ℕ)) (count : ℕ) : Ty
   pub written : take count now ≡ take count pairs
   pub behind : drop count now ≡ drop count old
   pub left_is : drop count pairs ≡ left
+
+-- at the start none is
+pub written-none : (pairs now : List (ℕ × ℕ)) → IsWritten pairs pairs now now 0
+written-none pairs now = record {
+  same_room = refl;
+  counted = omega arith;
+  fits = omega arith;
+  written = refl;
+  behind = refl;
+  left_is = refl;
+}
 
 drop-one : (pairs : List (ℕ × ℕ)) (n : ℕ) (pair : ℕ × ℕ) (left : List (ℕ × ℕ)) → n < length pairs → drop n pairs ≡ pair ∷ left → (get_or pairs n pair ≡ pair) × (drop (n + 1) pairs ≡ left)
 drop-one pairs n pair left inside is =

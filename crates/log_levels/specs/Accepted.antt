@@ -1,5 +1,5 @@
 -- The entries that updates stand for: a sweep becomes a deletion of each key that it takes away.
-use Rattle.std.specs.Prelude.{ℕ, List, [], ◌∷◌, ◌++◌, map, Some, None, ⊤}
+use Rattle.std.specs.Prelude.{ℕ, List, [], ◌∷◌, ◌++◌, map, Option, Some, None, ⊤}
 use Rattle.std.specs.Map.{keys_of}
 use Rattle.tombstones.specs.declared.entry.Entry.{Entry}
 use Rattle.log_levels.specs.declared.update.Update.{Update}
@@ -38,6 +38,11 @@ abbrev pub IsPlain : Update → Type 0
 IsPlain (Put key value) = ⊤
 IsPlain (Del key) = ⊤
 IsPlain (Sweep low high) = ⊥
+
+-- the deletion of a key that was found, if one was
+abbrev pub taking : Option (ℕ × ℕ) → List Update
+taking None = []
+taking (Some pair) = Del pair.0 ∷ []
 
 -- a put of each of these pairs, in their order
 abbrev pub puts_of : List (ℕ × ℕ) → List Update

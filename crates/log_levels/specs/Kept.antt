@@ -9,6 +9,7 @@ use Rattle.std.specs.Arc.{arc_value}
 use Rattle.options.specs.declared.map.TheConstants.{MAX_LEVELS}
 use Rattle.tombstones.specs.declared.entry.Entry.{Entry}
 use Rattle.tombstones.specs.Entries.{IsAscending, entry_at, kept}
+use Rattle.log_levels.specs.declared.bare.Bare.{Bare}
 use Rattle.log_levels.specs.declared.heads.First.{First}
 use Rattle.log_levels.specs.declared.upcoming.Upcoming.{Upcoming}
 use Rattle.log_levels.specs.declared.walk.Walk.{Walk}
@@ -29,12 +30,26 @@ levels_of {Z} stored = map (option_map (λ (level : Arc (List Entry) Z). arc_val
 abbrev pub held_of : {Z : Type 0} → ℕ → List Entry → List (Option (Arc (List Entry) Z)) → Held
 held_of accepted buffer stored = record { accepted = accepted; buffer = buffer; levels = levels_of stored }
 
--- a map that is kept so stands for some entries, and its buffer has room for 64
-pub record IsKept (held : Held) (room : ℕ) : Type 0 where
+-- the value that an entry gives its key, if there is an entry
+abbrev pub value_of : Option Entry → Option ℕ
+value_of None = None
+value_of (Some entry) = entry.value
+
+-- a number of a stretch
+abbrev pub IsIn : Bare → ℕ → Type 0
+IsIn bare key = (bare.low ≤ key) × (key ≤ bare.high)
+
+-- a map has no key in a stretch
+abbrev pub IsBareIn : Held → Bare → Type 0
+IsBareIn held bare = (entries : List Entry) (key : ℕ) → IsCutOf held entries → IsIn bare key → value_of (last_at entries key) ≡ None
+
+-- a map that is kept so stands for some entries, its buffer has room for 64, and it has no key in the stretch that it remembers
+pub record IsKept (held : Held) (room : ℕ) (stretch : Bare) : Type 0 where
   pub cut : (entries : List Entry) × IsCutOf held entries
   pub roomy : 64 ≤ room
   pub some : 1 ≤ length held.levels
   pub few : length held.levels ≤ MAX_LEVELS
+  pub bare : IsBareIn held stretch
 
 -- the levels below level i, the buffer and the new entries behind them, merged: what comes behind the blocks from bit i on. Where no bit from bit i on is left, deletions are left out
 pub record IsMergedTo (entries : List Entry) (f i : ℕ) (new merged : List Entry) : Type 0 where
@@ -60,11 +75,6 @@ IsGrownLevel held new i level = (entries : List Entry) → IsCutOf held entries 
 -- the entries of a level, if there is one
 abbrev pub shared_of : {Z : Type 0} → Option (Arc (List Entry) Z) → Option (List Entry)
 shared_of {Z} level = option_map (λ (level : Arc (List Entry) Z). arc_value level) level
-
--- the value that an entry gives its key, if there is an entry
-abbrev pub value_of : Option Entry → Option ℕ
-value_of None = None
-value_of (Some entry) = entry.value
 
 -- no entry has the key
 pub record IsAbsent (held : Held) (key : ℕ) : Type 0 where

@@ -41,6 +41,14 @@ live_in pairs = count_between pairs 0 18446744073709551615
 abbrev pub previous_to : List (ℕ × ℕ) → ℕ → Option (ℕ × ℕ)
 previous_to map q = find (λ pair. nat_le pair.0 q) (reverse map)
 
+-- the least key with its value, if there is one
+abbrev pub first_of : List (ℕ × ℕ) → Option (ℕ × ℕ)
+first_of map = next_from map 0
+
+-- the greatest key with its value, if there is one
+abbrev pub last_of : List (ℕ × ℕ) → Option (ℕ × ℕ)
+last_of map = previous_to map 18446744073709551615
+
 -- the pairs from low to high, both included, by rising key
 abbrev pub pairs_between : List (ℕ × ℕ) → ℕ → ℕ → List (ℕ × ℕ)
 pairs_between map low high = filter (λ pair. is_between low high pair.0) map

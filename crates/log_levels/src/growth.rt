@@ -174,6 +174,7 @@ impl LogMap {
             IsCutOf map (entries ++ new.now)) }
         ensures levels { IfOk result (λ map. length map.levels ≡ length self.now.levels) }
     {
+        let bare = self.bare.without_puts(new);
         let blocks = self.blocks_with(new.len());
         let top = highest_change(self.accepted / BLOCK, blocks);
         let stored = self.levels_with(builder, alloc, new, top)?;
@@ -185,6 +186,7 @@ impl LogMap {
             accepted,
             buffer,
             stored,
+            bare,
         })
     }
 
@@ -209,6 +211,7 @@ impl LogMap {
         }
         push_each(&mut self.buffer, new);
         self.accepted = after;
+        self.bare = self.bare.without_puts(new);
         Ok(())
     }
 

@@ -14,6 +14,8 @@
 #![tactic(auto)]
 
 mod apply;
+mod bare;
+mod ends;
 mod fault;
 mod growth;
 mod heads;

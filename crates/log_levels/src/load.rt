@@ -12,6 +12,7 @@ ghost use Rattle.log_levels.specs.Shapes.{IsCutOf, IsLevelFor, IsMapOf, StandsFo
 ghost use Rattle.log_levels.specs.Maps.{map_after, AreRising, IsFirstStall};
 ghost use Rattle.log_levels.specs.Kept.{entries_put, shared_of};
 
+use crate::bare::Bare;
 use crate::fault::{LoadFault, MapFault};
 use crate::growth::{entries_from_bit, part, shared};
 use crate::log_map::{BLOCK, LogMap, capacity_with};
@@ -132,6 +133,7 @@ fn map_put(alloc: Global, levels: u32, pairs: &[(u64, u64)]) -> Result<LogMap, N
     ensures cut { IfOk result (λ map. IsCutOf map (entries_put pairs.now)) }
     ensures levels { IfOk result (λ map. length map.levels ≡ levels) }
 {
+    let bare = Bare::none();
     let mut stored = Vec::with_capacity(alloc, levels as usize)?;
     for i in 0..levels as usize {
         stored.push(level_put(alloc, pairs, i)?)?;
@@ -143,6 +145,7 @@ fn map_put(alloc: Global, levels: u32, pairs: &[(u64, u64)]) -> Result<LogMap, N
         accepted: pairs.len() as u64,
         buffer,
         stored,
+        bare,
     })
 }
 

@@ -15,6 +15,7 @@ ghost use Rattle.log_levels.specs.Shapes.{level_of, from_bit};
 ghost use Rattle.log_levels.specs.Maps.{map_after};
 ghost use Rattle.log_levels.specs.Accepted.{entries_of};
 
+use crate::bare::Bare;
 use budget::NoMemory;
 use levels::Index;
 use map_level::Level;
@@ -45,6 +46,8 @@ pub struct LogMap {
     pub(crate) accepted: u64,
     pub(crate) buffer: Vec<Entry>,
     pub(crate) stored: Vec<Option<Arc<Level>>>,
+    /// The map has no key in it.
+    pub(crate) bare: Bare,
 }
 
 impl Model for LogMap {
@@ -58,7 +61,7 @@ impl Model for LogMap {
     ghost view = { λ map. held_of map.accepted map.buffer.items map.stored.items };
 
     ghost invariant = { λ map. IsKept (held_of map.accepted map.buffer.items map.stored.items)
-        (vec_capacity map.buffer) };
+        (vec_capacity map.buffer) map.bare };
 }
 
 /// How many entries a map with so many levels, up to 26, can accept: `64 * 2^levels - 1`.
@@ -81,6 +84,7 @@ impl LogMap {
         ensures empty { IfOk result (λ map. StandsFor map []) }
         ensures levels { IfOk result (λ map. length map.levels ≡ levels) }
     {
+        let bare = Bare::none();
         let mut stored = Vec::with_capacity(alloc, levels as usize)?;
         for _level in 0..levels {
             stored.push(None)?;
@@ -90,6 +94,7 @@ impl LogMap {
             accepted: 0,
             buffer,
             stored,
+            bare,
         })
     }
 
@@ -101,6 +106,7 @@ impl LogMap {
     pub fn copy(&self, alloc: Global) -> Result<LogMap, NoMemory>
         ensures { IfOk result (λ copy. copy ≡ self.now) }
     {
+        let bare = self.bare;
         let count = self.stored.len();
         let mut stored = Vec::with_capacity(alloc, count)?;
         for i in 0..count {
@@ -112,6 +118,7 @@ impl LogMap {
             accepted: self.accepted,
             buffer,
             stored,
+            bare,
         })
     }
 

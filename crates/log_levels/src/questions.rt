@@ -40,8 +40,9 @@ impl LogMap {
         ensures { (updates : List Update) → StandsFor self.now updates →
             result ≡ next_from (map_after updates) q }
     {
-        let mut walk = self.walk(q);
-        self.next_pair(&mut walk, u128::from(q))
+        let start = self.bare.behind(q);
+        let mut walk = self.walk(start);
+        self.next_pair(&mut walk, u128::from(start))
     }
 
     /// How many keys from `low` to `high` the map has, both included; none where `low` is above
@@ -55,8 +56,9 @@ impl LogMap {
             result ≡ count_between (map_after updates) low high }
     {
         let _ = self.accepted();
-        let mut walk = self.walk(low);
-        let mut from = u128::from(low);
+        let start = self.bare.behind(low);
+        let mut walk = self.walk(start);
+        let mut from = u128::from(start);
         let mut count = 0;
         while let Some((key, _)) = self.next_pair(&mut walk, from) {
             if key > high {
@@ -76,7 +78,7 @@ impl LogMap {
         ensures { (updates : List Update) → StandsFor self.now updates →
             result ≡ previous_to (map_after updates) q }
     {
-        let mut bound = q;
+        let mut bound = self.bare.before(q);
         while let Some(key) = self.greatest_key(bound) {
             if let Some(value) = self.get(key) {
                 return Some((key, value));

@@ -22,8 +22,9 @@ impl LogMap {
             take result (pairs_between (map_after updates) from to) ++ drop result pairs.old }
         ensures within { result ≤ length pairs.old }
     {
-        let mut walk = self.walk(from);
-        let mut low = u128::from(from);
+        let start = self.bare.behind(from);
+        let mut walk = self.walk(start);
+        let mut low = u128::from(start);
         let mut count = 0;
         while count < pairs.len() {
             let Some((key, value)) = self.next_pair(&mut walk, low) else {

@@ -97,6 +97,7 @@ impl LogMap {
         }
         let deletions = self.deletions(alloc, low, high, count)?;
         self.append(builder, alloc, &deletions)?;
+        self.leave_bare(low, high);
         Ok(count)
     }
 
@@ -112,8 +113,9 @@ impl LogMap {
             StandsFor self.now updates →
             deletions.items ≡ entries_for (map_after updates) (Sweep low high)) }
     {
-        let mut walk = self.walk(low);
-        let mut from = u128::from(low);
+        let start = self.bare.behind(low);
+        let mut walk = self.walk(start);
+        let mut from = u128::from(start);
         let mut deletions = Vec::with_capacity(alloc, count as usize)?;
         while let Some((key, _)) = self.next_pair(&mut walk, from) {
             if key > high {

@@ -5,8 +5,8 @@ use boxes::Boxes;
 use cut_witness::check_cover;
 use drill_inputs::Inputs;
 use exact_cross::PointList;
+use hints::{hints_of, position, upper_bound};
 use levels::{Bounds, Index, Keys, OpenGate};
-use lines::{lines_of, position, upper_bound};
 use log_levels::{LogMap, Update};
 use map_level::{HashedKey, Here, Level, latest_of};
 use options::{Drill, Senders, Workers};
@@ -32,12 +32,12 @@ fn levels_example(rt: HostRuntime) -> Result<(), Fail> {
 }
 
 #[test]
-fn lines_example(rt: HostRuntime) -> Result<(), Fail> {
+fn hints_example(rt: HostRuntime) -> Result<(), Fail> {
     let list = vec![in rt.alloc(); 1, 4, 9, 9, 16]?;
     let keys = list.as_slice();
-    let words = lines_of(rt.alloc(), keys, 1)?;
-    assert_eq!(rt; position(keys, &words, 9), 2);
-    assert_eq!(rt; upper_bound(keys, &words, 9), 4);
+    let hints = hints_of(rt.alloc(), keys, 1)?;
+    assert_eq!(rt; position(keys, &hints, 9), 2);
+    assert_eq!(rt; upper_bound(keys, &hints, 9), 4);
     assert_eq!(rt; position(keys, &[], 9), 2);
     Ok(())
 }

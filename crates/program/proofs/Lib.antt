@@ -2,9 +2,9 @@ pub mod InputLemmas
 pub mod NumberInputs
 pub mod ScriptInputs
 pub mod SavedInputs
-pub mod LineInputs
+pub mod HintInputs
 pub mod OneReading
-pub mod OtherLines
+pub mod OtherHints
 pub mod ScriptUpdates
 pub mod FewEntries
 pub mod Questions

@@ -12,7 +12,7 @@ use Rattle.program.proofs.InputLemmas.{IsFunctional, then_one, gives_one}
 use Rattle.program.proofs.NumberInputs.{numbers_one}
 use Rattle.program.proofs.ScriptInputs.{script_one}
 use Rattle.program.proofs.SavedInputs.{saved_one, judges_one}
-use Rattle.program.proofs.LineInputs.{lines_one}
+use Rattle.program.proofs.HintInputs.{hints_one}
 
 -- whether there is room is a matter of two numbers
 within_one : (count room : ℕ) (task : Task) → IsFunctional (reads_within count room task)
@@ -45,11 +45,11 @@ module _ (contents : List ℕ → Option (List ℕ)) where
       (λ coords. then_one _ _ (script_one (ScriptKind.Near searching.dims) contents searching.script) (λ lines. gives_one _))
   reads_one (replay replaying) = then_one _ _ (script_one ScriptKind.Replay contents replaying.script) (λ lines. within_one _ _ _)
   reads_one (mix replaying senders) = then_one _ _ (script_one ScriptKind.Mix contents replaying.script) (λ lines. within_one _ _ _)
-  reads_one (Request.lines lining) = then_one (reads_keys (not lining.narrow) (Some contents) lining.file) _
-      (numbers_one (of_keys (key_width (not lining.narrow))) contents lining.file) (λ keys. gives_one _)
+  reads_one (Request.hints hinting) = then_one (reads_keys (not hinting.narrow) (Some contents) hinting.file) _
+      (numbers_one (of_keys (key_width (not hinting.narrow))) contents hinting.file) (λ keys. gives_one _)
   reads_one (Request.find finding) = then_one (reads_keys (not finding.narrow) (Some contents) finding.file) _
       (numbers_one (of_keys (key_width (not finding.narrow))) contents finding.file)
-      (λ keys. then_one _ _ (lines_one contents finding.lines)
+      (λ keys. then_one _ _ (hints_one contents finding.hints)
       (λ _. then_one _ _ (script_one ScriptKind.Find contents finding.script) (λ lines. gives_one _)))
   reads_one (drill drilling) = gives_one _
   reads_one (save building) = then_one (reads_index (Some contents) building) _ (index_one building) (λ keys. gives_one _)

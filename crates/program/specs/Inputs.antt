@@ -57,15 +57,15 @@ reads_script asked files name (Err (Script line why)) =
     HoldsOfFile files name (λ bytes. (length bytes ≤ SCRIPT_LIMIT) × ReadsScript asked bytes (Err (script.At line why)))
 reads_script asked files name (Err refusal) = ⊥
 
--- a file of lines, of which nothing is told, since no answer depends on what it holds: it is there, or it isn't
-abbrev pub reads_lines : Files → List ℕ → Reading ⊤
-reads_lines files name (Ok _) = HoldsOfFile files name (λ bytes. ⊤)
-reads_lines files name (Err ReadFault) = IsMissing files name
-reads_lines files name (Err refusal) = ⊥
+-- a file of hints, of which nothing is told, since no answer depends on what it holds: it is there, or it isn't
+abbrev pub reads_hints : Files → List ℕ → Reading ⊤
+reads_hints files name (Ok _) = HoldsOfFile files name (λ bytes. ⊤)
+reads_hints files name (Err ReadFault) = IsMissing files name
+reads_hints files name (Err refusal) = ⊥
 
--- nothing is told of words
-abbrev pub no_words : {A : Type 0} → A → ⊤
-no_words words = tt
+-- nothing is told of hints
+abbrev pub no_hints : {A : Type 0} → A → ⊤
+no_hints hints = tt
 
 -- the questions of a script, in order
 abbrev pub question_in : ScriptLine → Option ℕ
@@ -177,9 +177,9 @@ reads files (near searching) = then (reads_points searching.dims files searching
     gives (tasks.Task.near searching.dims coords (centres_in lines))))
 reads files (replay replaying) = then (reads_script ScriptKind.Replay files replaying.script) (reads_history replaying)
 reads files (mix replaying senders) = then (reads_script ScriptKind.Mix files replaying.script) (reads_mixing replaying senders)
-reads files (Request.lines lining) = then (reads_keys (not lining.narrow) files lining.file) (λ keys. gives (tasks.Task.lines keys lining.eps))
+reads files (Request.hints hinting) = then (reads_keys (not hinting.narrow) files hinting.file) (λ keys. gives (tasks.Task.hints keys hinting.eps))
 reads files (Request.find finding) = then (reads_keys (not finding.narrow) files finding.file) (λ keys.
-    then (reads_lines files finding.lines) (λ _.
+    then (reads_hints files finding.hints) (λ _.
     then (reads_script ScriptKind.Find files finding.script) (λ lines.
     gives (tasks.Task.find keys (questions_in lines)))))
 reads files (drill drilling) = gives (drill_of drilling)

@@ -6,9 +6,9 @@
 //! aren't joined, `box FILE SCRIPT` the points in each box of the script, `near FILE SCRIPT` those
 //! nearest to each centre, `replay SCRIPT` what a map says beside the updates of the script and
 //! after them, `mix SCRIPT` the same where senders send the updates, `save FILE` the index as
-//! bytes, `check FILE INDEX` whether such bytes are the index of the keys, `lines FILE` words that
-//! say where among the keys to look first, `find FILE LINES SCRIPT` what `query` does, by lookups
-//! that such words lead, and `drill N SEED` what is counted of drawn keys, questions, points and
+//! bytes, `check FILE INDEX` whether such bytes are the index of the keys, `hints FILE` hints that
+//! say where among the keys to look first, `find FILE HINTS SCRIPT` what `query` does, by lookups
+//! that such hints lead, and `drill N SEED` what is counted of drawn keys, questions, points and
 //! updates.
 //! Of the keys 0, 1, 2, 10, `explain` writes with both bounds 0:
 //!
@@ -38,10 +38,10 @@ ghost use Rattle.commands.specs.Tasks.{Task};
 ghost use Rattle.program.specs.Outcomes.{Defines, IsOutcome, IsCause, EndsAs};
 ghost use Rattle.program.specs.Outcomes.Outcome.{text};
 
+mod hint_file;
 mod history;
 mod inputs;
 mod judging;
-mod line_file;
 mod refusal;
 mod status;
 mod tasks;
@@ -51,7 +51,7 @@ use crate::tasks::read;
 use command_line::{NoRequest, requested};
 use commands::write;
 use edge::{Gate, Shelf, Sink};
-pub use line_file::find_ignores_lines;
+pub use hint_file::find_ignores_hints;
 pub use status::Status;
 use std::sync::Wait;
 use std::thread::Threads;

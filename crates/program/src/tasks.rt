@@ -10,10 +10,10 @@ ghost use Rattle.program.specs.Files.{IsFirstMissing, IsMissing};
 ghost use Rattle.program.specs.Inputs.{reads};
 ghost use Rattle.program.specs.Stops.{Answers};
 
+use crate::hint_file::file_hints;
 use crate::history::{history_in, mixing_in};
 use crate::inputs::{centres_in, coordinates, indexing, regions_in, script_lines, sorted_keys};
 use crate::judging::{judged, saved_index};
-use crate::line_file::line_words;
 use crate::refusal::{Refusal, Stopped};
 use command_line::{Building, Checking, Finding, Replaying, Request, Searching};
 use commands::{Asking, Fitting, Lookups, Neighbours, Points, Relaxing, Search, Task};
@@ -57,10 +57,10 @@ pub fn read<F: Shelf>(alloc: Global, files: &mut F, request: Request<'_>) -> Res
         Request::Near { searching } => near_task(alloc, files, searching),
         Request::Replay { replaying } => replay_task(alloc, files, replaying),
         Request::Mix { replaying, senders } => mix_task(alloc, files, replaying, senders),
-        Request::Lines { lining } => {
-            let sorted = sorted_keys(alloc, files, lining.file, !lining.narrow)?;
-            let eps = lining.eps;
-            Ok(Task::Lines {
+        Request::Hints { hinting } => {
+            let sorted = sorted_keys(alloc, files, hinting.file, !hinting.narrow)?;
+            let eps = hinting.eps;
+            Ok(Task::Hints {
                 fitting: Fitting { sorted, eps },
             })
         }
@@ -208,7 +208,7 @@ fn mix_task<F: Shelf>(
     Ok(Task::Mix { mixing })
 }
 
-/// Keys, words that say where among them to look first, and questions for their positions.
+/// Keys, hints that say where among them to look first, and questions for their positions.
 fn find_task<F: Shelf>(alloc: Global, files: &mut F, finding: Finding<'_>) -> Result<Task, Stopped>
     ensures answer { Answers (reads (F.files files.old) (find (found_by finding.entry))) task_of
         (F.faults files.old) (F.faults files.new) result }
@@ -216,11 +216,11 @@ fn find_task<F: Shelf>(alloc: Global, files: &mut F, finding: Finding<'_>) -> Re
         → result ≡ Err (Stopped.Refused Refusal.ReadFault) }
 {
     let sorted = sorted_keys(alloc, files, finding.file, !finding.narrow)?;
-    let words = line_words(alloc, files, finding.lines, sorted.keys.len())?;
+    let hints = file_hints(alloc, files, finding.hints, sorted.keys.len())?;
     let finds: Finds = script_lines(alloc, files, finding.script, ScriptKind::Find)?;
     let lookups = Lookups {
         sorted,
-        words,
+        hints,
         questions: finds.numbers,
     };
     Ok(Task::Find { lookups })

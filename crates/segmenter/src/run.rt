@@ -65,23 +65,27 @@ pub fn longest_run<L: Ledger>(
     hulls.start(start, points.xs[start as usize], points.ys[start as usize]);
     let mut last = start;
     while last + 1 < to {
+        if !may_begin_stretch(points, last, to) {
+            let next = last as usize + 1;
+            if let Offer::Cut(witness) = hulls.offer(
+                points.xs[next],
+                points.ys[next],
+                false,
+                steps,
+            ) {
+                return run_of(hulls, start, last + 1, Some(witness));
+            }
+            last += 1;
+            continue;
+        }
         let progress = go_on(hulls, points, last, to, steps);
         last = progress.last;
         if let Offer::Cut(witness) = progress.offer {
-            let segment = segment_of(hulls, start, Some(witness));
-            return Run {
-                segment,
-                flat: hulls.flat_line(),
-                end: last + 1,
-            };
+            let end = last + 1;
+            return run_of(hulls, start, end, Some(witness));
         }
     }
-    let segment = segment_of(hulls, start, None);
-    Run {
-        segment,
-        flat: hulls.flat_line(),
-        end: to,
-    }
+    run_of(hulls, start, to, None)
 }
 
 /// How a run went on: its last place from now on, and the answer to the place after it, or
@@ -93,7 +97,7 @@ struct Progress {
 }
 
 /// Takes in the place after `last`, and with it as much of a stretch as some line fits.
-#[inline(always)]
+#[inline(never)]
 fn go_on<L: Ledger>(
     hulls: &mut Hulls,
     points: PointList<'_>,
@@ -329,20 +333,29 @@ fn last_fitting<L: Ledger>(
     fitting
 }
 
-/// The segment of the run that the hulls stand for.
-fn segment_of(hulls: &Hulls, start: u32, cut: Option<Witness>) -> Segment
-    requires { (p : Points) × (eps : ℕ) × (e : ℕ) × StandsFor hulls.now p eps start e }
-    ensures start { result.start ≡ start }
-    ensures steep { (p : Points) (eps e : ℕ) → StandsFor hulls.now p eps start e →
-        IsSteepSegment p eps result e }
-    ensures cut { result.cut ≡ cut }
+/// The run that the hulls stand for.
+fn run_of(hulls: &Hulls, start: u32, end: u32, cut: Option<Witness>) -> Run
+    requires { (p : Points) × (eps : ℕ) × StandsFor hulls.now p eps start end }
+    ensures start { result.segment.start ≡ start }
+    ensures end { result.end ≡ end }
+    ensures steep { (p : Points) (eps : ℕ) → StandsFor hulls.now p eps start end →
+        IsSteepSegment p eps result.segment end }
+    ensures flat { (p : Points) (eps : ℕ) → StandsFor hulls.now p eps start end →
+        IsFlatLine p eps start end result.flat }
+    ensures middle { MeanRises result.segment.line result.flat }
+    ensures cut { result.segment.cut ≡ cut }
 {
     let (a, b, line) = hulls.line();
-    Segment {
+    let segment = Segment {
         start,
         a,
         b,
         line,
         cut,
+    };
+    Run {
+        segment,
+        flat: hulls.flat_line(),
+        end,
     }
 }

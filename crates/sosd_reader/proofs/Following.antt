@@ -1,5 +1,5 @@
 -- The fault of a step is the fault of the whole file.
-use Rattle.std.proofs.Common.{◌≡◌, ℕ, ◌+◌, ◌-◌, ◌*◌, ◌^◌, ◌<◌, ◌≤◌, List, [], ◌∷◌, ◌++◌, length, get_or, refl, sym, ap, ◌∙◌, subst, append_assoc, length-append, arith, All, Option, Some, None, Result, Err, IfErr, mul-add, mul-le-mul_left, inl, inr, ⊎_elim}
+use Rattle.std.proofs.Common.{◌≡◌, ℕ, ◌+◌, ◌-◌, ◌*◌, ◌^◌, ◌<◌, ◌≤◌, List, [], ◌∷◌, ◌++◌, length, get_or, refl, sym, ap, ◌∙◌, subst, append_assoc, length-append, arith, All, Option, Some, None, Err, mul-add, mul-le-mul_left, inr}
 use Rattle.std.specs.List.{flat_map}
 use Rattle.std.specs.Option.{IfSome}
 use Rattle.std.proofs.lemmas.List.{append-nil, get_or_append_left, get_or_push, get_or-append-add}
@@ -9,25 +9,18 @@ use Rattle.byteorder.specs.Endian.{little_bytes}
 use Rattle.byteorder.specs.Numbers.{length-bytes_low_first}
 use Rattle.sosd_reader.specs.declared.fault.KeyFault.{KeyFault}
 use Rattle.sosd_reader.specs.declared.fault.KeyFault.TheVariants.{ReadFault, TooMany, Short, Unsorted, Trailing, Wide, NoMemory}
-use Rattle.sosd_reader.specs.NumberFiles.{Kind, number_width, numbers_each, AllFollow, AreNumbersOf, IsFileOf}
+use Rattle.edge.specs.Readers.{Origin, ReadFails, ReadsPiece}
+use Rattle.edge.specs.Readers.Origin.{of_bytes}
+use Rattle.edge.specs.Unread.{AreAtMost}
+use Rattle.edge.specs.declared.shelf.Shelf.{Ghosts}
+use Rattle.edge.proofs.ReaderLemmas.{fails-in}
+use Rattle.sosd_reader.specs.NumberFiles.{Kind, IsOfKeys, IsOfPoints, number_width, numbers_each, AllFollow, AreNumbersOf, IsFileOf}
+use Rattle.sosd_reader.specs.NumberFiles.Kind.{of_keys, of_points}
 use Rattle.sosd_reader.specs.FileFaults.{numbers_said, IsFirstFailing, IsShort, IsTrailing, ReadsAsFile}
 use Rattle.edge.specs.Reading.{HasRead}
-use Rattle.sosd_reader.specs.Reading.{FailsNext, EndsEarly, StopsAs, HasFault}
+use Rattle.sosd_reader.specs.Reading.{FailsNext, EndsEarly, StopsAs, of_keys_only, of_points_only, origin_of}
 use Rattle.sosd_reader.proofs.Fronts.{length-numbers}
 use Rattle.sosd_reader.proofs.Beginning.{BeginsWith, count-is, length-is, has-count, number-in, none-fails, whole-among}
-
--- the error that a call passed on
-pub IfErr-from : {T E : Type 0} (result : Result T E) (P : E → Type 0) (passed fault : E) → result ≡ Err passed → passed ≡ fault → P fault → IfErr result P
-IfErr-from {T} {E} result P passed fault is same holds = let Q : Result T E → Type 0 = λ r. IfErr r P in subst Q (sym (is ∙ ap Err same)) holds
-
--- a fault that is told of what comes after a piece is told of the whole
-pub HasFault-after : (says says' : List ℕ → KeyFault → Type 0) (first before : Option (List ℕ)) (piece : List ℕ) (fault : KeyFault) → HasRead first piece before →
-    ((bytes : List ℕ) → says bytes fault → says' (piece ++ bytes) fault) → HasFault says before fault → HasFault says' first fault
-HasFault-after says says' None before piece fault _ _ _ = tt
-HasFault-after says says' (Some x) None piece fault read _ _ = absurd read
-HasFault-after says says' (Some x) (Some y) piece fault read step has =
-    let P : List ℕ → Type 0 = λ w. says' w fault in
-    ⊎_elim (λ p. inl p) (λ q. ⊎_elim (λ p. inr (inl p)) (λ r. inr (inr (subst P (sym read) (step y r)))) q) has
 
 -- a number that fails does so whatever follows, among no more numbers than there was room for
 fails-later : (kind : Kind) (k n : ℕ) (front piece left : List ℕ) (at before number : ℕ) → k ≤ n →
@@ -56,12 +49,36 @@ piece-stops kind k n front piece left (Trailing byte) few room stops = absurd st
 piece-stops kind k n front piece left NoMemory few room stops = absurd stops
 
 pub chunk-stops : (kind : Kind) (k n : ℕ) (front piece : List ℕ) (before after : Option (List ℕ)) (fault : KeyFault) → HasRead before piece after → k ≤ n → number_width kind * k ≤ length piece →
-    StopsAs kind k front piece fault → HasFault (StopsAs kind n front) before fault
+    StopsAs kind k front piece fault → IfSome before (λ bytes. StopsAs kind n front bytes fault)
 chunk-stops kind k n front piece None after fault _ _ _ _ = tt
 chunk-stops kind k n front piece (Some x) None fault read _ _ _ = absurd read
 chunk-stops kind k n front piece (Some x) (Some y) fault read few room stops =
     let P : List ℕ → Type 0 = λ w. StopsAs kind n front w fault in
-    inr (inr (subst P (sym read) (piece-stops kind k n front piece y fault few room stops)))
+    subst P (sym read) (piece-stops kind k n front piece y fault few room stops)
+
+-- the bytes have such a fault
+keys-origin : (kind : Kind) → IsOfKeys kind → of_keys_only kind ≡ of_bytes
+keys-origin (of_keys width) is = refl
+keys-origin (of_points d) is = absurd is
+
+points-origin : (kind : Kind) → IsOfPoints kind → of_points_only kind ≡ of_bytes
+points-origin (of_keys width) is = absurd is
+points-origin (of_points d) is = refl
+
+stops-origin : (kind : Kind) (n : ℕ) (front bytes : List ℕ) (fault : KeyFault) → StopsAs kind n front bytes fault → origin_of kind fault ≡ of_bytes
+stops-origin kind n front bytes (Unsorted at before key) stops = keys-origin kind stops.0
+stops-origin kind n front bytes (Wide at value) stops = points-origin kind stops.0
+stops-origin kind n front bytes (Short got) stops = refl
+stops-origin kind n front bytes fault stops = absurd stops
+
+-- the fault of a piece that was read
+pub piece-fails : {S : Type 0} (shelf : Ghosts S) (kind : Kind) (k n most : ℕ) (front piece : List ℕ) (old new : S) (fault : KeyFault) →
+    ReadsPiece shelf piece old new → k ≤ n → number_width kind * k ≤ length piece → length piece ≤ most → StopsAs kind k front piece fault →
+    ReadFails shelf (origin_of kind fault) (λ bytes. StopsAs kind n front bytes fault) (λ taken. AreAtMost most taken fault) old new
+piece-fails shelf kind k n most front piece old new fault read few room long stops =
+    let Fails : Origin → Type 0 = λ o. ReadFails shelf o (λ bytes. StopsAs kind n front bytes fault) (λ taken. AreAtMost most taken fault) old new in
+    subst Fails (sym (stops-origin kind k front piece fault stops))
+    (fails-in shelf _ _ piece old new read (chunk-stops kind k n front piece _ _ fault read.read few room stops) long)
 
 -- the numbers of a list in front, and those after it
 joined : (width : ℕ) (front numbers over left : List ℕ) → left ≡ flat_map (little_bytes width) numbers ++ over →
@@ -214,7 +231,7 @@ trailing-file kind count numbers left byte fit =
 
 pub reads-trailing : (kind : Kind) (byte count : ℕ) (numbers : List ℕ) (first second third fourth : Option (List ℕ)) → AreNumbersOf kind count numbers →
     HasRead first (little_bytes 8 count) second → HasRead second (flat_map (little_bytes (number_width kind)) numbers) third → HasRead third (byte ∷ []) fourth →
-    HasFault (λ bytes fault. ReadsAsFile kind bytes (Err fault)) first (Trailing byte)
+    IfSome first (λ bytes. IsTrailing kind bytes byte)
 reads-trailing kind byte count numbers None second third fourth _ _ _ _ = tt
 reads-trailing kind byte count numbers (Some x) None third fourth _ read _ _ = absurd read
 reads-trailing kind byte count numbers (Some x) (Some y) None fourth _ _ read _ = absurd read
@@ -223,7 +240,7 @@ reads-trailing kind byte count numbers (Some x) (Some y) (Some z) (Some w) fit c
     let P : List ℕ → Type 0 = λ bytes. IsTrailing kind bytes byte in
     let F = flat_map (little_bytes (number_width kind)) numbers in
     let whole : x ≡ little_bytes 8 count ++ (F ++ (byte ∷ w)) = counted ∙ ap (λ (v : List ℕ). little_bytes 8 count ++ v) (read ∙ ap (λ (v : List ℕ). F ++ v) after) in
-    inr (inr (subst P (sym whole) (trailing-file kind count numbers w byte fit)))
+    subst P (sym whole) (trailing-file kind count numbers w byte fit)
 
 -- the count, the numbers of a list and nothing more are its file
 pub file-read : (kind : Kind) (count : ℕ) (numbers : List ℕ) (first second third : Option (List ℕ)) → AreNumbersOf kind count numbers →

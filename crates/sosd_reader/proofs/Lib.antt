@@ -1,7 +1,6 @@
 pub mod Numbers
 pub mod Widths
 pub mod KindLemmas
-pub mod Steps
 pub mod Fronts
 pub mod Beginning
 pub mod Unique

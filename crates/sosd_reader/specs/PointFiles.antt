@@ -2,15 +2,11 @@
 use Rattle.std.specs.Prelude.{ℕ, List, Result}
 use Rattle.sosd_reader.specs.declared.fault.KeyFault.{KeyFault}
 use Rattle.sosd_reader.specs.NumberFiles.Kind.{of_points}
-use Rattle.sosd_reader.specs.FileFaults.{ReadsAsFile, ReadingsOfKindAreOne, reach_of}
+use Rattle.sosd_reader.specs.FileFaults.{ReadsAsFile, ReadingsOfKindAreOne}
 
 -- the reading of the bytes: the coordinates whose file they are, or the first fault
 abbrev pub ReadsAsPoints : ℕ → List ℕ → Result (List ℕ) KeyFault → Type 0
 ReadsAsPoints d bytes reading = ReadsAsFile (of_points d) bytes reading
-
--- how many bytes are read at most: the count, and where it is one that a file may have, the coordinates and one byte
-abbrev pub point_reach : ℕ → List ℕ → ℕ
-point_reach d bytes = reach_of (of_points d) bytes
 
 -- any bytes have exactly one reading
 abbrev pub PointReadingsAreOne : ℕ → Type 0

@@ -1,13 +1,17 @@
 -- What a step of a reader does, where the shelf tells its bytes.
-use Rattle.std.specs.Prelude.{◌≡◌, ◌⊎◌, ℕ, ◌<◌, ◌≤◌, ◌+◌, ◌-◌, ◌*◌, ◌^◌, List, [], ◌∷◌, ◌++◌, length, All, slice_index, Option, IfSome, Result, MatchResult}
+use Rattle.std.specs.Prelude.{◌≡◌, ℕ, ◌<◌, ◌≤◌, ◌+◌, ◌-◌, ◌*◌, ◌^◌, List, [], ◌∷◌, ◌++◌, length, All, slice_index, Option, IfSome, Result, Err}
 use Rattle.std.specs.List.{flat_map}
 use Rattle.byteorder.specs.Endian.{little_bytes}
 use Rattle.edge.specs.Reading.{HasRead}
-use Rattle.edge.specs.Risen.{HasRisen}
-use Rattle.edge.specs.Shelf.{TakesAtMost, IsEmptied}
+use Rattle.edge.specs.Readers.{Origin, Reads}
+use Rattle.edge.specs.Readers.Origin.{of_shelf, of_memory, of_bytes, of_none}
+use Rattle.edge.specs.Shelf.{TakesAtMost}
+use Rattle.edge.specs.declared.shelf.Shelf.{Ghosts}
 use Rattle.sosd_reader.specs.declared.fault.KeyFault.{KeyFault}
-use Rattle.sosd_reader.specs.declared.fault.KeyFault.TheVariants.{ReadFault, Short, Unsorted, Wide, NoMemory}
-use Rattle.sosd_reader.specs.NumberFiles.{Kind, IsOfKeys, IsOfPoints, number_width, AllFollow, Fails}
+use Rattle.sosd_reader.specs.declared.fault.KeyFault.TheVariants.{ReadFault, TooMany, Short, Unsorted, Trailing, Wide, NoMemory}
+use Rattle.sosd_reader.specs.FileFaults.{ReadsAsFile, reach_of}
+use Rattle.sosd_reader.specs.NumberFiles.{Kind, IsOfKeys, IsOfPoints, number_width, AllFollow, Fails, IsFileOf}
+use Rattle.sosd_reader.specs.NumberFiles.Kind.{of_keys, of_points}
 
 -- the list went on by numbers that stand at the front of these bytes, of which fewer than a number's are over
 pub record GoesOn (width : ℕ) (front bytes list : List ℕ) : Type 0 where
@@ -45,33 +49,46 @@ StopsAs kind n front bytes (Wide at value) = IsOfPoints kind × ((before : ℕ) 
 StopsAs kind n front bytes (Short got) = EndsEarly kind n front bytes got
 StopsAs kind n front bytes _ = ⊥
 
--- the shelf failed, or memory ran out, or the fault is what `says` tells of the bytes that were left
-abbrev pub HasFault : (List ℕ → KeyFault → Type 0) → Option (List ℕ) → KeyFault → Type 0
-HasFault says told fault = IfSome told (λ bytes. (fault ≡ ReadFault) ⊎ (fault ≡ NoMemory) ⊎ says bytes fault)
-
 -- the list went on by numbers, whose bytes came next
-pub record ReadsNumbers (width : ℕ) (before : Option (List ℕ)) (front list : List ℕ) (after : Option (List ℕ)) : Type 0 where
+pub record ReadsNumbers (width : ℕ) (front list : List ℕ) (before after : Option (List ℕ)) : Type 0 where
   pub numbers : List ℕ
   pub added : list ≡ front ++ numbers
   pub each_fits : All (λ number. number < 256 ^ width) numbers
   pub read : HasRead before (flat_map (little_bytes width) numbers) after
 
--- the count of faults rose where this is the answer, else it stayed; a file of one kind never has the fault of the other
-abbrev pub HasCauseOf : Kind → KeyFault → ℕ → ℕ → Type 0
-HasCauseOf kind ReadFault before after = (before ≤ after) × HasRisen before after
-HasCauseOf kind (Unsorted at last key) before after = IsOfKeys kind × (after ≡ before)
-HasCauseOf kind (Wide at value) before after = IsOfPoints kind × (after ≡ before)
-HasCauseOf kind _ before after = after ≡ before
+-- the bytes have a fault that only one kind of file has
+abbrev pub of_keys_only : Kind → Origin
+of_keys_only (of_keys width) = of_bytes
+of_keys_only (of_points d) = of_none
 
--- the same of a call, which leaves the count where it succeeds
-abbrev pub HasReadCause : {T : Type 0} → Kind → ℕ → ℕ → Result T KeyFault → Type 0
-HasReadCause kind before after result = MatchResult result (λ _. after ≡ before) (λ fault. HasCauseOf kind fault before after)
+abbrev pub of_points_only : Kind → Origin
+of_points_only (of_keys width) = of_none
+of_points_only (of_points d) = of_bytes
 
--- after `ReadFault` nothing is left, and after another fault at most this many bytes are gone
-abbrev pub LeavesBy : ℕ → Option (List ℕ) → Option (List ℕ) → KeyFault → Type 0
-LeavesBy most before after ReadFault = IsEmptied before after
-LeavesBy most before after _ = TakesAtMost most before after
+-- where each fault comes from; a file of one kind never has the fault of the other
+abbrev pub origin_of : Kind → KeyFault → Origin
+origin_of kind ReadFault = of_shelf
+origin_of kind NoMemory = of_memory
+origin_of kind (TooMany count) = of_bytes
+origin_of kind (Short got) = of_bytes
+origin_of kind (Unsorted at before key) = of_keys_only kind
+origin_of kind (Trailing byte) = of_bytes
+origin_of kind (Wide at value) = of_points_only kind
 
--- the same of a call, after which at most this many bytes are gone where it succeeds
-abbrev pub Leaves : {T : Type 0} → ℕ → Option (List ℕ) → Option (List ℕ) → Result T KeyFault → Type 0
-Leaves most before after result = MatchResult result (λ _. TakesAtMost most before after) (LeavesBy most before after)
+-- the bytes have the fault as a file of this kind
+abbrev pub FailsAsFile : Kind → List ℕ → KeyFault → Type 0
+FailsAsFile kind bytes fault = ReadsAsFile kind bytes (Err fault)
+
+-- the bytes that were taken are no more than are read of those that were left
+abbrev pub IsWithinReach : Kind → Option (List ℕ) → List ℕ → KeyFault → Type 0
+IsWithinReach kind before taken fault = IfSome before (λ bytes. length taken ≤ reach_of kind bytes)
+
+-- the bytes that were left are the file of these numbers, and no more than are read of them are gone
+pub record GivesFile (kind : Kind) (numbers : List ℕ) (before after : Option (List ℕ)) : Type 0 where
+  pub file : IfSome before (IsFileOf kind numbers)
+  pub taken : IfSome before (λ bytes. TakesAtMost (reach_of kind bytes) before after)
+
+-- a call that reads a file of this kind
+abbrev pub ReadsFile : {S T : Type 0} → Ghosts S → Kind → (T → List ℕ) → S → Result T KeyFault → S → Type 0
+ReadsFile shelf kind numbers_of old result new = Reads shelf (origin_of kind)
+    (λ value. GivesFile kind (numbers_of value)) (FailsAsFile kind) (IsWithinReach kind (shelf.rest old)) old result new

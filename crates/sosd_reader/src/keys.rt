@@ -1,16 +1,15 @@
 // Reading a key file.
-ghost use Rattle.std.specs.Prelude.{◌≡◌, ◌≢◌, ◌⊎◌, ◌<◌, ◌≤◌, ◌^◌, ◌+◌, ◌/◌, ℕ, List, Result};
+ghost use Rattle.std.specs.Prelude.{◌≡◌, ◌⊎◌, ◌<◌, ◌≤◌, ◌^◌, ◌+◌, ◌/◌, ℕ, List, Result};
 ghost use Rattle.std.specs.Prelude.{All, length, take, vec_len, vec_capacity};
-ghost use Rattle.std.specs.Prelude.{IfOk, IfErr, OnOk, IfSome, MatchResult, IsErrOf};
+ghost use Rattle.std.specs.Prelude.{IfOk, IfErr, OnOk, IfSome, MatchResult};
 ghost use Rattle.std.specs.List.Sorted.{IsNonDecreasing};
 ghost use Rattle.byteorder.specs.Endian.{little_bytes};
-ghost use Rattle.edge.specs.Risen.{HasRisen, StaysQuiet};
-ghost use Rattle.edge.specs.Shelf.{TakesAtMost, IsEmptied};
+ghost use Rattle.edge.specs.Risen.{StaysQuiet};
 ghost use Rattle.sosd_reader.specs.NumberFiles.{IsKind, AllFollow};
 ghost use Rattle.sosd_reader.specs.NumberFiles.Kind.{of_keys};
 ghost use Rattle.sosd_reader.specs.KeyFiles.{key_width};
-ghost use Rattle.sosd_reader.specs.KeyFileFaults.{ReadsAs, ReadingsAreOne, reach};
-ghost use Rattle.sosd_reader.specs.Reading.{GoesOn, StopsAs};
+ghost use Rattle.sosd_reader.specs.KeyFileFaults.{ReadsAs, ReadingsAreOne};
+ghost use Rattle.sosd_reader.specs.Reading.{GoesOn, StopsAs, ReadsFile};
 
 use crate::KeyFault;
 use crate::number_list::{NumberList, first_u32, first_u64};
@@ -48,14 +47,11 @@ pub fn readings_are_one()
 ///
 /// Source: Kipf et al., "SOSD: A Benchmark for Learned Indexes", 2019.
 pub fn read_keys<F: Shelf>(alloc: Global, shelf: &mut F, wide: bool) -> Result<Vec<u64>, KeyFault>
-    // Where the shelf tells the bytes: their one reading, unless the shelf failed or memory ran
-    // out.
-    ensures keys { IfOk result
-        (λ keys. IfSome (F.rest shelf.old)
-        (λ bytes. ReadsAs (key_width wide) bytes (Ok keys.items))) }
-    ensures fault { IfErr result (λ fault. IfSome (F.rest shelf.old) (λ bytes.
-        (fault ≡ KeyFault.ReadFault) ⊎ (fault ≡ KeyFault.NoMemory)
-        ⊎ ReadsAs (key_width wide) bytes (Err fault))) }
+    // The files stay, and the count of faults rises only where the shelf failed. Where the shelf
+    // tells the bytes: their one reading, unless it failed or memory ran out. What is left is what
+    // was left, but for a front part: one byte past the last key, at most.
+    ensures reading { ReadsFile F.Shelf (of_keys (key_width wide)) (λ keys. keys.items)
+        shelf.old result shelf.new }
     ensures wherever { IfSome (F.rest shelf.old)
         (λ bytes. (reading : Result (List ℕ) KeyFault) → ReadsAs (key_width wide) bytes reading →
         StaysQuiet (F.faults shelf.old) (F.faults shelf.new) →
@@ -66,20 +62,6 @@ pub fn read_keys<F: Shelf>(alloc: Global, shelf: &mut F, wide: bool) -> Result<V
     ensures never_falls { IfOk result (λ keys. IsNonDecreasing keys.items) }
     ensures few { IfOk result (λ keys. vec_len keys < 2 ^ 32) }
     ensures each_fits { IfOk result (λ keys. All (λ key. key < 256 ^ key_width wide) keys.items) }
-    ensures not_wide { (at value : ℕ) → result ≢ Err (KeyFault.Wide at value) }
-
-    ensures read_fault { IsErrOf result KeyFault.ReadFault → HasRisen (F.faults shelf.old)
-        (F.faults shelf.new) }
-    ensures faulted { F.faults shelf.old < F.faults shelf.new → IsErrOf result KeyFault.ReadFault }
-    ensures faults { F.faults shelf.old ≤ F.faults shelf.new }
-    ensures files { F.files shelf.new ≡ F.files shelf.old }
-
-    // What is left is what was left, but for a front part: one byte past the last key, at most.
-    ensures taken { IfSome (F.rest shelf.old)
-        (λ bytes. result ≢ Err KeyFault.ReadFault → TakesAtMost (reach (key_width wide) bytes)
-        (F.rest shelf.old) (F.rest shelf.new)) }
-    ensures nothing_left { IsErrOf result KeyFault.ReadFault → IsEmptied (F.rest shelf.old)
-        (F.rest shelf.new) }
 {
     let mut list = KeyList {
         keys: Vec::new(alloc),

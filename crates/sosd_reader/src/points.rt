@@ -1,15 +1,14 @@
 // Reading a point file.
-ghost use Rattle.std.specs.Prelude.{◌≡◌, ◌≢◌, ◌⊎◌, ◌<◌, ◌≤◌, ◌+◌, ◌/◌, ℕ, List, Result};
+ghost use Rattle.std.specs.Prelude.{◌≡◌, ◌⊎◌, ◌≤◌, ◌+◌, ◌/◌, ℕ, List, Result};
 ghost use Rattle.std.specs.Prelude.{length, vec_len, vec_capacity};
-ghost use Rattle.std.specs.Prelude.{IfOk, IfErr, OnOk, IfSome, MatchResult, IsErrOf};
-ghost use Rattle.edge.specs.Risen.{HasRisen, StaysQuiet};
-ghost use Rattle.edge.specs.Shelf.{TakesAtMost, IsEmptied};
+ghost use Rattle.std.specs.Prelude.{IfOk, IfErr, OnOk, IfSome, MatchResult};
+ghost use Rattle.edge.specs.Risen.{StaysQuiet};
 ghost use Rattle.zorder.specs.Codes.{IsDimension};
 ghost use Rattle.zorder.specs.Points.{ArePoints};
 ghost use Rattle.sosd_reader.specs.NumberFiles.{AllFollow};
 ghost use Rattle.sosd_reader.specs.NumberFiles.Kind.{of_points};
-ghost use Rattle.sosd_reader.specs.PointFiles.{ReadsAsPoints, PointReadingsAreOne, point_reach};
-ghost use Rattle.sosd_reader.specs.Reading.{GoesOn, StopsAs};
+ghost use Rattle.sosd_reader.specs.PointFiles.{ReadsAsPoints, PointReadingsAreOne};
+ghost use Rattle.sosd_reader.specs.Reading.{GoesOn, StopsAs, ReadsFile};
 
 use crate::KeyFault;
 use crate::number_list::{NumberList, first_u32};
@@ -47,13 +46,11 @@ pub fn point_readings_are_one()
 /// After each the coordinates are given up.
 pub fn read_points<F: Shelf>(alloc: Global, shelf: &mut F, d: u32) -> Result<Vec<u32>, KeyFault>
     requires { IsDimension d }
-    // Where the shelf tells the bytes: their one reading, unless the shelf failed or memory ran
-    // out.
-    ensures points { IfOk result (λ points. IfSome (F.rest shelf.old)
-        (λ bytes. ReadsAsPoints d bytes (Ok points.items))) }
-    ensures fault { IfErr result (λ fault. IfSome (F.rest shelf.old) (λ bytes.
-        (fault ≡ KeyFault.ReadFault) ⊎ (fault ≡ KeyFault.NoMemory)
-        ⊎ ReadsAsPoints d bytes (Err fault))) }
+    // The files stay, and the count of faults rises only where the shelf failed. Where the shelf
+    // tells the bytes: their one reading, unless it failed or memory ran out. What is left is what
+    // was left, but for a front part: one byte past the last coordinate, at most.
+    ensures reading { ReadsFile F.Shelf (of_points d) (λ points. points.items)
+        shelf.old result shelf.new }
     ensures wherever { IfSome (F.rest shelf.old)
         (λ bytes. (reading : Result (List ℕ) KeyFault) → ReadsAsPoints d bytes reading →
         StaysQuiet (F.faults shelf.old) (F.faults shelf.new) →
@@ -62,21 +59,6 @@ pub fn read_points<F: Shelf>(alloc: Global, shelf: &mut F, d: u32) -> Result<Vec
 
     // Told or not.
     ensures are_points { IfOk result (λ points. ArePoints d points.items) }
-    ensures not_unsorted { (at before key : ℕ) → result ≢ Err (KeyFault.Unsorted at before key) }
-
-    ensures read_fault { IsErrOf result KeyFault.ReadFault → HasRisen (F.faults shelf.old)
-        (F.faults shelf.new) }
-    ensures faulted { F.faults shelf.old < F.faults shelf.new → IsErrOf result KeyFault.ReadFault }
-    ensures faults { F.faults shelf.old ≤ F.faults shelf.new }
-    ensures files { F.files shelf.new ≡ F.files shelf.old }
-
-    // What is left is what was left, but for a front part: one byte past the last coordinate, at
-    // most.
-    ensures taken { IfSome (F.rest shelf.old)
-        (λ bytes. result ≢ Err KeyFault.ReadFault → TakesAtMost (point_reach d bytes)
-        (F.rest shelf.old) (F.rest shelf.new)) }
-    ensures nothing_left { IsErrOf result KeyFault.ReadFault → IsEmptied (F.rest shelf.old)
-        (F.rest shelf.new) }
 {
     let mut list = PointList {
         coords: Vec::new(alloc),

@@ -1,13 +1,13 @@
 // Reading a file of numbers: its count, the numbers by chunks, and that nothing follows.
-ghost use Rattle.std.specs.Prelude.{◌≡◌, ◌<◌, ◌^◌, ◌+◌, ◌*◌, [], ℕ, All, length};
-ghost use Rattle.std.specs.Prelude.{IfOk, IfErr, OnOk, IfSome};
+ghost use Rattle.std.specs.Prelude.{◌≡◌, ◌<◌, ◌^◌, ◌+◌, ◌*◌, [], ℕ, All, length, OnOk};
 ghost use Rattle.std.specs.List.{flat_map};
 ghost use Rattle.byteorder.specs.Endian.{little_bytes};
-ghost use Rattle.edge.specs.Reading.{HasRead};
+ghost use Rattle.edge.specs.Readers.{Reads, GivesPiece};
+ghost use Rattle.edge.specs.Unread.{AreAtMost};
 ghost use Rattle.sosd_reader.specs.NumberFiles.{Kind, IsKind, number_width};
-ghost use Rattle.sosd_reader.specs.NumberFiles.{AllFollow, AreNumbersOf, IsFileOf};
-ghost use Rattle.sosd_reader.specs.FileFaults.{ReadsAsFile, reach_of};
-ghost use Rattle.sosd_reader.specs.Reading.{ReadsNumbers, StopsAs, HasFault, HasReadCause, Leaves};
+ghost use Rattle.sosd_reader.specs.NumberFiles.{AllFollow, AreNumbersOf};
+ghost use Rattle.sosd_reader.specs.Reading.{ReadsNumbers, StopsAs, FailsAsFile, ReadsFile};
+ghost use Rattle.sosd_reader.specs.Reading.{origin_of};
 
 use crate::KeyFault;
 use crate::number_list::{NumberList, first_u64};
@@ -24,17 +24,10 @@ pub fn read_file<F: Shelf, T: NumberList>(
     numbers: &mut T,
 ) -> Result<(), KeyFault>
     requires empty { length (T.list numbers.old) ≡ 0 }
-    ensures read { OnOk result (IfSome (F.rest shelf.old)
-        (IsFileOf (T.kind numbers.old) (T.list numbers.new))) }
     ensures numbers { OnOk result
         ((count : ℕ) × AreNumbersOf (T.kind numbers.old) count (T.list numbers.new)) }
-    ensures fault { IfErr result (HasFault
-        (λ bytes fault. ReadsAsFile (T.kind numbers.old) bytes (Err fault)) (F.rest shelf.old)) }
-    ensures cause { HasReadCause (T.kind numbers.old) (F.faults shelf.old) (F.faults shelf.new)
-        result }
-    ensures files { F.files shelf.new ≡ F.files shelf.old }
-    ensures taken { IfSome (F.rest shelf.old) (λ bytes.
-        Leaves (reach_of (T.kind numbers.old) bytes) (F.rest shelf.old) (F.rest shelf.new) result) }
+    ensures reading { ReadsFile F.Shelf (T.kind numbers.old) (λ _. T.list numbers.new)
+        shelf.old result shelf.new }
 {
     let count = read_count(shelf)?;
     let total = count as usize * numbers.each();
@@ -48,14 +41,8 @@ pub fn read_file<F: Shelf, T: NumberList>(
 
 /// How many there are, by the first eight bytes. The kind of the file plays no part.
 fn read_count<F: Shelf>(shelf: &mut F) -> Result<u32, KeyFault>
-    ensures count { IfOk result
-        (λ count. HasRead (F.rest shelf.old) (little_bytes 8 count) (F.rest shelf.new)) }
-    ensures fault { (kind : Kind) → IfErr result
-        (HasFault (λ bytes fault. ReadsAsFile kind bytes (Err fault)) (F.rest shelf.old)) }
-    ensures cause { (kind : Kind) → HasReadCause kind (F.faults shelf.old) (F.faults shelf.new)
-        result }
-    ensures files { F.files shelf.new ≡ F.files shelf.old }
-    ensures taken { Leaves 8 (F.rest shelf.old) (F.rest shelf.new) result }
+    ensures { (kind : Kind) → Reads F.Shelf (origin_of kind) (GivesPiece (little_bytes 8))
+        (FailsAsFile kind) (AreAtMost 8) shelf.old result shelf.new }
 {
     let mut header = [0; 8];
     let got = fill(shelf, &mut header)?;
@@ -80,20 +67,14 @@ fn read_list<F: Shelf, T: NumberList>(
     requires empty { length (T.list numbers.old) ≡ 0 }
     requires few { total < 2 ^ 35 }
     ensures kind { T.kind numbers.new ≡ T.kind numbers.old }
-    ensures read { OnOk result (HasRead (F.rest shelf.old)
-        (flat_map (little_bytes (number_width (T.kind numbers.old))) (T.list numbers.new))
-        (F.rest shelf.new)) }
     ensures len { OnOk result (length (T.list numbers.new) ≡ total) }
     ensures all_follow { OnOk result (AllFollow (T.kind numbers.old) (T.list numbers.new)) }
     ensures each_fits { OnOk result
         (All (λ number. number < 256 ^ number_width (T.kind numbers.old)) (T.list numbers.new)) }
-    ensures fault { IfErr result
-        (HasFault (StopsAs (T.kind numbers.old) total []) (F.rest shelf.old)) }
-    ensures cause { HasReadCause (T.kind numbers.old) (F.faults shelf.old) (F.faults shelf.new)
-        result }
-    ensures files { F.files shelf.new ≡ F.files shelf.old }
-    ensures taken { Leaves (number_width (T.kind numbers.old) * total) (F.rest shelf.old)
-        (F.rest shelf.new) result }
+    ensures reading { Reads F.Shelf (origin_of (T.kind numbers.old)) (GivesPiece
+        (λ _. flat_map (little_bytes (number_width (T.kind numbers.old))) (T.list numbers.new)))
+        (StopsAs (T.kind numbers.old) total [])
+        (AreAtMost (number_width (T.kind numbers.old) * total)) shelf.old result shelf.new }
 {
     let width = numbers.width();
     let mut bytes = vec![in alloc; 0; width * total.min(CHUNK)]?;
@@ -119,17 +100,12 @@ fn read_chunk<F: Shelf, T: NumberList>(
     requires few { length (T.list numbers.old) + room < 2 ^ 35 }
     requires all_follow { AllFollow (T.kind numbers.old) (T.list numbers.old) }
     ensures kind { T.kind numbers.new ≡ T.kind numbers.old }
-    ensures numbers { OnOk result (ReadsNumbers (number_width (T.kind numbers.old))
-        (F.rest shelf.old) (T.list numbers.old) (T.list numbers.new) (F.rest shelf.new)) }
     ensures len { OnOk result (length (T.list numbers.new) ≡ length (T.list numbers.old) + room) }
     ensures all_follow { OnOk result (AllFollow (T.kind numbers.old) (T.list numbers.new)) }
-    ensures fault { IfErr result
-        (HasFault (StopsAs (T.kind numbers.old) room (T.list numbers.old)) (F.rest shelf.old)) }
-    ensures cause { HasReadCause (T.kind numbers.old) (F.faults shelf.old) (F.faults shelf.new)
-        result }
-    ensures files { F.files shelf.new ≡ F.files shelf.old }
-    ensures taken { Leaves (number_width (T.kind numbers.old) * room) (F.rest shelf.old)
-        (F.rest shelf.new) result }
+    ensures reading { Reads F.Shelf (origin_of (T.kind numbers.old)) (λ _. ReadsNumbers
+        (number_width (T.kind numbers.old)) (T.list numbers.old) (T.list numbers.new))
+        (StopsAs (T.kind numbers.old) room (T.list numbers.old))
+        (AreAtMost (number_width (T.kind numbers.old) * room)) shelf.old result shelf.new }
 {
     let before = bytes_before(numbers);
     numbers.reserve(room)?;

@@ -149,24 +149,24 @@ static TAKEN: [(&str, &str); 47] = [
         "pgmtool mix --readers 16 --workers=1 --senders 1 -- script",
         "mix ,script [20, 16, 16, 1, 1, 0]",
     ),
-    // The error bound of lines, and whether keys are narrow.
-    ("pgmtool lines keys", "lines keys, [32, 0, 0, 0, 0, 0]"),
+    // The error bound of hints, and whether keys are narrow.
+    ("pgmtool hints keys", "hints keys, [32, 0, 0, 0, 0, 0]"),
     (
-        "pgmtool lines --narrow keys --eps=0",
-        "lines keys, [0, 1, 0, 0, 0, 0]",
+        "pgmtool hints --narrow keys --eps=0",
+        "hints keys, [0, 1, 0, 0, 0, 0]",
     ),
     (
-        "pgmtool lines --eps +1048576 -- keys",
-        "lines keys, [1048576, 0, 0, 0, 0, 0]",
+        "pgmtool hints --eps +1048576 -- keys",
+        "hints keys, [1048576, 0, 0, 0, 0, 0]",
     ),
-    // The keys, the lines, the script, and whether keys are narrow.
+    // The keys, the hints, the script, and whether keys are narrow.
     (
-        "pgmtool find keys lines script",
-        "find keys,lines,script [0, 0, 0, 0, 0, 0]",
+        "pgmtool find keys hints script",
+        "find keys,hints,script [0, 0, 0, 0, 0, 0]",
     ),
     (
-        "pgmtool find keys --narrow lines script",
-        "find keys,lines,script [1, 0, 0, 0, 0, 0]",
+        "pgmtool find keys --narrow hints script",
+        "find keys,hints,script [1, 0, 0, 0, 0, 0]",
     ),
     (
         "pgmtool find --narrow -- -a -b -c",
@@ -294,22 +294,22 @@ static REFUSED: [(&str, &str); 78] = [
         "pgmtool query keys script --buckets 21",
     ),
     ("a table to build", "pgmtool build keys --buckets 4"),
-    ("lines of no keys", "pgmtool lines"),
-    ("lines by a script", "pgmtool lines keys script"),
+    ("hints of no keys", "pgmtool hints"),
+    ("hints by a script", "pgmtool hints keys script"),
     (
-        "a bound of lines past its range",
-        "pgmtool lines keys --eps 1048577",
+        "a bound of hints past its range",
+        "pgmtool hints keys --eps 1048577",
     ),
-    ("a bound above lines", "pgmtool lines keys --rec 4"),
-    ("workers of lines", "pgmtool lines keys --workers 2"),
-    ("a find without its script", "pgmtool find keys lines"),
+    ("a bound above hints", "pgmtool hints keys --rec 4"),
+    ("workers of hints", "pgmtool hints keys --workers 2"),
+    ("a find without its script", "pgmtool find keys hints"),
     (
         "a file of a find too many",
-        "pgmtool find keys lines script more",
+        "pgmtool find keys hints script more",
     ),
     (
         "an error bound of a find",
-        "pgmtool find keys lines script --eps 0",
+        "pgmtool find keys hints script --eps 0",
     ),
     ("a drill of no number", "pgmtool drill"),
     ("a drill without a seed", "pgmtool drill 2"),
@@ -360,8 +360,8 @@ fn names_of<'a>(request: Request<'a>) -> (&'a str, &'a str, &'a str) {
         Request::Near { searching } => ("near", searching.file, searching.script),
         Request::Replay { replaying } => ("replay", "", replaying.script),
         Request::Mix { replaying, .. } => ("mix", "", replaying.script),
-        Request::Lines { lining } => ("lines", lining.file, ""),
-        Request::Find { finding } => ("find", finding.file, finding.lines),
+        Request::Hints { hinting } => ("hints", hinting.file, ""),
+        Request::Find { finding } => ("find", finding.file, finding.hints),
         Request::Drill { .. } => ("drill", "", ""),
         Request::Save { building } => ("save", building.file, ""),
         Request::Check { checking } => ("check", checking.file, checking.index),
@@ -413,7 +413,7 @@ fn numbers_of(request: Request<'_>) -> [u32; 6] {
         }
         Request::Replay { replaying } => plan_numbers(replaying.plan, 0),
         Request::Mix { replaying, senders } => plan_numbers(replaying.plan, senders.count),
-        Request::Lines { lining } => [lining.eps, u32::from(lining.narrow), 0, 0, 0, 0],
+        Request::Hints { hinting } => [hinting.eps, u32::from(hinting.narrow), 0, 0, 0, 0],
         Request::Find { finding } => [u32::from(finding.narrow), 0, 0, 0, 0, 0],
         Request::Drill { drilling: asked } => {
             [

@@ -6,11 +6,10 @@ __version__ = ffi.string(lib.KULDEBIQ_VERSION_TEXT).decode()
 if lib.kuldebiq_version() != lib.KULDEBIQ_VERSION:
     raise ImportError("kuldebiq: the library and its header are of two versions")
 
-# Hints are still named lines in C.
-new_hints = ffi.typeof("kuldebiq_lines *")
-hints_build = lib.kuldebiq_lines_build
-hints_write = lib.kuldebiq_lines_write
-hints_free = lib.kuldebiq_lines_free
+new_hints = ffi.typeof("kuldebiq_hints *")
+hints_build = lib.kuldebiq_hints_build
+hints_write = lib.kuldebiq_hints_write
+hints_free = lib.kuldebiq_hints_free
 
 WORD_MAX = (1 << 64) - 1
 

@@ -1,7 +1,7 @@
 use Rattle.std.proofs.Common.{sym}
 use Rattle.std.specs.Prelude.{codes}
 use Rattle.command_line.specs.Requests.{rows_in}
-use Rattle.command_line.proofs.TakenWords.{command_met, options_of, build_options, explain_options, query_options, relax_options, box_options, near_options, replaying_options, mix_options, line_options, find_options, drill_options, save_options, check_options}
+use Rattle.command_line.proofs.TakenWords.{command_met, options_of, build_options, explain_options, query_options, relax_options, box_options, near_options, replaying_options, mix_options, hint_options, find_options, drill_options, save_options, check_options}
 use Rattle.command_line.proofs.words.request_in.Goals as goal
 
 pub building_in-building-requires : goal.building_in-building-requires
@@ -48,9 +48,9 @@ pub mix_in-requires-clause-senders : goal.mix_in-requires-clause-senders
 mix_in-requires-clause-senders c =
     (options_of (c.args.name.now, rows_in c.args.found.now) (codes "mix") mix_options (command_met c.requires.0 _ c.requires.1 c.requires.2) (sym c.if-eq-8.ensures)).1
 
-pub lining_in-lining-requires : goal.lining_in-lining-requires
-lining_in-lining-requires c =
-    options_of (c.args.name.now, rows_in c.args.found.now) (codes "lines") line_options (command_met c.requires.0 _ c.requires.1 c.requires.2) (sym c.if-eq-9.ensures)
+pub hinting_in-hinting-requires : goal.hinting_in-hinting-requires
+hinting_in-hinting-requires c =
+    options_of (c.args.name.now, rows_in c.args.found.now) (codes "hints") hint_options (command_met c.requires.0 _ c.requires.1 c.requires.2) (sym c.if-eq-9.ensures)
 
 pub finding_in-finding-requires : goal.finding_in-finding-requires
 finding_in-finding-requires c =

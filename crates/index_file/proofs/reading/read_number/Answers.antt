@@ -1,20 +1,21 @@
 -- Fewer than four bytes are the front of a number's.
-use Rattle.std.proofs.Common.{ℕ, List, sym, ◌∙◌, subst, arith}
-use Rattle.std.proofs.lemmas.Result.{err_from_is_err_and}
-use Rattle.edge.specs.Reading.{HasRead}
-use Rattle.index_file.specs.Stops.{IsNumber, IsNoCut, StopsIn, HasFault}
-use Rattle.index_file.proofs.Stopping.{IfErr-from}
-use Rattle.index_file.proofs.Runs.{HasFault-ended, fronts-of_buffer, number-of_buffer, all-of}
+use Rattle.std.proofs.Common.{◌∙◌, sym, arith}
+use Rattle.edge.proofs.ReaderLemmas.{passed-on, same-piece}
+use Rattle.index_file.specs.Spelling.{number}
+use Rattle.index_file.specs.Stops.{IsNumber, IsNoCut, origin_of}
+use Rattle.index_file.proofs.Runs.{ends-early, fronts-of_buffer, number-of_buffer, all-of}
 use Rattle.index_file.proofs.reading.read_number.Goals as goal
 
-pub returns-in_err-fill_all-clause-fault : goal.returns-in_err-fill_all-clause-fault
-returns-in_err-fill_all-clause-fault g c =
-    let p = err_from_is_err_and c.from_residual.result c.from_residual.ensures.1 in
+pub returns-in_err-fill_all-clause-reading : goal.returns-in_err-fill_all-clause-reading
+returns-in_err-fill_all-clause-reading g c =
     let fault = c.in_err-fill_all.field-0.0 in
-    IfErr-from _ (HasFault (StopsIn IsNumber IsNoCut c.args.at.now) (g.F.Shelf.rest c.args.shelf.now)) _ fault p.1 p.2
-    (HasFault-ended IsNumber IsNoCut c.args.at.now c.fill_all.new.bytes (g.F.Shelf.rest c.args.shelf.now) fault
-    (fronts-of_buffer IsNumber c.fill_all.new.bytes (number-of_buffer c.fill_all.new.bytes (omega arith) c.in_err-fill_all.ensures.small)) c.in_err-fill_all.ensures.fault)
+    let buf = c.fill_all.new.bytes in
+    passed-on g.F.Shelf origin_of _ _ _ _ _ _ fault c.from_residual.ensures.1
+    (ends-early g.F.Shelf IsNumber IsNoCut IsNoCut c.args.at.now buf _ _ fault
+    (fronts-of_buffer IsNumber buf (number-of_buffer buf (omega arith) c.in_err-fill_all.ensures.small)) c.in_err-fill_all.ensures.reading)
 
-pub returns-clause-read : goal.returns-clause-read
-returns-clause-read g c =
-    subst (λ (w : List ℕ). HasRead (g.F.Shelf.rest c.args.shelf.now) w (g.F.Shelf.rest c.fill_all.new.shelf)) (sym (c.number_at.ensures.bytes ∙ all-of c.fill_all.new.bytes 4 (omega arith))) c.in_ok-fill_all.ensures.read
+pub returns-clause-reading : goal.returns-clause-reading
+returns-clause-reading g c =
+    let buf = c.fill_all.new.bytes in
+    same-piece g.F.Shelf c.args.shelf.now c.fill_all.new.shelf buf (number c.number_at.result)
+    (sym (c.number_at.ensures.bytes ∙ all-of buf 4 (omega arith))) c.in_ok-fill_all.ensures.reading

@@ -45,6 +45,7 @@ invariant_of-result c =
       roomy = omega (arith, c.put_each.ensures.capacity, c.in_ok-buffer.ensures.exact);
       some = omega (arith, count, c.loop-i.auto.i-end, c.requires.some);
       few = omega (arith, count, c.loop-i.auto.i-end, c.requires.few);
+      bare = λ entries key cut inside. absurd (c.none-bare.ensures key inside);
     }
 
 pub returns-clause-cut : goal.returns-clause-cut

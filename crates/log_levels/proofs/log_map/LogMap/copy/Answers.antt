@@ -1,6 +1,6 @@
 use Rattle.std.proofs.Common.{◌≡◌, ◌++◌, List, length, subst, sym, ap, ◌∙◌, arith}
 use Rattle.tombstones.specs.declared.entry.Entry.{Entry}
-use Rattle.log_levels.specs.Kept.{held_of, levels_of}
+use Rattle.log_levels.specs.Kept.{IsBareIn, held_of, levels_of}
 use Rattle.log_levels.specs.Shapes.{Held, IsCutOf}
 use Rattle.log_levels.proofs.HeldLemmas.{length-levels_of, held-same}
 use Rattle.log_levels.proofs.log_map.LogMap.copy.Goals as goal
@@ -22,6 +22,7 @@ invariant_of-result c =
       roomy = omega (arith, c.in_ok-extend_from_slice.ensures.capacity, c.in_ok-buffer.ensures.exact);
       some = omega (arith, count c, ap (λ (held : Held). length held.levels) c.self.view_is, c.self.invariant.some);
       few = omega (arith, count c, ap (λ (held : Held). length held.levels) c.self.view_is, c.self.invariant.few);
+      bare = subst (λ held. IsBareIn held c.self.inside.bare) (c.self.view_is ∙ sym (same c)) c.self.invariant.bare;
     }
 
 pub returns : goal.returns

@@ -1,10 +1,28 @@
-use Rattle.std.proofs.Common.{◌≡◌, ◌+◌, subst, sym, ap, arith}
+use Rattle.std.proofs.Common.{◌≡◌, ◌+◌, ℕ, List, length, subst, sym, ap, arith}
 use Rattle.log_levels.specs.Maps.{map_after, count_between}
 use Rattle.log_levels.specs.Accepted.{entries_of}
-use Rattle.log_levels.specs.Kept.{IsLeft}
-use Rattle.log_levels.proofs.MapLemmas.{count-few}
+use Rattle.log_levels.specs.Kept.{IsBareIn, IsLeft}
+use Rattle.log_levels.proofs.BareLemmas.{range-bare}
+use Rattle.log_levels.proofs.MapLemmas.{count-few, count-pairs}
 use Rattle.log_levels.proofs.WalkLemmas.{count-found, count-past, count-none}
 use Rattle.log_levels.proofs.log_map.LogMap.count.Goals as goal
+
+pub loop-key-init : goal.loop-key-init
+loop-key-init c = record {
+  at = subst (IsLeft c.args.self.now c.walk-walk.result) (sym c.from-from.ensures) c.walk-walk.ensures;
+  few = omega (arith, c.from-from.ensures, c.behind-start.type_inv);
+  sum = λ updates stands.
+      let bare = subst (λ held. IsBareIn held c.self.inside.bare) c.self.view_is c.self.invariant.bare in
+      let same = range-bare updates c.args.low c.behind-start.result c.args.high c.behind-start.ensures.above
+      (λ key above below. bare (entries_of updates) key stands (c.behind-start.ensures.bare key above below)) in
+      omega (
+        arith,
+        count-pairs (map_after updates) c.args.low c.args.high,
+        count-pairs (map_after updates) c.behind-start.result c.args.high,
+        ap (λ (l : List (ℕ × ℕ)). length l) same,
+        ap (λ k. count_between (map_after updates) k c.args.high) c.from-from.ensures,
+      );
+}
 
 pub returns-then-key-high : goal.returns-then-key-high
 returns-then-key-high c = λ updates stands.

@@ -4,9 +4,23 @@ use Rattle.tombstones.specs.declared.entry.Entry.{Entry}
 use Rattle.std.specs.Map.{keys_of}
 use Rattle.log_levels.specs.Maps.{map_after}
 use Rattle.log_levels.specs.Accepted.{entries_of, keys_between, del_entry}
-use Rattle.log_levels.specs.Kept.{IsLeft}
+use Rattle.log_levels.specs.Kept.{IsBareIn, IsLeft}
+use Rattle.log_levels.proofs.BareLemmas.{range-bare}
 use Rattle.log_levels.proofs.WalkLemmas.{pairs-found, pairs-past, pairs-none}
 use Rattle.log_levels.proofs.log_map.LogMap.deletions.Goals as goal
+
+pub loop-key-init : goal.loop-key-init
+loop-key-init c = record {
+  at = subst (IsLeft c.args.self.now c.walk-walk.result) (sym c.from-from.ensures) c.walk-walk.ensures;
+  few = omega (arith, c.from-from.ensures, c.behind-start.type_inv);
+  list = λ updates stands.
+      let bare = subst (λ held. IsBareIn held c.self.inside.bare) c.self.view_is c.self.invariant.bare in
+      let same = range-bare updates c.args.low c.behind-start.result c.args.high c.behind-start.ensures.above
+      (λ key above below. bare (entries_of updates) key stands (c.behind-start.ensures.bare key above below)) in
+      ap (λ (pairs : List (ℕ × ℕ)). map del_entry (keys_of pairs)) same
+      ∙ ap (λ k. map del_entry (keys_between (map_after updates) k c.args.high)) (sym c.from-from.ensures)
+      ∙ ap (λ (list : List Entry). list ++ map del_entry (keys_between (map_after updates) c.from-from.result c.args.high)) (sym c.in_ok-deletions.ensures.items);
+}
 
 pub returns-then-key-high : goal.returns-then-key-high
 returns-then-key-high c = λ updates stands.

@@ -23,6 +23,7 @@ invariant_of-result c =
       roomy = omega (arith, c.in_ok-buffer.ensures.exact);
       some = omega (arith, count, c.loop-level.invariant.count, c.requires.some, c.loop-level.auto._level-end);
       few = omega (arith, count, c.loop-level.invariant.count, c.requires.few, c.loop-level.auto._level-end);
+      bare = λ entries key cut inside. absurd (c.none-bare.ensures key inside);
     }
 
 pub returns-clause-empty : goal.returns-clause-empty

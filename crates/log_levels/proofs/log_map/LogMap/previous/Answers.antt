@@ -1,12 +1,21 @@
-use Rattle.std.proofs.Common.{◌≡◌, sym, ap, ◌∙◌, inl, inr, arith}
+use Rattle.std.proofs.Common.{◌≡◌, subst, sym, ap, ◌∙◌, inl, inr, arith}
 use Rattle.std.proofs.lemmas.Bool.{cases_lt}
 use Rattle.log_levels.specs.Maps.{map_after, value_at}
 use Rattle.log_levels.specs.Accepted.{entries_of}
+use Rattle.log_levels.specs.Kept.{IsBareIn}
 use Rattle.log_levels.proofs.MapLemmas.{rises-after, previous-is, previous-none}
 use Rattle.log_levels.proofs.SearchLemmas.{absent-value}
 use Rattle.log_levels.proofs.ValueLemmas.{value-after}
 use Rattle.log_levels.proofs.WalkLemmas.{none-above}
 use Rattle.log_levels.proofs.log_map.LogMap.previous.Goals as goal
+
+pub loop-key-init : goal.loop-key-init
+loop-key-init c = record {
+  within = c.before-bound.ensures.below;
+  none = λ updates key stands above at_most.
+      let bare = subst (λ held. IsBareIn held c.self.inside.bare) c.self.view_is c.self.invariant.bare in
+      value-after updates key ∙ bare (entries_of updates) key stands (c.before-bound.ensures.bare key above at_most);
+}
 
 pub returns-in-Some-get : goal.returns-in-Some-get
 returns-in-Some-get c = λ updates stands.

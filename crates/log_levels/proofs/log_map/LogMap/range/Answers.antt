@@ -1,12 +1,27 @@
-use Rattle.std.proofs.Common.{◌≡◌, ◌+◌, slice_set, subst, sym, arith}
+use Rattle.std.proofs.Common.{◌≡◌, ◌+◌, slice_set, subst, sym, ap, ◌∙◌, arith}
 use Rattle.std.proofs.lemmas.List.{length-set}
 use Rattle.log_levels.specs.Maps.{map_after, pairs_between}
 use Rattle.log_levels.specs.Accepted.{entries_of}
-use Rattle.log_levels.specs.Kept.{IsLeft}
+use Rattle.log_levels.specs.Kept.{IsBareIn, IsLeft}
+use Rattle.log_levels.proofs.BareLemmas.{range-bare}
 use Rattle.log_levels.proofs.MapLemmas.{count-pairs}
-use Rattle.log_levels.proofs.RangeLemmas.{IsWritten, written-more, written-full, written-out}
+use Rattle.log_levels.proofs.RangeLemmas.{IsWritten, written-none, written-more, written-full, written-out}
 use Rattle.log_levels.proofs.WalkLemmas.{pairs-found, pairs-past, pairs-none}
 use Rattle.log_levels.proofs.log_map.LogMap.range.Goals as goal
+
+pub loop-count-init : goal.loop-count-init
+loop-count-init c = record {
+  at = subst (IsLeft c.args.self.now c.walk-walk.result) (sym c.from-low.ensures) c.walk-walk.ensures;
+  few = omega (arith, c.from-low.ensures, c.behind-start.type_inv);
+  within = omega arith;
+  written = λ updates stands.
+      let bare = subst (λ held. IsBareIn held c.self.inside.bare) c.self.view_is c.self.invariant.bare in
+      let pairs = pairs_between (map_after updates) c.args.from c.args.to in
+      let same = range-bare updates c.args.from c.behind-start.result c.args.to c.behind-start.ensures.above
+      (λ key above below. bare (entries_of updates) key stands (c.behind-start.ensures.bare key above below)) in
+      subst (λ left. IsWritten pairs left c.args.pairs.now c.args.pairs.now 0)
+      (same ∙ ap (λ k. pairs_between (map_after updates) k c.args.to) (sym c.from-low.ensures)) (written-none pairs c.args.pairs.now);
+}
 
 pub returns-in_default-clause-count : goal.returns-in_default-clause-count
 returns-in_default-clause-count c = λ updates stands.

@@ -1,8 +1,9 @@
-use Rattle.std.proofs.Common.{◌+◌, ◌-◌, ◌*◌, ◌++◌, List, length, take, drop, ap, ◌∙◌, arith, refl}
+use Rattle.std.proofs.Common.{◌+◌, ◌-◌, ◌*◌, ◌++◌, List, length, take, drop, subst, ap, ◌∙◌, arith, refl}
 use Rattle.std.proofs.lemmas.List.{take_rest}
 use Rattle.tombstones.specs.declared.entry.Entry.{Entry}
 use Rattle.log_levels.specs.Shapes.{Held, IsCutOf}
-use Rattle.log_levels.specs.Kept.{held_of}
+use Rattle.log_levels.specs.Kept.{IsBareIn, held_of}
+use Rattle.log_levels.proofs.BareLemmas.{bare-more}
 use Rattle.log_levels.proofs.HeldLemmas.{length-levels_of, capacity_is}
 use Rattle.log_levels.proofs.GrowthLemmas.{grown}
 use Rattle.log_levels.proofs.log_map.LogMap.with_entries.Goals as goal
@@ -36,6 +37,8 @@ invariant_of-result g c =
       roomy = omega (arith, c.in_ok-extend_from_slice.ensures.capacity, c.in_ok-buffer.ensures.exact);
       some = omega (arith, count, was, c.self.invariant.some);
       few = omega (arith, count, was, c.self.invariant.few);
+      bare = bare-more c.args.self.now (map g c) c.self.inside.bare c.without_puts-bare.result entries c.args.new.now cut (is_cut g c entries cut)
+          (subst (λ held. IsBareIn held c.self.inside.bare) c.self.view_is c.self.invariant.bare) c.without_puts-bare.ensures;
     }
 
 pub returns-clause-cut : goal.returns-clause-cut

@@ -1,4 +1,0 @@
-use Rattle.lines.proofs.lookup.position.Given as goal
-
-abbrev pub ghosts-position_from : goal.ghosts-position_from
-ghosts-position_from g a = record { name = a.blank.name; parts = a.blank.parts }

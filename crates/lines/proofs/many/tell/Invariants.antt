@@ -1,9 +1,0 @@
-use Rattle.lines.specs.Lookups.{IsSameOutside}
-use Rattle.lines.specs.Many.{AreTold}
-use Rattle.lines.proofs.many.tell.Given as goal
-
-abbrev pub invariant-loop-lane : goal.invariant-loop-lane
-invariant-loop-lane l = record {
-  same : IsSameOutside l.first l.lane l.fn.places l.places;
-  each : AreTold l.words l.n l.questions l.places l.first l.lane;
-}

@@ -1,4 +1,0 @@
-use Rattle.lines.proofs.words.told.Given as goal
-
-abbrev pub ghosts-lines_begun : goal.ghosts-lines_begun
-ghosts-lines_begun a = record { name = a.blank.name; parts = a.blank.parts }
