@@ -58,12 +58,12 @@ static void fill(void) {
 
 /* The hints of the codes: the number is how many. */
 static size_t make_hints(uint64_t **hints) {
-    kuldebiq_lines made = KULDEBIQ_NOTHING;
-    size_t count = number("build", kuldebiq_lines_build(&made, codes, COUNT, 64));
+    kuldebiq_hints made = KULDEBIQ_NOTHING;
+    size_t count = number("build", kuldebiq_hints_build(&made, codes, COUNT, 64));
     *hints = malloc(count * sizeof **hints);
     if (*hints == NULL) exit(1);
-    number("write", kuldebiq_lines_write(&made, *hints, count));
-    kuldebiq_lines_free(&made);
+    number("write", kuldebiq_hints_write(&made, *hints, count));
+    kuldebiq_hints_free(&made);
     return count;
 }
 
