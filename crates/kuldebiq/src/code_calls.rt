@@ -6,7 +6,7 @@ ghost use Rattle.zorder.specs.Codes.{IsCode, IsDimension, IsInRange, code, coord
 ghost use Rattle.zorder.specs.Codes.{coordinate_bits};
 ghost use Rattle.kuldebiq.specs.Answers.{gives, refuses};
 ghost use Rattle.kuldebiq.specs.Points.{IsFirstTooGreat, AreCodesOf};
-ghost use Rattle.lines.specs.Lookups.{IsSameOutside};
+ghost use Rattle.hints.specs.Lookups.{IsSameOutside};
 
 use crate::answer::{
     Answer, COORDINATE_TOO_GREAT, DIMS_OUT_OF_RANGE, NO_CODE, PART_OF_A_POINT, TOO_LITTLE_ROOM,

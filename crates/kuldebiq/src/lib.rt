@@ -1,10 +1,10 @@
-//! Lookups by hints, the index and the map for C and C++.
+//! Lookups by hints, boxes in sorted codes, the index and the map for C and C++.
 //!
 //! Each call is named `kuldebiq_..` and is declared in `include/kuldebiq.h`, which says for each
-//! what C owes. A lookup by hints is given these and keys, and answers a place. Each other call is
-//! passed the place of a handle, which is a pointer in C's memory, null where it holds nothing, and
+//! what C owes. A lookup by hints is given these and keys, and answers a place. Each other call
 //! answers a status and a number ([`Answer`]): what a call can test is tested, and refused with a
-//! number that says why.
+//! number that says why. Those of the index, the map and hints are passed the place of a handle,
+//! which is a pointer in C's memory, null where it holds nothing.
 //!
 //! Main clauses: `bracket` and `found` of [`kuldebiq_find`], `done`, `judged` and `refused` of
 //! [`kuldebiq_index_build`], `answer` of [`kuldebiq_position`], `done` of [`kuldebiq_positions`]

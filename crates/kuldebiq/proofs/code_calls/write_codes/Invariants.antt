@@ -1,5 +1,5 @@
 -- The codes of the points so far are written, and what lies behind stays.
-use Rattle.lines.specs.Lookups.{IsSameOutside}
+use Rattle.hints.specs.Lookups.{IsSameOutside}
 use Rattle.kuldebiq.specs.Points.{AreCodesOf}
 use Rattle.kuldebiq.proofs.code_calls.write_codes.Given as goal
 
