@@ -149,7 +149,7 @@ fn go_on<L: Ledger>(
 
 /// The end of the stretch that begins at `from`: of eight places or more at even steps. Where
 /// there are fewer, the next place.
-#[inline(always)]
+#[inline(never)]
 fn stretch_end(points: PointList<'_>, from: u32, to: u32) -> u32
     requires more { from + 1 < to }
     requires within { to ≤ length points.xs.now }
