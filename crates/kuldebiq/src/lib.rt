@@ -15,6 +15,7 @@
 mod answer;
 mod box_calls;
 mod building;
+mod end_calls;
 mod find_calls;
 mod hints_calls;
 mod hints_handle;
