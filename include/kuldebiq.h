@@ -62,7 +62,8 @@
  * that it writes, and then goes along key by key. kuldebiq_map_count searches each level once and
  * goes along all the keys that it counts. kuldebiq_map_next searches each level once and goes along
  * the deleted keys that it passes, each of which costs as much as another key;
- * kuldebiq_map_previous searches the levels anew at each of them.
+ * kuldebiq_map_previous searches the levels anew at each of them. A map remembers one stretch of
+ * numbers without a key, which a sweep leaves. A search that begins in it goes on behind it.
  *
  * A put writes to the buffer. Each 64th put merges levels: half of the time only the lowest, and at
  * the longest all of them, which takes as long as loading the whole map. A level that has an entry
@@ -596,6 +597,34 @@ kuldebiq_answer kuldebiq_map_apply(kuldebiq_map *map, const kuldebiq_update *upd
  * Refused with KULDEBIQ_NOTHING_HELD, or with KULDEBIQ_ABSENT if the map doesn't have the key. */
 KULDEBIQ_NODISCARD
 kuldebiq_answer kuldebiq_map_get(kuldebiq_map *map, uint64_t key) KULDEBIQ_NOT_NULL((1));
+
+/* The number is 1 if the map has a key, and 0 if not.
+ *
+ * Refused with KULDEBIQ_NOTHING_HELD. */
+KULDEBIQ_NODISCARD
+kuldebiq_answer kuldebiq_map_contains(kuldebiq_map *map, uint64_t key) KULDEBIQ_NOT_NULL((1));
+
+/* The number is 1 if the map has no key at all, and else 0.
+ *
+ * Refused with KULDEBIQ_NOTHING_HELD. */
+KULDEBIQ_NODISCARD
+kuldebiq_answer kuldebiq_map_is_empty(kuldebiq_map *map) KULDEBIQ_NOT_NULL((1));
+
+/* Writes the map's least key, with its value. The number is 0.
+ *
+ * Refused with KULDEBIQ_NOTHING_HELD, or with KULDEBIQ_ABSENT if the map has no key. Then nothing
+ * is written. */
+KULDEBIQ_NODISCARD
+kuldebiq_answer kuldebiq_map_first(kuldebiq_map *map, kuldebiq_pair *pair)
+    KULDEBIQ_NOT_NULL((1, 2));
+
+/* Writes the map's greatest key, with its value. The number is 0.
+ *
+ * Refused with KULDEBIQ_NOTHING_HELD, or with KULDEBIQ_ABSENT if the map has no key. Then nothing
+ * is written. */
+KULDEBIQ_NODISCARD
+kuldebiq_answer kuldebiq_map_last(kuldebiq_map *map, kuldebiq_pair *pair)
+    KULDEBIQ_NOT_NULL((1, 2));
 
 /* Writes the map's least key that is at least from, with its value. The number is 0.
  *

@@ -359,6 +359,24 @@ void ask(kuldebiq_map &map, const Wanted &wanted, std::uint64_t key) {
     }
 }
 
+// Whether an answer with a pair is that of an end of a map: the pair there, or that there is none.
+bool ends(const kuldebiq_answer &answer, const kuldebiq_pair &pair, const Wanted &wanted, bool least) {
+    if (wanted.empty()) {
+        return is(answer, KULDEBIQ_ABSENT, 0) && pair.key == 7 && pair.value == 7;
+    }
+    const auto at = least ? wanted.begin() : std::prev(wanted.end());
+    return gives(answer, 0) && pair.key == at->first && pair.value == at->second;
+}
+
+// Asks for both ends, and whether a key is there.
+void ask_ends(kuldebiq_map &map, const Wanted &wanted, std::uint64_t key) {
+    kuldebiq_pair first{7, 7}, last{7, 7};
+    expect(ends(kuldebiq_map_first(&map, &first), first, wanted, true), "the least key");
+    expect(ends(kuldebiq_map_last(&map, &last), last, wanted, false), "the greatest key");
+    expect(gives(kuldebiq_map_contains(&map, key), wanted.count(key)), "whether a key is there");
+    expect(gives(kuldebiq_map_is_empty(&map), wanted.empty() ? 1 : 0), "whether any key is there");
+}
+
 // The first pairs of a range, as many as there is room for.
 void compare_range(kuldebiq_map &map, const Wanted &wanted, std::uint64_t low, std::uint64_t high,
                    std::size_t room) {
@@ -420,6 +438,7 @@ void compare_map(std::mt19937_64 &random, std::size_t count) {
     for (std::uint64_t number = 0; number < count; number++) {
         accepted += update(map, wanted, number, random() % top);
         ask(map, wanted, random() % top);
+        ask_ends(map, wanted, random() % top);
     }
     expect(gives(kuldebiq_map_accepted(&map), accepted), "how many were accepted");
     expect(gives(kuldebiq_map_count(&map, 0, UINT64_MAX), wanted.size()), "how many keys");
@@ -432,7 +451,11 @@ void compare_map(std::mt19937_64 &random, std::size_t count) {
         from = pair.key + 1;
     }
     expect(is(kuldebiq_map_range(&none, 0, 9, &pair, 1), KULDEBIQ_NOTHING_HELD, 0) &&
-               is(kuldebiq_map_previous(&none, 9, &pair), KULDEBIQ_NOTHING_HELD, 0),
+               is(kuldebiq_map_previous(&none, 9, &pair), KULDEBIQ_NOTHING_HELD, 0) &&
+               is(kuldebiq_map_first(&none, &pair), KULDEBIQ_NOTHING_HELD, 0) &&
+               is(kuldebiq_map_last(&none, &pair), KULDEBIQ_NOTHING_HELD, 0) &&
+               is(kuldebiq_map_contains(&none, 9), KULDEBIQ_NOTHING_HELD, 0) &&
+               is(kuldebiq_map_is_empty(&none), KULDEBIQ_NOTHING_HELD, 0),
            "no map to go through");
     for (std::size_t room = 0; room < 300; room += 1 + room / 8) {
         const std::uint64_t low = random() % top;

@@ -16,6 +16,7 @@ mod answer;
 mod box_calls;
 mod building;
 mod code_calls;
+mod end_calls;
 mod find_calls;
 mod hints_calls;
 mod hints_handle;
