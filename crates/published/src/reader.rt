@@ -1,10 +1,10 @@
 // Readers, looks and notes. None of their calls waits or takes memory.
-ghost use Rattle.std.specs.Prelude.{◌≡◌, ◌≤◌, ◌++◌, Some, OnOk, OnErr};
+ghost use Rattle.std.specs.Prelude.{◌≡◌, ◌↔◌, ◌≤◌, ◌++◌, [], Some, OnOk, OnErr, IsTrue, is_some};
 ghost use Rattle.std.specs.Prelude.{length, take, drop, min};
 ghost use mathlib.Core.List.{IsPrefix};
 ghost use Rattle.edge.specs.Risen.{HasRisen};
 ghost use Rattle.log_levels.specs.Maps.{map_after, value_at, next_from, count_between};
-ghost use Rattle.log_levels.specs.Maps.{previous_to, pairs_between};
+ghost use Rattle.log_levels.specs.Maps.{previous_to, pairs_between, first_of, last_of};
 ghost use Rattle.left_right.specs.Sides.{view};
 ghost use Rattle.published.specs.Histories.{Front, IsLookOf, updates_of, count_of, longer_of};
 
@@ -208,6 +208,35 @@ impl Look {
         ensures { result ≡ previous_to (map_after (updates_of self.now.batches)) q }
     {
         self.reading.get().previous(q)
+    }
+
+    /// Whether it has a key.
+    pub fn contains(&self, key: u64) -> bool
+        ensures { result ≡
+            is_some (value_at (map_after (updates_of self.now.batches)) key) }
+    {
+        self.reading.get().contains(key)
+    }
+
+    /// Whether it has no key.
+    pub fn is_empty(&self) -> bool
+        ensures { IsTrue result ↔ (map_after (updates_of self.now.batches) ≡ []) }
+    {
+        self.reading.get().is_empty()
+    }
+
+    /// The least key with its value, if there is one.
+    pub fn first(&self) -> Option<(u64, u64)>
+        ensures { result ≡ first_of (map_after (updates_of self.now.batches)) }
+    {
+        self.reading.get().first()
+    }
+
+    /// The greatest key with its value, if there is one.
+    pub fn last(&self) -> Option<(u64, u64)>
+        ensures { result ≡ last_of (map_after (updates_of self.now.batches)) }
+    {
+        self.reading.get().last()
     }
 
     /// Writes the first pairs of key and value from `from` to `to`, both included, by rising key,

@@ -1,9 +1,10 @@
 // A version of the map, which readers take whole.
-ghost use Rattle.std.specs.Prelude.{◌≡◌, ◌++◌, IfOk, length, take, drop, min};
+ghost use Rattle.std.specs.Prelude.{◌≡◌, ◌↔◌, ◌++◌, [], IfOk, IsTrue, length, take, drop, min};
+ghost use Rattle.std.specs.Prelude.{is_some};
 ghost use Rattle.std.specs.Arc.{arc_value};
 ghost use Rattle.log_levels.specs.Shapes.{StandsFor};
 ghost use Rattle.log_levels.specs.Maps.{map_after, value_at, next_from, count_between};
-ghost use Rattle.log_levels.specs.Maps.{previous_to, pairs_between};
+ghost use Rattle.log_levels.specs.Maps.{previous_to, pairs_between, first_of, last_of};
 ghost use Rattle.published.specs.Histories.{updates_of};
 
 use crate::history::Prefix;
@@ -77,6 +78,35 @@ impl Version {
         ensures { result ≡ previous_to (map_after (updates_of self.now.batches)) q }
     {
         self.map.previous(q)
+    }
+
+    /// Whether it has a key.
+    pub fn contains(&self, key: u64) -> bool
+        ensures { result ≡
+            is_some (value_at (map_after (updates_of self.now.batches)) key) }
+    {
+        self.map.contains(key)
+    }
+
+    /// Whether it has no key.
+    pub fn is_empty(&self) -> bool
+        ensures { IsTrue result ↔ (map_after (updates_of self.now.batches) ≡ []) }
+    {
+        self.map.is_empty()
+    }
+
+    /// The least key with its value, if there is one.
+    pub fn first(&self) -> Option<(u64, u64)>
+        ensures { result ≡ first_of (map_after (updates_of self.now.batches)) }
+    {
+        self.map.first()
+    }
+
+    /// The greatest key with its value, if there is one.
+    pub fn last(&self) -> Option<(u64, u64)>
+        ensures { result ≡ last_of (map_after (updates_of self.now.batches)) }
+    {
+        self.map.last()
     }
 
     /// Writes the first pairs between these two keys, and gives how many.
