@@ -252,7 +252,7 @@ WHOLES = {"range": "a range of a hundred pairs", "range2": "the same after mixed
           "count": "a count of some hundred keys", "count2": "the same after mixed updates",
           "walk": "a pair, of all", "walk2": "the same after mixed updates",
           "walk3": "the same after a load", "load": "a pair, of a load",
-          "drop": "a key, of giving all up", "take": "the least of up to 32,000 keys, deleted"}
+          "drop": "a key, of giving all up", "take": "the least of up to a million keys, taken"}
 
 
 def work_columns():

@@ -19,7 +19,7 @@ using Number = uint64_t;
 
 using Pairs = std::vector<std::pair<Number, Number>>;
 
-constexpr Number kRange = 100, kTaken = 32000;
+constexpr Number kRange = 100, kTaken = 1000000;
 
 static Number scattered(Number number) {
     Number word = (number + 1) * 0x9E3779B97F4A7C15ull;

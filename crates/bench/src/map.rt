@@ -26,7 +26,7 @@ const RANGE: usize = 100;
 const BLOCK: usize = 1024;
 
 /// How many of the least keys are taken from a map of so many.
-const TAKEN: usize = 32_000;
+const TAKEN: usize = 1_000_000;
 
 /// How many phases there are.
 const PHASES: usize = 18;
@@ -108,8 +108,8 @@ struct Maps {
 /// times (`count`). Puts N/2 further keys and deletes N/2 keys, in turn (`mixed`), and asks so once
 /// more (`next2`, `range2`, `walk2`, `count2`). Does as many puts and deletions again by lists of
 /// 1000 (`apply`), and asks (`next3`). Gives the map up (`drop`), makes one of the N sorted pairs
-/// (`load`), and goes over it (`walk3`). Of a map of up to 32,000 keys takes the least key and
-/// deletes it, until none is left (`take`).
+/// (`load`), and goes over it (`walk3`). Of a map of up to a million keys takes the least key
+/// (`pop_first`) until none is left (`take`).
 pub fn run<R: AllocGlobal + Print + Clock + Threads + Sync>(
     rt: &R,
     words: &[String],
@@ -245,7 +245,7 @@ fn sorted_pairs(alloc: Global, n: u64) -> Result<Vec<(u64, u64)>, AllocError> {
     Ok(pairs)
 }
 
-/// The first of the pairs, up to 32,000.
+/// The first of the pairs, up to a million.
 fn least_pairs(pairs: &[(u64, u64)]) -> &[(u64, u64)] {
     let many = TAKEN.min(pairs.len());
     &pairs[..many]
@@ -384,22 +384,15 @@ fn load(alloc: Global, map: &mut LogMap, pairs: &[(u64, u64)]) -> Result<Done, L
     })
 }
 
-/// The sum of the keys and values, the least one taken and deleted each time. Where no more are
-/// left than half of what the map has accepted, it is made anew of what is left.
+/// The sum of the keys and values, the least one taken each time, until none is left.
 fn take_all(alloc: Global, map: &mut LogMap) -> Result<Done, MapFault> {
     let mut done = Done { things: 0, sum: 0 };
-    let mut left = map.accepted();
     for _ in 0..map.accepted() {
-        let Some((key, value)) = map.next(0) else {
+        let Some((key, value)) = map.pop_first(alloc)? else {
             break;
         };
-        map.del(alloc, key)?;
         done.things = done.things.wrapping_add(1);
         done.sum = done.sum.wrapping_add(key).wrapping_add(value);
-        left = left.saturating_sub(1);
-        if left <= map.accepted() / 2 {
-            *map = map.compacted(alloc, LEVELS)?;
-        }
     }
     Ok(done)
 }
