@@ -48,7 +48,7 @@ def defined_commands():
     def arguments(term):
         found = []
         for part in re.split(r"∷|\+\+", term):
-            part = part.strip()
+            part = " ".join(part.split())
             if part in rules:
                 found += arguments(rules[part])
             elif one := re.fullmatch(r'positional \(codes "(\w+)"\)', part):

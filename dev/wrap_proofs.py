@@ -22,7 +22,7 @@ OPERATOR = re.compile(r"[^\w\s\"()\[\]{}]+")
 TOKEN = re.compile(r'(?:"(?:[^"\\]|\\.)*"|[^\s"])+')
 # How badly a line falls apart at a space: behind a word, or before one.
 BEHIND = {"in": 0, "→": 1, "↦": 3, "where": 0}
-BEFORE = {"∙": 1, "|": 1, "×": 1, "⊎": 1, "≡": 4, "&&": 2, "+": 7, "<": 6, "≤": 6}
+BEFORE = {"∙": 1, "|": 1, "×": 1, "⊎": 1, "∷": 2, "++": 2, "&&": 2, "≡": 4, "<": 6, "≤": 6, "+": 7}
 HEAD, COMMA, PART, ARGUMENT, WORD, NEVER = 0, 1, 5, 9, 12, 40
 # What a further line costs, what one deeper bracket, and what a line that stays too long.
 LINE, DEEPER, TOO_LONG = 3, 4, 100

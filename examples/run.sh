@@ -97,6 +97,7 @@ heeds "$cc" c -std=c11
 both "$cc" examples/c/walk.c "" -std=c11
 both "$cc" examples/c/mapped.c "" -std=c11
 both "$cc" examples/c/parts.c "" -std=c11
+both "$cc" examples/c/rows.c "" -std=c11
 both "$cc" examples/c/no_memory.c "" -std=c11
 ran="C"
 if have "$cxx"; then

@@ -153,7 +153,18 @@ enum {
     KULDEBIQ_NO_SUCH_PLACE = 12,
     /* An update is neither a put nor a deletion nor a sweep. The number is the place of the first
        such update, counted from 0. */
-    KULDEBIQ_NO_SUCH_KIND = 13
+    KULDEBIQ_NO_SUCH_KIND = 13,
+    /* A point or a region has 2, 3 or 4 coordinates. The number is how many were given. */
+    KULDEBIQ_DIMS_OUT_OF_RANGE = 14,
+    /* A number is too great for a coordinate. The number is the first place of one. */
+    KULDEBIQ_COORDINATE_TOO_GREAT = 15,
+    /* A region's low is above its high, or its high is too great for a coordinate. The number is
+       the first such coordinate, counted from 0. */
+    KULDEBIQ_NO_INTERVAL = 16,
+    /* A number from 2^63 on is no code of three coordinates. The number is 0. */
+    KULDEBIQ_NO_CODE = 17,
+    /* The coordinates end within a point. The number is how many they are. */
+    KULDEBIQ_PART_OF_A_POINT = 18
 };
 
 /* A status in words. The text lives as long as the program. */
@@ -173,6 +184,11 @@ static inline const char *kuldebiq_status_text(uint32_t status) {
     case KULDEBIQ_FULL: return "the map can't accept as many entries";
     case KULDEBIQ_NO_SUCH_PLACE: return "there is no key at such a place";
     case KULDEBIQ_NO_SUCH_KIND: return "an update is neither a put nor a deletion nor a sweep";
+    case KULDEBIQ_DIMS_OUT_OF_RANGE: return "a point has 2 to 4 coordinates";
+    case KULDEBIQ_COORDINATE_TOO_GREAT: return "a number is too great for a coordinate";
+    case KULDEBIQ_NO_INTERVAL: return "a low is above its high, or a high is too great";
+    case KULDEBIQ_NO_CODE: return "a number from 2^63 on is no code of three coordinates";
+    case KULDEBIQ_PART_OF_A_POINT: return "the coordinates end within a point";
     default: return "no status of this version";
     }
 }
@@ -248,6 +264,20 @@ typedef struct kuldebiq_update {
     uint64_t value; /* the value of a put; of a sweep, the highest key */
 } kuldebiq_update;
 
+/* A region: the least and the greatest number of each coordinate, both included. Only the first
+ * dims of them are read. */
+typedef struct kuldebiq_region {
+    uint32_t dims;
+    uint32_t low[4];
+    uint32_t high[4];
+} kuldebiq_region;
+
+/* Places that stand side by side: from first on, before end. */
+typedef struct kuldebiq_stretch {
+    size_t first;
+    size_t end;
+} kuldebiq_stretch;
+
 /* Sizes and offsets are the same as in the library. */
 #if defined(__cplusplus) && __cplusplus >= 201103L
 #define KULDEBIQ_IS(holds) static_assert(holds, "another layout than the library's")
@@ -269,6 +299,9 @@ KULDEBIQ_IS(offsetof(kuldebiq_segment, run) == 56);
 KULDEBIQ_IS(sizeof(kuldebiq_pair) == 16 && offsetof(kuldebiq_pair, value) == 8);
 KULDEBIQ_IS(sizeof(kuldebiq_update) == 24 && offsetof(kuldebiq_update, key) == 8);
 KULDEBIQ_IS(offsetof(kuldebiq_update, value) == 16);
+KULDEBIQ_IS(sizeof(kuldebiq_region) == 36 && offsetof(kuldebiq_region, low) == 4);
+KULDEBIQ_IS(offsetof(kuldebiq_region, high) == 20);
+KULDEBIQ_IS(sizeof(kuldebiq_stretch) == 16 && offsetof(kuldebiq_stretch, end) == 8);
 #endif
 #undef KULDEBIQ_IS
 
@@ -344,6 +377,53 @@ kuldebiq_answer kuldebiq_hints_write(kuldebiq_hints *hints, uint64_t *to, size_t
 
 /* Frees what the handle holds, if anything. It holds nothing then. */
 void kuldebiq_hints_free(kuldebiq_hints *hints) KULDEBIQ_NOT_NULL((1));
+
+/* ---- Boxes in sorted codes ----
+ *
+ * The code of a point (Morton's, or Z-order) interleaves the bits of its coordinates: bit b of
+ * coordinate c is bit b * dims + c of the code. A point has 2, 3 or 4 coordinates, each below 2^32,
+ * 2^21 or 2^16. Rows that are kept in the order of their points' codes are asked for a region by
+ * stretches of places: rows from first on, before end. The codes stay yours, and so do the hints,
+ * as in lookups: hints of these very codes make a call fast, and others, or none, slower and
+ * nothing else. No call has a handle or takes memory, so any threads may ask side by side. */
+
+/* The number is the code of a point of dims coordinates.
+ *
+ * Refused with KULDEBIQ_DIMS_OUT_OF_RANGE or KULDEBIQ_COORDINATE_TOO_GREAT, judged in this order. */
+KULDEBIQ_NODISCARD
+kuldebiq_answer kuldebiq_code(const uint32_t *point, size_t dims);
+
+/* Writes the dims coordinates of a code. The number is dims.
+ *
+ * Refused with KULDEBIQ_DIMS_OUT_OF_RANGE or KULDEBIQ_NO_CODE, judged in this order. Then nothing
+ * is written. */
+KULDEBIQ_NODISCARD
+kuldebiq_answer kuldebiq_point(uint64_t code, uint32_t *point, size_t dims);
+
+/* Writes the codes of points, in their order. coordinates has count numbers: those of the first
+ * point, then those of the second, and so on. The number is how many points there are. room is how
+ * many codes there is room for, at least one for each point.
+ *
+ * Refused with KULDEBIQ_DIMS_OUT_OF_RANGE, KULDEBIQ_PART_OF_A_POINT, KULDEBIQ_COORDINATE_TOO_GREAT
+ * or KULDEBIQ_TOO_LITTLE_ROOM, judged in this order. Then nothing is written. */
+KULDEBIQ_NODISCARD
+kuldebiq_answer kuldebiq_codes(uint32_t dims, const uint32_t *coordinates, size_t count,
+                               uint64_t *codes, size_t room);
+
+/* Writes the next places, from one on, whose codes lie in the region. The number is how many they
+ * are. At the end it is 0, and first and end are count.
+ *
+ * If the codes never fall, the places are all that stand side by side, so calls from 0 on, each
+ * from the end of the one before, give all places of codes in the region, each once and in order.
+ * Of codes that fall it gives some stretches, each behind the one before, and then comes to the
+ * end. A number that is no code of so many coordinates lies in no region.
+ *
+ * Refused with KULDEBIQ_DIMS_OUT_OF_RANGE or KULDEBIQ_NO_INTERVAL, judged in this order. Then
+ * nothing is written. */
+KULDEBIQ_NODISCARD
+kuldebiq_answer kuldebiq_box(const uint64_t *codes, size_t count, const uint64_t *hints,
+                             size_t hint_count, const kuldebiq_region *region, size_t from,
+                             kuldebiq_stretch *stretch) KULDEBIQ_NOT_NULL((5, 7));
 
 /* ---- The index ----
  *

@@ -60,7 +60,7 @@ class Lives(RuleBasedStateMachine):
             )
         else:
             with pytest.raises(KeyError):
-                self.made.pop_first()
+                (self.made.pop_last if last else self.made.pop_first)()
 
     @rule(low=few, high=few)
     def sweep(self, low, high):
@@ -127,6 +127,8 @@ class Lives(RuleBasedStateMachine):
     def holds_the_same(self):
         assert len(self.made) == len(self.wanted) and bool(self.made) == bool(self.wanted)
         assert list(self.made.items()) == list(self.wanted.items())
+        ends = (self.wanted.peekitem(0), self.wanted.peekitem()) if self.wanted else (None, None)
+        assert (self.made.first(), self.made.last()) == ends
 
 
 TestLives = Lives.TestCase
@@ -275,6 +277,39 @@ def test_a_full_map_is_compacted():
     assert made.sweep(10, 99_989) == 99_980 and len(made) == 20
 
 
+def test_taking_from_both_ends():
+    made, wanted = Map(range(10_000), range(10_000)), list(range(10_000))
+    made.sweep(2000, 2999)
+    del wanted[2000:3000]
+    while wanted:
+        for _ in range(min(300, len(wanted))):
+            assert made.pop_first() == (wanted[0], wanted.pop(0))
+        for _ in range(min(200, len(wanted))):
+            assert made.pop_last() == (wanted[-1], wanted.pop())
+        if wanted:
+            # Below what was taken, and above.
+            wanted = [0, *wanted, TOP]
+            made[0], made[TOP] = 0, TOP
+            assert made.pop_last() == (TOP, wanted.pop()) and made.first() == (0, 0)
+            assert made.pop_first() == (0, wanted.pop(0)) and made.last() == (wanted[-1],) * 2
+    assert not made and made.first() is None and made.last() is None
+    for key in (-1, 1 << 64):
+        with pytest.raises(OverflowError):
+            made[key] = 1
+    for pop in (made.pop_first, made.pop_last, made.popitem):
+        with pytest.raises(KeyError, match="the map is empty"):
+            pop()
+    made.apply([("del", 3), ("put", 7, 1)])
+    assert made.first() == made.last() == (7, 1)
+    made.load([(TOP, 1), (0, 2)])
+    assert made.pop_last() == (TOP, 1) and made.pop_last() == (0, 2) and not made
+    made.update({0: 1, TOP: 2})
+    assert made.pop_first() == (0, 1) and made.pop_first() == (TOP, 2) and not made
+    made.clear()
+    made[5] = 6
+    assert made.copy().pop_first() == (5, 6) and made.last() == (5, 6)
+
+
 def test_a_map_may_be_full():
     made = Map(levels=1, auto_compact=False)
     assert made.capacity == 127 and made.accepted == 0
@@ -282,6 +317,8 @@ def test_a_map_may_be_full():
     for call in (
         lambda: made.__setitem__(1, 2),
         lambda: made.discard(1),
+        made.pop_first,
+        made.pop_last,
         lambda: made.apply([("put", 1, 2)]),
         lambda: made.load(range(128), range(128)),
     ):

@@ -1,5 +1,6 @@
 pub mod Counting
 pub mod InsideTest
+pub mod Fronts
 pub mod LookedLemmas
 pub mod OrderedCorners
 mod CellLemmas

@@ -3,11 +3,11 @@
 -- Main results: a place is looked at after a code inside (`looked_behind`) and at the lower bound of a code inside (`looked_at_bound`);
 -- none is behind a code above the high corner's (`none_past`), behind the last code inside (`none_left`) or before the next one
 -- (`none_between`). A code inside stands at a place that is looked at (`looked_here`), so what lies between are codes outside.
-use Rattle.std.proofs.Common.{◌≡◌, ℕ, zero, suc, ◌+◌, ◌-◌, ◌<◌, ◌≤◌, ⊎_elim, inl, inr, List, ◌∷◌, ◌++◌, length, take, drop, slice_index, sym, ap, ◌∙◌, subst, arith}
+use Rattle.std.proofs.Common.{◌≡◌, ℕ, zero, suc, ◌+◌, ◌-◌, ◌<◌, ◌≤◌, ⊎_elim, inl, inr, List, length, take, drop, slice_index, sym, ap, ◌∙◌, subst, arith}
 use Rattle.std.specs.Prelude.{All}
 use Rattle.std.specs.List.Sorted.{IsNonDecreasing}
-use Rattle.std.proofs.lemmas.Bool.{cases_lt, cases_eq, cond-true, cond-false}
-use Rattle.std.proofs.lemmas.List.{drop_more, get_or-take, get_or-drop, length-take-le, length-drop}
+use Rattle.std.proofs.lemmas.Bool.{cases_lt, cases_eq}
+use Rattle.std.proofs.lemmas.List.{get_or-take, get_or-drop, length-take-le, length-drop}
 use Rattle.std.proofs.lemmas.List.Sorted.{IsNonDecreasingBy-drop, IsNonDecreasingBy-take}
 use Rattle.zorder.specs.declared.regions.Region.{Region}
 use Rattle.zorder.specs.Codes.{IsCode, code}
@@ -16,10 +16,10 @@ use Rattle.zorder.proofs.CallerLemmas.{inside_between}
 use Rattle.bigmin.specs.NextInBox.{IsNextInBox, HasNoNext}
 use Rattle.window_search.specs.Searches.{lb}
 use Rattle.window_search.proofs.CallerLemmas.{IsLowerBound-lb, lb-is}
-use Rattle.boxes.specs.BoxAnswers.{is_inside, codes_inside, IsLookedAt}
+use Rattle.boxes.specs.BoxAnswers.{codes_inside, IsLookedAt}
 use Rattle.boxes.specs.Walks.{HasWalked}
+use Rattle.boxes.proofs.Fronts.{outside_skipped}
 use Rattle.boxes.proofs.Counting.{count_none, count_skip, count_more}
-use Rattle.boxes.proofs.InsideTest.{inside_passes, outside_fails}
 
 -- sorted codes of as many coordinates as the region has
 pub record AreOfRegion (region : Region) (codes : List ℕ) : Type 0 where
@@ -101,39 +101,6 @@ module _ (region : Region) (codes : List ℕ) (of : AreOfRegion region codes) wh
       let least = is.least looked.z looked.code (above at j after (omega (arith, bound.within)) outside looked) looked.inside in
       omega (arith, least, bound.before j before, looked.to)
 
-  -- a code inside at the front of what is left
-  pub inside_front : (i : ℕ) → i < length codes → IsInside region (slice_index codes i)
-      → codes_inside region (drop i codes) ≡ slice_index codes i ∷ codes_inside region (drop (i + 1) codes)
-  inside_front i within inside =
-      let z = slice_index codes i in
-      ap (codes_inside region) (drop_more codes i 0 within)
-      ∙ cond-true (is_inside region z) (z ∷ codes_inside region (drop (i + 1) codes)) (codes_inside region (drop (i + 1) codes)) (inside_passes region z inside)
-
-  -- and a code outside there
-  outside_front : (i : ℕ) → i < length codes → (IsInside region (slice_index codes i) → ⊥)
-      → codes_inside region (drop i codes) ≡ codes_inside region (drop (i + 1) codes)
-  outside_front i within outside =
-      let z = slice_index codes i in
-      ap (codes_inside region) (drop_more codes i 0 within)
-      ∙ cond-false (is_inside region z) (z ∷ codes_inside region (drop (i + 1) codes)) (codes_inside region (drop (i + 1) codes)) (outside_fails region z outside)
-
-  -- codes outside, as many as there may be
-  outside_fronts : (i count : ℕ) → i + count ≤ length codes → ((k : ℕ) → i ≤ k → k < i + count → IsInside region (slice_index codes k) → ⊥)
-      → codes_inside region (drop i codes) ≡ codes_inside region (drop (i + count) codes)
-  outside_fronts i zero within none = let same : i ≡ i + zero = omega arith in ap (λ (k : ℕ). codes_inside region (drop k codes)) same
-  outside_fronts i (suc count) within none =
-      let same : i + 1 + count ≡ i + suc count = omega arith in
-      outside_front i (omega arith) (none i (omega arith) (omega arith))
-      ∙ outside_fronts (i + 1) count (omega arith) (λ k from to. none k (omega arith) (omega arith))
-      ∙ ap (λ (k : ℕ). codes_inside region (drop k codes)) same
-
-  pub outside_skipped : (i j : ℕ) → i ≤ j → j ≤ length codes → ((k : ℕ) → i ≤ k → k < j → IsInside region (slice_index codes k) → ⊥)
-      → codes_inside region (drop i codes) ≡ codes_inside region (drop j codes)
-  outside_skipped i j up within none =
-      let same : i + (j - i) ≡ j = omega arith in
-      outside_fronts i (j - i) (omega arith) (λ k from to. none k from (omega arith))
-      ∙ ap (λ (k : ℕ). codes_inside region (drop k codes)) same
-
   -- a walk begins at the lower bound of the low corner's code
   pub walk_begins : IsRegion region → IsInside region (code region.d region.low) → IsCode region.d (code region.d region.low)
       → HasWalked region codes (lb codes (code region.d region.low)) 0
@@ -153,7 +120,7 @@ module _ (region : Region) (codes : List ℕ) (of : AreOfRegion region codes) wh
   begins_with_all is =
       let low = code region.d region.low in
       let bound = IsLowerBound-lb codes low of.order in
-      sym (outside_skipped 0 (lb codes low) (omega arith) bound.within
+      sym (outside_skipped region codes 0 (lb codes low) (omega arith) bound.within
       (λ k from to inside. absurd (omega (arith, bound.before k to, (inside_between region (slice_index codes k) is (of.each k 0 (omega (arith, bound.within))) inside).0))))
 
   -- over an empty region it is at its end at once
@@ -166,7 +133,7 @@ module _ (region : Region) (codes : List ℕ) (of : AreOfRegion region codes) wh
   }
 
   pub none_of_none : ((z : ℕ) → IsInside region z → ⊥) → codes_inside region (drop (length codes) codes) ≡ codes_inside region codes
-  none_of_none none = sym (outside_skipped 0 (length codes) (omega arith) (omega arith) (λ k from to inside. none (slice_index codes k) inside))
+  none_of_none none = sym (outside_skipped region codes 0 (length codes) (omega arith) (omega arith) (λ k from to inside. none (slice_index codes k) inside))
 
   -- it goes on behind a code inside
   pub walk_on : (at looked : ℕ) → at < length codes → HasWalked region codes at looked → IsInside region (slice_index codes at)
@@ -195,21 +162,9 @@ module _ (region : Region) (codes : List ℕ) (of : AreOfRegion region codes) wh
       → ((j : ℕ) → at < j → j < next → IsLookedAt region codes j → ⊥)
       → codes_inside region (drop at codes) ≡ codes_inside region (drop next codes)
   none_inside_over at next onwards within outside skipped =
-      outside_skipped at next (omega arith) within
+      outside_skipped region codes at next (omega arith) within
       (λ k from to inside. ⊎_elim (λ after. skipped k after to (looked_here k (omega arith) inside))
       (λ here. let same : k ≡ at = omega arith in outside (subst (λ (i : ℕ). IsInside region (slice_index codes i)) same inside)) (cases_lt at k))
-
-  -- several codes inside at the front of what is left
-  pub inside_fronts : (i count : ℕ) → i + count ≤ length codes → ((k : ℕ) → i ≤ k → k < i + count → IsInside region (slice_index codes k))
-      → codes_inside region (drop i codes) ≡ take count (drop i codes) ++ codes_inside region (drop (i + count) codes)
-  inside_fronts i zero within each = let same : i ≡ i + zero = omega arith in ap (λ (k : ℕ). codes_inside region (drop k codes)) same
-  inside_fronts i (suc count) within each =
-      let z = slice_index codes i in
-      let same : i + 1 + count ≡ i + suc count = omega arith in
-      inside_front i (omega arith) (each i (omega arith) (omega arith))
-      ∙ ap (λ (xs : List ℕ). z ∷ xs) (inside_fronts (i + 1) count (omega arith) (λ k from to. each k (omega arith) (omega arith)))
-      ∙ ap (λ (k : ℕ). z ∷ take count (drop (i + 1) codes) ++ codes_inside region (drop k codes)) same
-      ∙ ap (λ (xs : List ℕ). take (suc count) xs ++ codes_inside region (drop (i + suc count) codes)) (sym (drop_more codes i 0 (omega arith)))
 
   -- a walk goes on behind them
   pub walk_along : (at looked count : ℕ) → at + count ≤ length codes → HasWalked region codes at looked

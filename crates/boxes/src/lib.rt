@@ -10,8 +10,10 @@
 //! The walk begins at the low corner's code. After a code inside it looks at the next place; after
 //! a code outside it jumps to the next code of the region. So it looks at 8 places.
 //!
-//! Main clauses: `codes` and `looked` of [`Boxes::search`]. The words of the clauses are in
-//! `specs/`.
+//! Over codes that stay where they are [`next_places`] gives stretches of places.
+//!
+//! Main clauses: `codes` and `looked` of [`Boxes::search`], and `all` of [`next_places`]. The words
+//! of the clauses are in `specs/`.
 #![tactic(auto)]
 
 mod answer;
@@ -25,5 +27,5 @@ mod walk;
 pub use answer::one_answer;
 pub use boxes::Boxes;
 pub use found::Found;
-pub use places::next_places;
+pub use places::{count_places, next_places};
 pub use walk::Walk;

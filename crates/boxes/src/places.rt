@@ -1,8 +1,10 @@
 // The places of a region's codes, in a list of codes that stays where it is.
-ghost use Rattle.std.specs.Prelude.{◌≡◌, ◌+◌, ◌<◌, ◌≤◌, ℕ, length, slice_index};
+ghost use Rattle.std.specs.Prelude.{◌≡◌, ◌+◌, ◌<◌, ◌≤◌, ℕ, ◌++◌, length, drop, slice_index};
+ghost use Rattle.std.specs.List.{slice_range};
 ghost use Rattle.std.specs.List.Sorted.{IsNonDecreasing};
 ghost use Rattle.zorder.specs.Corners.{AreCorners};
 ghost use Rattle.zorder.specs.Regions.{IsEmpty, IsRegion, IsInside};
+ghost use Rattle.boxes.specs.BoxAnswers.{codes_inside};
 
 use crate::walk::{NEAR, front_below, stretch_end};
 use bigmin::next_by_corners;
@@ -41,12 +43,37 @@ pub fn next_places(
         → ¬ IsInside region.now (slice_index codes.now j) }
     ensures inside { IsNonDecreasing codes.now → (j : ℕ) → result.start ≤ j → j < result.end
         → IsInside region.now (slice_index codes.now j) }
+    ensures all { IsNonDecreasing codes.now → from ≤ length codes.now
+        → codes_inside region.now (drop from codes.now)
+        ≡ slice_range codes.now result.start result.end
+        ++ codes_inside region.now (drop result.end codes.now) }
 {
     if is_empty(region) {
         return codes.len()..codes.len();
     }
     let first = first_inside(codes, hints, region, corners, from);
     first..stretch_end(region, corners, codes, first)
+}
+
+/// How many codes lie in a region, in a list of codes that stays where it is.
+///
+/// The conditions are those of [`next_places`]; of codes that fall it is how many places some
+/// stretches have. Cannot fail and takes no memory.
+pub fn count_places(codes: &[u64], hints: &[u64], region: &Region, corners: &Corners) -> usize
+    requires region { IsRegion region.now }
+    requires corners { AreCorners region.now corners.now }
+    ensures found { IsNonDecreasing codes.now
+        → result ≡ length (codes_inside region.now codes.now) }
+    ensures few { result ≤ length codes.now }
+{
+    let mut count = 0;
+    let mut at = 0;
+    while at < codes.len() {
+        let places = next_places(codes, hints, region, corners, at);
+        count += places.end - places.start;
+        at = places.end;
+    }
+    count
 }
 
 /// The first place, from one on, whose code is inside, where the codes never fall.

@@ -62,8 +62,8 @@ impl Claims {
 
     /// Claims on the numbers below `pieces`, and a seat for each of `workers` workers.
     ///
-    /// `pieces` is from 1 to `MAX_PIECES` of `options`, 65,536, and `workers` from 1 to `MAX_WORKERS`,
-    /// 64.
+    /// `pieces` is from 1 to `MAX_PIECES` of `options`, 65,536, and `workers` from 1 to
+    /// `MAX_WORKERS`, 64.
     ///
     /// # Errors
     ///

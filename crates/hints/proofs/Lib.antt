@@ -2,7 +2,8 @@ pub mod LineLemmas
 pub mod LookupLemmas
 mod ManyLemmas
 mod RoundedLemmas
+mod MiddleLemmas
 mod LeadLemmas
 mod KeyLemmas
-mod SegmentLemmas
 mod HintLemmas
+mod RunLemmas

@@ -1,36 +1,51 @@
 -- Hints that are made of a cover's lines. No public clause cites it.
-use Rattle.std.specs.Prelude.{◌≡◌, ℕ, ◌+◌, ◌-◌, ◌*◌, ◌/◌, ◌%◌, ◌^◌, ◌<◌, ◌≤◌, ℤ, pos, ◌+ℤ◌, ◌≤ℤ◌, ◌<ℤ◌, List, ◌++◌, length, slice_index}
+use Rattle.std.specs.Prelude.{◌≡◌, ℕ, ◌+◌, ◌-◌, ◌*◌, ◌/◌, ◌%◌, ◌^◌, ◌<◌, ◌≤◌, ℤ, pos, ◌+ℤ◌, ◌-ℤ◌, ◌*ℤ◌, ◌≤ℤ◌, ◌<ℤ◌}
+use Rattle.std.specs.Prelude.{List, length, slice_index, slice_index_or}
 use Rattle.exact_cross.specs.declared.line.Line.{Line}
-use Rattle.exact_cross.specs.declared.segment.Segment.{Segment}
 use Rattle.exact_cross.specs.Points.{Points}
-use Rattle.exact_cross.specs.Floors.{IsFloorAt}
-use Rattle.exact_cross.specs.Segments.{starts_of, start_at, EachRun, IsFitted}
+use Rattle.exact_cross.specs.Lines.{FitsRun, rational}
+use Rattle.exact_cross.specs.Covers.{CutsInto, IsLongest}
 use Rattle.exact_cross.specs.Checked.{IsInRange, IsLeastCover}
+use Rattle.hulls.specs.declared.flat.FlatLine.{FlatLine}
+use Rattle.hulls.specs.FlatLines.{IsFlatInRange, MeanRises, rational_flat}
 use Rattle.hints.specs.Told.{lines_in}
 use Rattle.hints.specs.Leads.{AreInFormat}
 use Rattle.hints.specs.declared.hint_list.TheConstants.{FORMAT, HEAD_LEN}
 
--- a height at q, raised by ε: that at the first x, packed with how many binary places the multiplier has, and the climb from there
+-- a height at q, raised by ε: that at the first x, packed with how many binary places the multiplier has, and the
+-- climb from there
 abbrev pub raised_by : ℕ → ℕ → ℕ → ℕ → ℕ
 raised_by first multiplier packed q = packed / 128 + (q - first) * multiplier / 2 ^ (packed % 128)
 
--- a line from the x `first` to `last`, that isn't below -ε at the first one, low enough there, and climbs little
-pub record IsShort (line : Line) (first last eps : ℕ) : Type 0 where
-  pub order : first ≤ last
-  pub not_below : (f : ℤ) → IsFloorAt line first f → pos 0 ≤ℤ (f +ℤ pos eps)
-  pub low : (f : ℤ) → IsFloorAt line first f → f <ℤ pos (2 ^ 33)
-  pub climb : line.rise * (last - first) ≤ 2 ^ 33 * line.run
+-- two lines of the run s..e: both are within eps at each of its places, and their mean doesn't fall
+pub record AreLinesOfRun (p : Points) (eps s e : ℕ) (line : Line) (flat : FlatLine) : Type 0 where
+  pub in_range : IsInRange line
+  pub fits : FitsRun p eps (rational line in_range.positive) s e
+  pub flat_in_range : IsFlatInRange flat
+  pub flat_fits : FitsRun p eps (rational_flat flat flat_in_range.positive) s e
+  pub rises : MeanRises line flat
 
--- what the hints of a line say at each x from first to last is its floor, raised by ε, or one of the numbers beside it
-pub record AreHintsOf (line : Line) (first last eps multiplier packed : ℕ) : Type 0 where
-  pub near : (q : ℕ) (f : ℤ) → first ≤ q → q ≤ last → IsFloorAt line q f →
-      (pos (raised_by first multiplier packed q) ≤ℤ (f +ℤ pos (eps + 1))) × ((f +ℤ pos eps) ≤ℤ pos (raised_by first multiplier packed q + 1))
+-- the height of a flat line at q, times its run
+abbrev pub flat_height : FlatLine → ℕ → ℤ
+flat_height line q = pos (line.y0 * line.run) +ℤ line.rise *ℤ (pos q -ℤ pos line.x0)
 
--- the segments of a least cover, whose lines are in range and fit their runs
-pub record AreRuns (p : Points) (eps : ℕ) (segments : List Segment) : Type 0 where
-  pub cover : IsLeastCover p eps 0 p.count (starts_of segments)
-  pub in_range : EachRun (λ segment e. IsInRange segment.line) p.count segments
-  pub fitted : EachRun (IsFitted p eps) p.count segments
+-- f is the greatest whole number not above the flat line at q (cleared of the denominator)
+pub record IsFlatFloorAt (line : FlatLine) (q : ℕ) (f : ℤ) : Type 0 where
+  pub not_above : (f *ℤ pos line.run) ≤ℤ flat_height line q
+  pub greatest : flat_height line q <ℤ ((f +ℤ pos 1) *ℤ pos line.run)
+
+-- m is the least whole number not below T times the slope rise / run (cleared of the denominator)
+pub record IsRoundedUp (rise : ℤ) (run T : ℕ) (m : ℤ) : Type 0 where
+  pub not_below : (rise *ℤ pos T) ≤ℤ (m *ℤ pos run)
+  pub least : (m *ℤ pos run) <ℤ (rise *ℤ pos T +ℤ pos run)
+
+-- the sum of both slopes, T times each and rounded up
+pub record IsSumOfSlopes (line : Line) (level : FlatLine) (T multiplier : ℕ) : Type 0 where
+  pub steep : ℤ
+  pub steep_is : IsRoundedUp (pos line.rise) line.run T steep
+  pub flat : ℤ
+  pub flat_is : IsRoundedUp level.rise level.run T flat
+  pub sum : pos multiplier ≡ steep +ℤ flat
 
 -- the hints of a line are right at each point of the run s..e
 pub record TellsPoints (p : Points) (eps first multiplier packed s e : ℕ) : Type 0 where
@@ -40,7 +55,8 @@ pub record TellsPoints (p : Points) (eps first multiplier packed s e : ℕ) : Ty
 
 -- the hints of this line among all are
 abbrev pub TellsRun : (p : Points) (eps : ℕ) (lines : List ℕ) (line s e : ℕ) → Type 0
-TellsRun p eps lines line s e = TellsPoints p eps (slice_index lines (3 * line)) (slice_index lines (3 * line + 1)) (slice_index lines (3 * line + 2)) s e
+TellsRun p eps lines line s e = TellsPoints p eps (slice_index lines (3 * line)) (slice_index lines (3 * line + 1))
+    (slice_index lines (3 * line + 2)) s e
 
 -- a head with its table, behind which so many lines are to stand
 pub record IsHead (eps lines : ℕ) (head : List ℕ) : Type 0 where
@@ -60,12 +76,6 @@ pub record HoldsLines (p : Points) (eps : ℕ) (start : ℕ → ℕ) (count : �
   pub long : length lines ≡ 3 * count
   pub each : (line : ℕ) → line < count → TellsRun p eps lines line (start line) (start (line + 1))
 
--- the hints are those before, and behind them the hints of the first lines
-pub record AddsLines (p : Points) (eps : ℕ) (start : ℕ → ℕ) (count : ℕ) (before hints : List ℕ) : Type 0 where
-  pub lines : List ℕ
-  pub are : hints ≡ before ++ lines
-  pub holds : HoldsLines p eps start count lines
-
 -- the hints of the lines of runs that begin at these starts
 pub record AreLinesOf (p : Points) (eps : ℕ) (start : ℕ → ℕ) (count : ℕ) (lines : List ℕ) : Type 0 where
   pub holds : HoldsLines p eps start count lines
@@ -73,11 +83,24 @@ pub record AreLinesOf (p : Points) (eps : ℕ) (start : ℕ → ℕ) (count : �
   pub rise : (line : ℕ) → line < count → start line < start (line + 1)
   pub ends : start count ≡ p.count
 
+-- where a run begins, and behind the last one the end
+abbrev pub start_in : List ℕ → ℕ → ℕ → ℕ
+start_in starts end line = slice_index_or starts line end
+
+-- the lines of the longest runs of the places before `end`
+pub record AreLinesBefore (p : Points) (eps end : ℕ) (lines : List ℕ) : Type 0 where
+  pub starts : List ℕ
+  pub greedy : CutsInto (IsLongest p eps p.count) 0 end starts
+  pub holds : HoldsLines p eps (start_in starts end) (length starts) lines
+  pub begins : 0 < end → (0 < length starts) × (start_in starts end 0 ≡ 0)
+  pub rise : (line : ℕ) → line < length starts → start_in starts end line < start_in starts end (line + 1)
+  pub ends : start_in starts end (length starts) ≡ end
+
 -- the hints of a least cover's lines
 pub record AreLinesOver (p : Points) (eps : ℕ) (hints : List ℕ) : Type 0 where
-  pub segments : List Segment
-  pub cover : IsLeastCover p eps 0 p.count (starts_of segments)
+  pub starts : List ℕ
+  pub cover : IsLeastCover p eps 0 p.count starts
   pub format : AreInFormat eps hints
   pub table : slice_index hints 3 ≤ 2 * slice_index hints 2
-  pub count : slice_index hints 2 ≡ length segments
-  pub lines : AreLinesOf p eps (start_at p.count segments) (length segments) (lines_in hints)
+  pub count : slice_index hints 2 ≡ length starts
+  pub lines : AreLinesOf p eps (start_in starts p.count) (length starts) (lines_in hints)

@@ -15,6 +15,7 @@
 #![tactic(auto)]
 
 mod hint_list;
+mod line_hints;
 mod line_list;
 mod lookup;
 mod made;

@@ -15,8 +15,9 @@ use window_search::{CountedKeys, KeyList, bracket_from};
 /// The place of `q`: where the keys never fall, how many of them are below `q`; in any keys a place
 /// with a key below `q` before it and none at it.
 ///
-/// It takes the steps of [`position_counted`], and counts nothing. Nothing is asked of keys or
-/// hints. Cannot fail and takes no memory.
+/// The place that the hints tell is tried first, and where it is right, the two keys beside it are
+/// all that is read. It takes the steps of [`position_counted`], and counts nothing. Nothing is
+/// asked of keys or hints. Cannot fail and takes no memory.
 #[inline]
 pub fn position<K: KeyList>(keys: K, hints: &[u64], q: u64) -> usize
     ensures { IsPosition (K.listed keys) q result }

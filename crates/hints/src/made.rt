@@ -1,30 +1,33 @@
-// The hints of lines that are made of keys.
+// Hints that are made of keys.
 ghost use Rattle.std.specs.Prelude.{◌≡◌, ℕ, ◌+◌, ◌*◌, ◌<◌, ◌≤◌, ◌^◌, ◌∷◌, [], ◌++◌, length};
-ghost use Rattle.std.specs.Prelude.{pos, ◌+ℤ◌, ◌≤ℤ◌, ◌<ℤ◌, IfOk, OnOk, Err};
+ghost use Rattle.std.specs.Prelude.{IfOk, OnOk, Err};
 ghost use Rattle.std.specs.List.Sorted.{IsNonDecreasing};
-ghost use Rattle.exact_cross.specs.Checked.{IsInRange};
+ghost use Rattle.budget.specs.Ledgers.{IsNewLedger};
 ghost use Rattle.exact_cross.specs.Points.{points_of};
 ghost use Rattle.exact_cross.specs.PointLists.{points_in};
-ghost use Rattle.exact_cross.specs.Segments.{start_at};
 ghost use Rattle.key_points.specs.KeyPoints.{xs_of, ys_of};
 ghost use Rattle.key_points.specs.Falls.{IsFirstFall};
 ghost use Rattle.key_points.specs.declared.fault.KeysFault.TheVariants.{Falls, TooMany};
 ghost use Rattle.hints.specs.Leads.{AreFew, AreInFormat, HaveLeastLines};
 ghost use Rattle.hints.specs.Lookups.{LeadsWithin};
-ghost use Rattle.hints.specs.Made.{AddsLines, AreLinesOver, AreRuns, AreHintsOf, IsShort};
-ghost use Rattle.hints.specs.Made.{TellsPoints};
+ghost use Rattle.hints.specs.Made.{AreLinesBefore, AreLinesOver};
 
+use crate::line_hints::{LineHints, hints_of_run};
 use crate::table::head_of;
-use budget::NoMemory;
-use exact_cross::{Line, MAX_EPSILON, PointList, Segment, start_at};
+use budget::{NoMemory, Steps};
+use exact_cross::{MAX_EPSILON, PointList};
+use hulls::Hulls;
 use key_points::{KeyPoints, KeysFault, judge};
-use segmenter::segment;
+use segmenter::run::longest_run;
 use std::alloc::Global;
+use std::marker::Brand;
+use std::sync::ledger::{Blank, Ledger};
 
 /// The hints of lines of keys, which lead a lookup to nearly its place.
 ///
 /// `eps` is the error bound ε, in places: with a larger one there are fewer lines, and what they
-/// tell is further off. There are at most 6 hints and five for each line.
+/// tell is further off. There are at most 6 hints and five for each line. Keys at even steps are
+/// told exactly, which no clause says.
 ///
 /// The keys are borrowed and not copied; while the lines are made it takes 4 bytes a key where none
 /// repeats, and at most 12 where one does, beside the hulls of the segmentation.
@@ -74,121 +77,45 @@ fn hints_over(alloc: Global, points: PointList<'_>, eps: u32) -> Result<Vec<u64>
     requires bounded { eps ≤ MAX_EPSILON }
     ensures { IfOk result (λ hints. AreLinesOver (points_in points.entry) eps hints.items) }
 {
-    let segments = segment(alloc, points, eps, 0, points.xs.len() as u32)?;
-    let mut hints = head_of(alloc, points.xs, &segments, eps)?;
-    add_lines(&mut hints, points, &segments, eps)?;
+    let lines = lines_over::<Brand>(alloc, points, eps, Blank::new(1))?;
+    let mut hints = head_of(alloc, &lines, eps)?;
+    hints.extend_from_slice(&lines)?;
     Ok(hints)
 }
 
-/// Adds the hints of the line of each run.
-fn add_lines(
-    hints: &mut Vec<u64>,
+/// The lines of the longest runs of points, three numbers each.
+fn lines_over<L: Ledger>(
+    alloc: Global,
     points: PointList<'_>,
-    segments: &[Segment],
     eps: u32,
-) -> Result<(), NoMemory>
+    blank: Blank,
+) -> Result<Vec<u64>, NoMemory>
     requires bounded { eps ≤ MAX_EPSILON }
-    requires runs { AreRuns (points_in points) eps segments.now }
-    ensures { OnOk result (AddsLines (points_in points.entry) eps
-        (start_at (length points.entry.xs.now) segments.now) (length segments.now) hints.old.items
-        hints.new.items) }
+    requires ledger { IsNewLedger blank L.name L.parts }
+    ensures { IfOk result (λ lines. AreLinesBefore (points_in points.entry) eps
+        (length points.entry.xs.now) lines.items) }
 {
-    for run in 0..segments.len() {
-        let line = line_of_run(points, segments, run, eps);
-        push_line(hints, &line)?;
+    let mut steps = Steps::<L>::new(blank);
+    let end = points.xs.len() as u32;
+    let mut hulls = Hulls::new(alloc, eps, end)?;
+    let mut lines = Vec::new(alloc);
+    let mut start = 0;
+    while start < end {
+        let run = longest_run(&mut hulls, points, start, end, &mut steps);
+        let line = hints_of_run(points, start, &run, eps);
+        push_line(&mut lines, &line)?;
+        start = run.end;
     }
-    Ok(())
-}
-
-/// The hints of the line of a run.
-fn line_of_run(points: PointList<'_>, segments: &[Segment], run: usize, eps: u32) -> LineHints
-    requires bounded { eps ≤ MAX_EPSILON }
-    requires runs { AreRuns (points_in points) eps segments.now }
-    requires inside { run < length segments.now }
-    ensures { TellsPoints (points_in points.entry) eps result.first result.multiplier
-        result.packed (start_at (length points.entry.xs.now) segments.now run)
-        (start_at (length points.entry.xs.now) segments.now (run + 1)) }
-{
-    let segment = &segments[run];
-    let end = start_at(segments, run + 1, points.xs.len() as u32) as usize;
-    let first = points.xs[segment.start as usize];
-    let last = points.xs[end - 1];
-    LineHints::of(&segment.line, first, last, eps)
+    Ok(lines)
 }
 
 /// Adds the hints of a line.
-fn push_line(hints: &mut Vec<u64>, line: &LineHints) -> Result<(), NoMemory>
-    ensures { OnOk result (hints.new.items ≡
-        hints.old.items ++ line.now.first ∷ line.now.multiplier ∷ line.now.packed ∷ []) }
+fn push_line(lines: &mut Vec<u64>, line: &LineHints) -> Result<(), NoMemory>
+    ensures { OnOk result (lines.new.items ≡
+        lines.old.items ++ line.now.first ∷ line.now.multiplier ∷ line.now.packed ∷ []) }
 {
-    hints.push(line.first)?;
-    hints.push(line.multiplier)?;
-    hints.push(line.packed)?;
+    lines.push(line.first)?;
+    lines.push(line.multiplier)?;
+    lines.push(line.packed)?;
     Ok(())
-}
-
-/// The hints of a line.
-#[derive(Clone, Copy)]
-pub struct LineHints {
-    /// The first x.
-    pub first: u64,
-    /// The slope, times two to so many binary places.
-    pub multiplier: u64,
-    /// The height at the first x, raised by ε, times 128, and how many binary places those are.
-    pub packed: u64,
-}
-
-impl LineHints {
-    /// The hints of a line from the x `first` to `last`.
-    ///
-    /// The multiplier has as many binary places as the distance between them, so that it loses less
-    /// than a place over the run, and the height is rounded up.
-    pub fn of(line: &Line, first: u64, last: u64, eps: u32) -> LineHints
-        requires in_range { IsInRange line.now }
-        requires bounded { eps ≤ MAX_EPSILON }
-        requires short { IsShort line.now first last eps }
-        ensures first { result.first ≡ first }
-        ensures hints { AreHintsOf line.now result.first last eps result.multiplier
-            result.packed }
-    {
-        let places = binary_places(last - first);
-        let multiplier = multiplier_of(line, last - first, places);
-        let height = height_above(line.floor_at(first), eps);
-        LineHints {
-            first,
-            multiplier,
-            packed: height * 128 + u64::from(places),
-        }
-    }
-}
-
-/// How many binary places a number has.
-fn binary_places(width: u64) -> u32
-    ensures most { result ≤ 64 }
-    ensures fits { width < 2 ^ result }
-    ensures least { 2 ^ result ≤ 2 * width + 1 }
-{
-    64 - width.leading_zeros()
-}
-
-/// The slope of a line, times two to so many places, rounded down.
-fn multiplier_of(line: &Line, width: u64, places: u32) -> u64
-    requires in_range { IsInRange line.now }
-    requires climb { line.now.rise * width ≤ 2 ^ 33 * line.now.run }
-    requires most { places ≤ 64 }
-    requires least { 2 ^ places ≤ 2 * width + 1 }
-    ensures not_above { result * line.now.run ≤ line.now.rise * 2 ^ places }
-    ensures greatest { line.now.rise * 2 ^ places < result * line.now.run + line.now.run }
-{
-    ((u128::from(line.rise) << places) / u128::from(line.run)) as u64
-}
-
-/// The number above a floor, raised by ε.
-fn height_above(floor: i128, eps: u32) -> u64
-    requires bounded { eps ≤ MAX_EPSILON }
-    requires not_below { pos 0 ≤ℤ (floor +ℤ pos eps) }
-    requires low { floor <ℤ pos (2 ^ 33) }
-    ensures { pos result ≡ floor +ℤ pos (eps + 1) }
-{
-    (floor + 1 + i128::from(eps)) as u64
 }

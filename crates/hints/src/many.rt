@@ -52,7 +52,8 @@ pub fn positions_counted<K: KeyList, L: Ledger>(
         steps.new }
     ensures near { IsNonDecreasing keys.now →
         LeadsWithin hints.now keys.now (slice_index hints.now 1 + 2) →
-        ReadsEachWithin 16 (slice_index hints.now 1 + 2) (length questions.now) steps.old steps.new }
+        ReadsEachWithin 16 (slice_index hints.now 1 + 2) (length questions.now) steps.old
+        steps.new }
 {
     let width = width_of(hints, keys.len());
     let count = questions.len().min(places.len());

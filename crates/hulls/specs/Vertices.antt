@@ -8,6 +8,10 @@ use Rattle.hulls.specs.declared.vertex.Vertex.{Vertex}
 abbrev pub vertex_at : List Vertex → ℕ → Vertex
 vertex_at vertices k = slice_index_or vertices k (record { x = 0; height = 0; place = 0 })
 
+-- the vertex of these numbers
+abbrev pub vertex_of : ℕ → ℕ → ℕ → Vertex
+vertex_of x height place = record { x = x; height = height; place = place }
+
 -- from a vertex to `lift` above another one
 abbrev pub lifted_slope : Vertex → Vertex → ℕ → Slope
 lifted_slope low high lift = record { rise = pos (high.height + lift) -ℤ pos low.height; run = high.x - low.x }

@@ -4,7 +4,8 @@ ghost use Rattle.std.specs.Prelude.{vec_capacity};
 ghost use Rattle.std.specs.Bool.{OnTrue, OnFalse};
 ghost use Rattle.exact_cross.specs.Points.{Points};
 ghost use Rattle.hulls.specs.Slopes.{steepest};
-ghost use Rattle.hulls.specs.Vertices.{vertex_at};
+ghost use Rattle.exact_cross.specs.Slopes.{IsAtMost};
+ghost use Rattle.hulls.specs.Vertices.{vertex_at, vertex_of, lifted_slope};
 ghost use Rattle.hulls.specs.Hull.{IsHullOf, IsHullUpTo, IsFittable, IsShadowed, IsUnderLine};
 ghost use Rattle.hulls.specs.Hull.{IsNextVertex, IsVertexOf, lower_of, spare_of};
 ghost use Rattle.hulls.specs.Hull.{IsPassed, AreSpanned, last_of};
@@ -144,11 +145,33 @@ impl Hull {
         if !CountedSlope::between(low, next, lift).is_below(&self.slope, steps) {
             return false;
         }
+        self.turn(next.x, next.height, next.place, lift, steps);
+        true
+    }
+
+    /// Finds the pair of the run that goes on to the point, to which the slope is less than the
+    /// pair's.
+    ///
+    /// The point is passed by its numbers, so that those who seldom call it needn't store it.
+    #[inline(never)]
+    fn turn<L: Ledger>(&mut self, x: u64, height: u32, place: u32, lift: u32, steps: &mut Steps<L>)
+        requires ahead { (q : Points) × (eps : ℕ) × (s : ℕ) × (e : ℕ) × (m : ℕ) × (e ≤ m) ×
+            IsHullOf q eps s e self.old × IsNextVertex q m (vertex_of x height place) ×
+            (lift ≡ 2 * eps) × (eps ≤ MAX_EPSILON) }
+        requires less { IsAtMost self.old.slope.slope (lifted_slope
+            (vertex_at self.old.vertices.items self.old.tangent) (vertex_of x height place) lift)
+            → ⊥ }
+        ensures pair { (q : Points) (eps s e m : ℕ) → IsHullOf q eps s e self.old →
+            IsPassed q eps s e m → IsNextVertex q m (vertex_of x height place) →
+            lift ≡ 2 * eps → IsFittable q eps s e m → IsHullUpTo q eps s e (m + 1) self.new }
+        ensures cost { steps.new + spare_of self.new ≤ steps.old + spare_of self.old + 1 }
+        ensures vertices { self.new.vertices ≡ self.old.vertices }
+    {
+        let next = Vertex { x, height, place };
         let found = tangent_to(&self.vertices, self.tangent, next, lift, steps);
         self.tangent = found.vertex;
         self.slope = found.slope;
-        self.upper = next.place;
-        true
+        self.upper = place;
     }
 
     /// Puts the next point on the hull, if it can be the lower place of a later pair.
@@ -167,26 +190,28 @@ impl Hull {
         ensures capacity { vec_capacity self.old.vertices ≤ vec_capacity self.new.vertices }
     {
         if stands_out {
-            self.cover(next, steps);
+            self.cover(next.x, next.height, next.place, steps);
         }
     }
 
     /// Puts the next point on the hull, and takes off what it covers.
     #[inline(never)]
-    fn cover<L: Ledger>(&mut self, next: Vertex, steps: &mut Steps<L>)
+    fn cover<L: Ledger>(&mut self, x: u64, height: u32, place: u32, steps: &mut Steps<L>)
         requires next { (q : Points) × (eps : ℕ) × (s : ℕ) × (e : ℕ) × (m : ℕ) × (e ≤ m) ×
-            IsHullUpTo q eps s e (m + 1) self.old × IsNextVertex q m next }
+            IsHullUpTo q eps s e (m + 1) self.old × IsNextVertex q m (vertex_of x height place) }
         requires room { length self.old.vertices.items < vec_capacity self.old.vertices }
         ensures hull { (q : Points) (eps s e m : ℕ) → e ≤ m →
-            IsHullUpTo q eps s e (m + 1) self.old → IsNextVertex q m next →
-            AreSpanned q self.old e m → IsHullOf q eps s (m + 1) self.new }
-        ensures end { last_of self.new ≡ next.place }
+            IsHullUpTo q eps s e (m + 1) self.old →
+            IsNextVertex q m (vertex_of x height place) → AreSpanned q self.old e m →
+            IsHullOf q eps s (m + 1) self.new }
+        ensures end { last_of self.new ≡ place }
         ensures tangent { self.new.tangent ≡ self.old.tangent }
         ensures inside { self.new.tangent < length self.new.vertices.items }
         ensures cost { steps.new + length self.new.vertices.items
             ≤ steps.old + length self.old.vertices.items + 2 }
         ensures capacity { vec_capacity self.old.vertices ≤ vec_capacity self.new.vertices }
     {
+        let next = Vertex { x, height, place };
         let kept = kept_before(&self.vertices, self.tangent, next, steps);
         self.vertices.truncate(kept);
         self.vertices.push_reserved(next);

@@ -1,15 +1,18 @@
 -- The reading of any bytes as the file of an index: the index, or the first fault in the order of the bytes.
-use Rattle.std.specs.Prelude.{◌≡◌, ◌≢◌, ◌⊎◌, ℕ, ◌+◌, ◌<◌, ◌≤◌, ◌^◌, List, [], ◌∷◌, ◌++◌, length, take, slice_index, Option, IfSome, Result, Ok, Err}
+use Rattle.std.specs.Prelude.{◌≡◌, ◌≢◌, ◌⊎◌, ℕ, ◌+◌, ◌<◌, ◌≤◌, ◌^◌, List, [], ◌∷◌, ◌++◌}
+use Rattle.std.specs.Prelude.{length, take, slice_index, Option, IfSome, Result, Ok, Err}
 use Rattle.edge.specs.Reading.{HasRead}
 use Rattle.edge.specs.Readers.{Reads}
 use Rattle.edge.specs.declared.shelf.Shelf.{Ghosts}
 use Rattle.exact_cross.specs.declared.TheConstants.{MAX_EPSILON}
 use Rattle.index_file.specs.declared.fault.IndexFault.{IndexFault}
-use Rattle.index_file.specs.declared.fault.IndexFault.TheVariants.{ReadFault, Short, Magic, Epsilon, Side, Trailing, NoMemory}
+use Rattle.index_file.specs.declared.fault.IndexFault.TheVariants.{ReadFault, Short, Magic, Epsilon}
+use Rattle.index_file.specs.declared.fault.IndexFault.TheVariants.{Side, Trailing, NoMemory}
 use Rattle.index_file.specs.Spelling.{SavedIndex, number, magic, head_bytes, index_bytes, IsBounded, IsSpelling}
 use Rattle.index_file.specs.Stops.{AreLevels, AreBeforeLevelCut, IsFront, IsSide, origin_of}
 
--- the bytes of any two bounds and of so many levels as follow, where a bound that is whole in the first `got` bytes isn't too great
+-- the bytes of any two bounds and of so many levels as follow, where
+-- a bound that is whole in the first `got` bytes isn't too great
 pub record IsFormUpTo (got : ℕ) (bytes : List ℕ) : Type 0 where
   pub eps : ℕ
   pub eps_rec : ℕ
@@ -40,12 +43,14 @@ pub record IsEpsilon (bytes : List ℕ) (value : ℕ) : Type 0 where
   pub behind : List ℕ
   pub great : MAX_EPSILON < value
   pub fits : value < 2 ^ 32
-  pub stands : (bytes ≡ magic ++ (number value ++ behind)) ⊎ ((eps : ℕ) × (eps ≤ MAX_EPSILON) × (bytes ≡ magic ++ (number eps ++ (number value ++ behind))))
+  pub stands : (bytes ≡ magic ++ (number value ++ behind))
+      ⊎ ((eps : ℕ) × (eps ≤ MAX_EPSILON) × (bytes ≡ magic ++ (number eps ++ (number value ++ behind))))
 
 -- what stands before a cut byte of an index
 abbrev pub IsBeforeIndexCut : List ℕ → Type 0
 IsBeforeIndexCut front =
-    (eps : ℕ) × (eps_rec : ℕ) × (count : ℕ) × (rest : List ℕ) × (eps ≤ MAX_EPSILON) × (eps_rec ≤ MAX_EPSILON) × (count < 2 ^ 32) × AreBeforeLevelCut count rest × (front ≡ head_bytes eps eps_rec count ++ rest)
+    (eps : ℕ) × (eps_rec : ℕ) × (count : ℕ) × (rest : List ℕ) × (eps ≤ MAX_EPSILON) × (eps_rec ≤ MAX_EPSILON)
+    × (count < 2 ^ 32) × AreBeforeLevelCut count rest × (front ≡ head_bytes eps eps_rec count ++ rest)
 
 -- a byte follows the index
 pub record IsTrailing (bytes : List ℕ) (byte : ℕ) : Type 0 where
@@ -73,7 +78,8 @@ ReadsAs bytes (Err fault) = FailsAs bytes fault
 abbrev pub IsIndex : List ℕ → Type 0
 IsIndex bytes = (index : SavedIndex) × IsSpelling index bytes
 
--- the bytes that were taken where this is the fault: all up to it, but the first eight at once; one behind the index; and where memory ran out a front of an index
+-- the bytes that were taken where this is the fault: all up to it, but the first
+-- eight at once; one behind the index; and where memory ran out a front of an index
 abbrev pub IsTaken : List ℕ → IndexFault → Type 0
 IsTaken taken (Short got) = got ≡ length taken
 IsTaken taken (Magic at) = length taken ≤ 8

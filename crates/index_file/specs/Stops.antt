@@ -8,8 +8,10 @@ use Rattle.edge.specs.declared.shelf.Shelf.{Ghosts}
 use Rattle.index_file.specs.declared.saved.SavedRun.{SavedRun}
 use Rattle.index_file.specs.declared.saved.SavedCut.{SavedCut}
 use Rattle.index_file.specs.declared.fault.IndexFault.{IndexFault}
-use Rattle.index_file.specs.declared.fault.IndexFault.TheVariants.{ReadFault, Short, Magic, Epsilon, Side, Trailing, NoMemory}
-use Rattle.index_file.specs.Spelling.{number, cut_bytes, pair_bytes, run_bytes, level_bytes, CutFits, RunFits, LevelFits}
+use Rattle.index_file.specs.declared.fault.IndexFault.TheVariants.{ReadFault, Short, Magic, Epsilon}
+use Rattle.index_file.specs.declared.fault.IndexFault.TheVariants.{Side, Trailing, NoMemory}
+use Rattle.index_file.specs.Spelling.{number, cut_bytes, pair_bytes, run_bytes}
+use Rattle.index_file.specs.Spelling.{level_bytes, CutFits, RunFits, LevelFits}
 
 -- the bytes of a number
 abbrev pub IsNumber : List ℕ → Type 0
@@ -25,7 +27,8 @@ IsRun bytes = (run : SavedRun) × RunFits run × (bytes ≡ run_bytes run)
 
 -- what stands before the cut byte of a run
 abbrev pub IsBeforeCut : List ℕ → Type 0
-IsBeforeCut front = (start : ℕ) × (a : ℕ) × (b : ℕ) × (start < 2 ^ 32) × (a < 2 ^ 32) × (b < 2 ^ 32) × (front ≡ pair_bytes start a b)
+IsBeforeCut front =
+    (start : ℕ) × (a : ℕ) × (b : ℕ) × (start < 2 ^ 32) × (a < 2 ^ 32) × (b < 2 ^ 32) × (front ≡ pair_bytes start a b)
 
 -- the bytes of n runs
 abbrev pub AreRuns : ℕ → List ℕ → Type 0
@@ -33,7 +36,8 @@ AreRuns n bytes = (runs : List SavedRun) × (length runs ≡ n) × All RunFits r
 
 -- what stands before a cut byte of n runs: runs, and the front of one more
 abbrev pub AreBeforeCut : ℕ → List ℕ → Type 0
-AreBeforeCut n front = (runs : List SavedRun) × (last : List ℕ) × (length runs < n) × All RunFits runs × IsBeforeCut last × (front ≡ flat_map run_bytes runs ++ last)
+AreBeforeCut n front = (runs : List SavedRun) × (last : List ℕ)
+    × (length runs < n) × All RunFits runs × IsBeforeCut last × (front ≡ flat_map run_bytes runs ++ last)
 
 -- the same of a level
 abbrev pub IsLevel : List ℕ → Type 0
@@ -44,11 +48,13 @@ IsBeforeLevelCut front = (n : ℕ) × (rest : List ℕ) × (n < 2 ^ 32) × AreBe
 
 -- and of n levels
 abbrev pub AreLevels : ℕ → List ℕ → Type 0
-AreLevels n bytes = (levels : List (List SavedRun)) × (length levels ≡ n) × All LevelFits levels × (bytes ≡ flat_map level_bytes levels)
+AreLevels n bytes =
+    (levels : List (List SavedRun)) × (length levels ≡ n) × All LevelFits levels × (bytes ≡ flat_map level_bytes levels)
 
 abbrev pub AreBeforeLevelCut : ℕ → List ℕ → Type 0
 AreBeforeLevelCut n front =
-    (levels : List (List SavedRun)) × (last : List ℕ) × (length levels < n) × All LevelFits levels × IsBeforeLevelCut last × (front ≡ flat_map level_bytes levels ++ last)
+    (levels : List (List SavedRun)) × (last : List ℕ) × (length levels < n)
+    × All LevelFits levels × IsBeforeLevelCut last × (front ≡ flat_map level_bytes levels ++ last)
 
 -- no byte is a cut byte
 abbrev pub IsNoCut : List ℕ → Type 0
@@ -94,7 +100,8 @@ origin_of (Epsilon value) = of_bytes
 origin_of (Side at byte) = of_bytes
 origin_of (Trailing byte) = of_bytes
 
--- the bytes that were taken, which begin at this offset of the file, where this is the fault: all up to it, and where memory ran out they go on to a whole piece
+-- the bytes that were taken, which begin at this offset of the file, where this is
+-- the fault: all up to it, and where memory ran out they go on to a whole piece
 abbrev pub TakesIn : (List ℕ → Type 0) → ℕ → List ℕ → IndexFault → Type 0
 TakesIn Whole offset taken (Short got) = got ≡ offset + length taken
 TakesIn Whole offset taken (Side at byte) = at + 1 ≡ offset + length taken

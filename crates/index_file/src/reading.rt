@@ -134,8 +134,8 @@ fn fill_all<F: Shelf>(shelf: &mut F, bytes: &mut [u8], at: &mut u64) -> Result<(
     requires room { at.old + length bytes.old < 2 ^ 64 }
     ensures at { OnOk result (at.new ≡ at.old + length bytes.old) }
     ensures small { (k : ℕ) → slice_index bytes.new k < 256 }
-    ensures reading { Reads F.Shelf origin_of (GivesPiece (λ _. bytes.new)) (EndsIn bytes.new at.old)
-        (TakesIn IsNoCut at.old) shelf.old result shelf.new }
+    ensures reading { Reads F.Shelf origin_of (GivesPiece (λ _. bytes.new))
+        (EndsIn bytes.new at.old) (TakesIn IsNoCut at.old) shelf.old result shelf.new }
 {
     let got = fill(shelf, bytes)?;
     *at += got as u64;

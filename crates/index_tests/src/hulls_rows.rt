@@ -6,14 +6,14 @@ ghost use Rattle.exact_cross.specs.declared.TheConstants.{MAX_EPSILON};
 use crate::common::{Points, expect_of, points_of};
 use budget::{NoMemory, Steps};
 use exact_cross::{Line, PointList, Side, Witness};
-use hulls::{Hulls, Offer};
+use hulls::{FlatLine, Hulls, Offer};
 use std::alloc::Global;
 use std::marker::Brand;
 use std::process::Abort;
 use std::sync::ledger::{Blank, Ledger};
 
-/// How many points were taken in, the cut if there was one, and the pair and the line after it.
-type Fitted = (u32, Option<Witness>, (u32, u32, Line));
+/// How many points were taken in, the cut if there was one, and the pair and the lines after it.
+type Fitted = (u32, Option<Witness>, (u32, u32, Line), FlatLine);
 
 /// Offers the points one after the other until one is refused.
 fn fit<L: Ledger>(
@@ -34,14 +34,14 @@ fn fit<L: Ledger>(
     for place in 1..len {
         let offer = hulls.offer(xs[place as usize], ys[place as usize], false, &mut steps);
         if let Offer::Cut(witness) = offer {
-            return Ok((place, Some(witness), hulls.line()));
+            return Ok((place, Some(witness), hulls.line(), hulls.flat_line()));
         }
     }
-    Ok((len, None, hulls.line()))
+    Ok((len, None, hulls.line(), hulls.flat_line()))
 }
 
 /// Points, the error bound, how many were taken in, the cut as three places and the side of the
-/// last one, the pair, and the line as x0, y0, rise and run.
+/// last one, the pair, and its line and the flattest as x0, y0, rise and run.
 type Row = (
     Points<'static>,
     u32,
@@ -49,15 +49,19 @@ type Row = (
     Option<(u32, u32, u32, Side)>,
     (u32, u32),
     (u64, i64, u64, u64),
+    (u64, u64, i64, u64),
 );
 
 fn fitted_of(row: &Row) -> Fitted {
-    let (_, _, count, cut, (a, b), (x0, y0, rise, run)) = *row;
+    let (_, _, count, cut, (a, b), steep, flat) = *row;
     let cut = match cut {
         Some((p, q, r, side)) => Some(Witness { p, q, r, side }),
         None => None,
     };
-    (count, cut, (a, b, Line { x0, y0, rise, run }))
+    let (x0, y0, rise, run) = steep;
+    let line = Line { x0, y0, rise, run };
+    let (x0, y0, rise, run) = flat;
+    (count, cut, (a, b, line), FlatLine { x0, y0, rise, run })
 }
 
 /// Whether the points are taken in as the row says.
@@ -72,13 +76,14 @@ const EVEN: [u32; 7] = [0, 1, 2, 3, 4, 5, 6];
 
 const JUMP: Points<'static> = (&[0, 10, 11, 12], &[0, 1, 2, 3]);
 
-static ROWS: [Row; 8] = [
+static ROWS: [Row; 10] = [
     (
         (&[0, 1, 2, 10], &[0, 1, 2, 3]),
         0,
         3,
         Some((0, 1, 3, Side::Under)),
         (0, 1),
+        (0, 0, 1, 1),
         (0, 0, 1, 1),
     ),
     (
@@ -88,16 +93,18 @@ static ROWS: [Row; 8] = [
         Some((0, 1, 2, Side::Over)),
         (0, 1),
         (0, 0, 1, 10),
+        (0, 0, 1, 10),
     ),
-    (JUMP, 1, 4, None, (0, 1), (0, -1, 3, 10)),
+    (JUMP, 1, 4, None, (0, 1), (0, -1, 3, 10), (0, 1, 1, 12)),
     // One point, and as many on one line, of which the first pair is taken.
-    ((&[7], &[9]), 3, 1, None, (0, 0), (7, 9, 0, 1)),
+    ((&[7], &[9]), 3, 1, None, (0, 0), (7, 9, 0, 1), (7, 9, 0, 1)),
     (
         (&[0, 1, 2, 3], &[0, 1, 2, 3]),
         0,
         4,
         None,
         (0, 1),
+        (0, 0, 1, 1),
         (0, 0, 1, 1),
     ),
     // The tangents move on: over, 0 * 3 + 4 * 10 is above 3 * 13, and under, 2 * 10 + 7 * 5 is
@@ -109,6 +116,7 @@ static ROWS: [Row; 8] = [
         Some((1, 2, 5, Side::Over)),
         (1, 2),
         (4, 0, 3, 10),
+        (3, 1, 2, 13),
     ),
     (
         (&[1, 4, 5, 6, 7, 9, 19], &EVEN),
@@ -117,6 +125,7 @@ static ROWS: [Row; 8] = [
         Some((1, 5, 6, Side::Under)),
         (0, 5),
         (1, -1, 7, 8),
+        (4, 2, 2, 5),
     ),
     // Equal heights, and one far above them.
     (
@@ -126,6 +135,26 @@ static ROWS: [Row; 8] = [
         Some((0, 1, 3, Side::Over)),
         (0, 1),
         (0, 5, 0, 1),
+        (0, 5, 0, 1),
+    ),
+    // Even steps: of both lines the mean passes all points. Of two points the flattest falls.
+    (
+        (&[0, 10, 20, 30, 40, 50, 60], &EVEN),
+        64,
+        7,
+        None,
+        (0, 6),
+        (0, -64, 134, 60),
+        (0, 64, -122, 60),
+    ),
+    (
+        (&[5, 7], &[0, 1]),
+        2,
+        2,
+        None,
+        (0, 1),
+        (5, -2, 5, 2),
+        (5, 2, -3, 2),
     ),
 ];
 

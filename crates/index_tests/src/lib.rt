@@ -32,6 +32,8 @@ mod near_rows;
 #[cfg(test)]
 mod piece_join_rows;
 #[cfg(test)]
+mod places_rows;
+#[cfg(test)]
 mod radix_table_rows;
 #[cfg(test)]
 mod readme_examples;

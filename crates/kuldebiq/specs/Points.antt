@@ -1,7 +1,8 @@
 -- Points and regions as C hands them in, and which of them are refused.
-use Rattle.std.specs.Prelude.{ℕ, ◌^◌, ◌<◌, ◌≤◌, List, length, slice_index}
+use Rattle.std.specs.Prelude.{◌≡◌, ℕ, ◌^◌, ◌<◌, ◌≤◌, List, length, slice_index}
+use Rattle.std.specs.Fork.{slice_chunk}
 use Rattle.zorder.specs.declared.regions.Region.{Region}
-use Rattle.zorder.specs.Codes.{IsDimension, coordinate_bits}
+use Rattle.zorder.specs.Codes.{IsDimension, code, coordinate_bits}
 use Rattle.kuldebiq.specs.declared.box_calls.RegionParts.{RegionParts}
 
 -- the region of the parts
@@ -29,3 +30,8 @@ pub record IsFirstTooGreat (dims : ℕ) (coordinates : List ℕ) (place : ℕ) :
   pub inside : place < length coordinates
   pub before : (c : ℕ) → c < place → slice_index coordinates c < 2 ^ coordinate_bits dims
   pub great : 2 ^ coordinate_bits dims ≤ slice_index coordinates place
+
+-- these are the codes of the first `count` points, whose coordinates stand one point behind the other
+abbrev pub AreCodesOf : ℕ → List ℕ → List ℕ → ℕ → Type 0
+AreCodesOf dims coordinates codes count =
+    (i : ℕ) → i < count → slice_index codes i ≡ code dims (slice_chunk coordinates dims i)

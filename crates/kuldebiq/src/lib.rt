@@ -1,10 +1,10 @@
-//! Lookups by hints, the index and the map for C and C++.
+//! Lookups by hints, boxes in sorted codes, the index and the map for C and C++.
 //!
 //! Each call is named `kuldebiq_..` and is declared in `include/kuldebiq.h`, which says for each
-//! what C owes. A lookup by hints is given these and keys, and answers a place. Each other call is
-//! passed the place of a handle, which is a pointer in C's memory, null where it holds nothing, and
+//! what C owes. A lookup by hints is given these and keys, and answers a place. Each other call
 //! answers a status and a number ([`Answer`]): what a call can test is tested, and refused with a
-//! number that says why.
+//! number that says why. Those of the index, the map and hints are passed the place of a handle,
+//! which is a pointer in C's memory, null where it holds nothing.
 //!
 //! Main clauses: `bracket` and `found` of [`kuldebiq_find`], `done`, `judged` and `refused` of
 //! [`kuldebiq_index_build`], `answer` of [`kuldebiq_position`], `done` of [`kuldebiq_positions`]
@@ -15,6 +15,7 @@
 mod answer;
 mod box_calls;
 mod building;
+mod code_calls;
 mod end_calls;
 mod find_calls;
 mod hints_calls;
@@ -38,6 +39,7 @@ mod updates;
 ghost use Rattle.std.specs.Prelude.{◌≡◌};
 
 use answer::Answer;
+use box_calls::{RegionParts, Stretch};
 use hints_handle::HintsHandle;
 use index_handle::IndexHandle;
 use map_calls::Pair;
@@ -62,6 +64,10 @@ const _: () = prove!(size_of::<SegmentParts>() == 64);
 const _: () = prove!(size_of::<Pair>() == 16);
 
 const _: () = prove!(size_of::<UpdateParts>() == 24);
+
+const _: () = prove!(size_of::<RegionParts>() == 36);
+
+const _: () = prove!(size_of::<Stretch>() == 16);
 
 /// The version of the library, [`VERSION`].
 #[unsafe(no_mangle)]

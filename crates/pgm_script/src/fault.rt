@@ -1,8 +1,8 @@
 // Why a script wasn't read.
 ghost use Rattle.std.specs.Prelude.{◌≡◌};
-ghost use Rattle.pgm_script.specs.declared.fault.ScriptFault.TheVariants.{ReadFault, NoMemory};
+ghost use Rattle.pgm_script.specs.declared.fault.ScriptFault.TheVariants.{NoMemory};
 
-use edge::Failed;
+use edge::Unread;
 use std::alloc::AllocError;
 use thiserror::Error;
 
@@ -51,11 +51,17 @@ pub enum Why {
     Extra,
 }
 
-impl From<Failed> for ScriptFault {
-    ghost from_gives = { λ _ fault. fault ≡ ReadFault };
+impl From<Unread> for ScriptFault {
+    ghost use Rattle.pgm_script.specs.Texts.{fault_of};
 
-    fn from(_: Failed) -> Self {
-        ScriptFault::ReadFault
+    ghost from_gives = { λ unread fault. fault ≡ fault_of unread };
+
+    fn from(unread: Unread) -> Self {
+        match unread {
+            Unread::ReadFault => ScriptFault::ReadFault,
+            Unread::TooLong { got } => ScriptFault::TooLong { got },
+            Unread::NoMemory => ScriptFault::NoMemory,
+        }
     }
 }
 

@@ -7,9 +7,8 @@ ghost use Rattle.program.specs.Inputs.{no_hints, reads_hints};
 ghost use Rattle.program.specs.Outcomes.{IsOutcome, Outcome};
 ghost use Rattle.program.specs.Stops.{Answers};
 
-use crate::refusal::Stopped;
-use edge::Shelf;
-use pgm_script::{ScriptFault, read_text};
+use crate::refusal::{Refusal, Stopped};
+use edge::{Shelf, Unread, read_all};
 use std::alloc::{AllocError, Global};
 
 /// How many hints are taken for each key at most. A line has three, and at most two more in the
@@ -40,10 +39,11 @@ pub fn file_hints<F: Shelf>(
     ensures files { F.files files.new ≡ F.files files.old }
 {
     files.take_file(name)?;
-    match read_text(alloc, files, room_for(keys)) {
+    match read_all(alloc, files, room_for(keys)) {
         Ok(bytes) => Ok(hints_in(alloc, &bytes)?),
-        Err(ScriptFault::TooLong { .. }) => Ok(Vec::new(alloc)),
-        Err(fault) => Err(Stopped::from(fault)),
+        Err(Unread::TooLong { .. }) => Ok(Vec::new(alloc)),
+        Err(Unread::ReadFault) => Err(Stopped::Refused(Refusal::ReadFault)),
+        Err(Unread::NoMemory) => Err(Stopped::NoMemory),
     }
 }
 

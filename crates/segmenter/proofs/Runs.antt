@@ -35,8 +35,10 @@ HasItsCut-cut p eps to start e w segment starts cuts before own = record {
 }
 
 -- the mean of the segment's line and the flattest doesn't fall
-pub MeanRises-of_run : (hulls : Hulls) (p : Points) (eps s e : ℕ) (segment : Segment) (flat : FlatLine) → StandsFor hulls p eps s e → segment.start ≡ s →
+pub MeanRises-of_run : (hulls : Hulls) (p : Points) (eps s e : ℕ) (segment : Segment) (flat : FlatLine) → StandsFor
+    hulls p eps s e → segment.start ≡ s →
     IsSteepSegment p eps segment e → IsFlatLine p eps s e flat → MeanRises segment.line flat
 MeanRises-of_run hulls p eps s e segment flat stands starts steep is =
     subst (λ (line : Line). MeanRises line flat) (sym steep.line)
-    (MeanRises-from_lines p eps s e segment.a segment.b flat stands.ascends stands.steep.pair.some stands.inside (subst (λ (n : ℕ). IsSteepOf p eps n e segment.a segment.b) starts steep.pair) is)
+    (MeanRises-from_lines p eps s e segment.a segment.b flat stands.ascends stands.steep.pair.some stands.inside
+    (subst (λ (n : ℕ). IsSteepOf p eps n e segment.a segment.b) starts steep.pair) is)

@@ -32,10 +32,10 @@ pub struct Run {
 /// This is for a caller that goes from run to run by itself: the greedy segments are those of the
 /// longest runs, each from the end of the one before it. The segment has the run's steep pair, and
 /// its cut unless the run ends at `to`; the mean of its line and the flattest is within the error
-/// bound, too, and exact where the run's places are at even steps. The hulls begin anew with the error bound that they were
-/// made with, and have room for the places `start..to`. It takes at most 10 steps for each place of
-/// the run, and no memory. Of places at even steps, eight or more in a row, only the first two and
-/// the last of the run are looked at.
+/// bound, too, and exact where the run's places are at even steps. The hulls begin anew with the
+/// error bound that they were made with, and have room for the places `start..to`. It takes at most
+/// 10 steps for each place of the run, and no memory. Of places at even steps, eight or more in a
+/// row, only the first two and the last of the run are looked at.
 pub fn longest_run<L: Ledger>(
     hulls: &mut Hulls,
     points: PointList<'_>,
@@ -149,7 +149,7 @@ fn go_on<L: Ledger>(
 
 /// The end of the stretch that begins at `from`: of eight places or more at even steps. Where
 /// there are fewer, the next place.
-#[inline(always)]
+#[inline(never)]
 fn stretch_end(points: PointList<'_>, from: u32, to: u32) -> u32
     requires more { from + 1 < to }
     requires within { to ≤ length points.xs.now }

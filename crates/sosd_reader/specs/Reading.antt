@@ -1,5 +1,6 @@
 -- What a step of a reader does, where the shelf tells its bytes.
-use Rattle.std.specs.Prelude.{◌≡◌, ℕ, ◌<◌, ◌≤◌, ◌+◌, ◌-◌, ◌*◌, ◌^◌, List, [], ◌∷◌, ◌++◌, length, All, slice_index, Option, IfSome, Result, Err}
+use Rattle.std.specs.Prelude.{◌≡◌, ℕ, ◌<◌, ◌≤◌, ◌+◌, ◌-◌, ◌*◌, ◌^◌, List, [], ◌∷◌, ◌++◌}
+use Rattle.std.specs.Prelude.{length, All, slice_index, Option, IfSome, Result, Err}
 use Rattle.std.specs.List.{flat_map}
 use Rattle.byteorder.specs.Endian.{little_bytes}
 use Rattle.edge.specs.Reading.{HasRead}
@@ -8,7 +9,8 @@ use Rattle.edge.specs.Readers.Origin.{of_shelf, of_memory, of_bytes, of_none}
 use Rattle.edge.specs.Shelf.{TakesAtMost}
 use Rattle.edge.specs.declared.shelf.Shelf.{Ghosts}
 use Rattle.sosd_reader.specs.declared.fault.KeyFault.{KeyFault}
-use Rattle.sosd_reader.specs.declared.fault.KeyFault.TheVariants.{ReadFault, TooMany, Short, Unsorted, Trailing, Wide, NoMemory}
+use Rattle.sosd_reader.specs.declared.fault.KeyFault.TheVariants.{ReadFault, TooMany, Short}
+use Rattle.sosd_reader.specs.declared.fault.KeyFault.TheVariants.{Unsorted, Trailing, Wide, NoMemory}
 use Rattle.sosd_reader.specs.FileFaults.{ReadsAsFile, reach_of}
 use Rattle.sosd_reader.specs.NumberFiles.{Kind, IsOfKeys, IsOfPoints, number_width, AllFollow, Fails, IsFileOf}
 use Rattle.sosd_reader.specs.NumberFiles.Kind.{of_keys, of_points}
@@ -22,7 +24,8 @@ pub record GoesOn (width : ℕ) (front bytes list : List ℕ) : Type 0 where
   pub each_fits : All (λ number. number < 256 ^ width) numbers
   pub whole : length over < width
 
--- the list goes on at the front of these bytes by numbers that may follow and by the number `at`, the first that may not, among n more
+-- the list goes on at the front of these bytes by numbers that may
+-- follow and by the number `at`, the first that may not, among n more
 pub record FailsNext (kind : Kind) (n : ℕ) (front bytes : List ℕ) (at before number : ℕ) : Type 0 where
   pub numbers : List ℕ
   pub over : List ℕ
@@ -34,7 +37,8 @@ pub record FailsNext (kind : Kind) (n : ℕ) (front bytes : List ℕ) (at before
   pub fails : Fails kind before number
   pub within : at < length front + n
 
--- the list goes on by these bytes and all its numbers may follow, but n more of them would take more bytes, and the file has `got` in all
+-- the list goes on by these bytes and all its numbers may follow, but
+-- n more of them would take more bytes, and the file has `got` in all
 pub record EndsEarly (kind : Kind) (n : ℕ) (front bytes : List ℕ) (got : ℕ) : Type 0 where
   pub list : List ℕ
   pub goes_on : GoesOn (number_width kind) front bytes list
@@ -45,7 +49,8 @@ pub record EndsEarly (kind : Kind) (n : ℕ) (front bytes : List ℕ) (got : ℕ
 -- the fault that these bytes have where n more numbers are to follow on those in front
 abbrev pub StopsAs : Kind → ℕ → List ℕ → List ℕ → KeyFault → Type 0
 StopsAs kind n front bytes (Unsorted at before key) = IsOfKeys kind × FailsNext kind n front bytes at before key
-StopsAs kind n front bytes (Wide at value) = IsOfPoints kind × ((before : ℕ) × FailsNext kind n front bytes at before value)
+StopsAs kind n front bytes (Wide at value) =
+    IsOfPoints kind × ((before : ℕ) × FailsNext kind n front bytes at before value)
 StopsAs kind n front bytes (Short got) = EndsEarly kind n front bytes got
 StopsAs kind n front bytes _ = ⊥
 

@@ -181,7 +181,9 @@ class Map(MutableMapping[int, int]):
     ([(2, 4), (3, 9)], (10, 100), (3, 9))
     """
 
-    __slots__ = ("_handle", "_lock", "_length", "auto_compact", "__weakref__")
+    # No key is below _low or above _high: the searches at both ends go on from there, past no key
+    # that was taken.
+    __slots__ = ("_handle", "_lock", "_length", "_low", "_high", "auto_compact", "__weakref__")
 
     def __init__(
         self,
@@ -258,7 +260,13 @@ class Map(MutableMapping[int, int]):
         try:
             with self._lock:
                 self._length = None
-                answer = _put(self._handle, index(key), index(value))
+                at = index(key)
+                # First, so that an interrupt behind the put leaves nothing untrue.
+                if at < self._low:
+                    self._low = max(at, 0)
+                if at > self._high:
+                    self._high = min(at, WORD_MAX)
+                answer = _put(self._handle, at, index(value))
         except (TypeError, OverflowError):
             word(key), word(value, "a value")
             raise
@@ -311,6 +319,22 @@ class Map(MutableMapping[int, int]):
         """The greatest key that is at most the given one, with its value, or None."""
         return self._pair(lib.kuldebiq_map_previous, key)
 
+    def first(self) -> tuple[int, int] | None:
+        """The least key with its value, or None if the map is empty."""
+        with self._lock:
+            pair = self.next(self._low)
+            if pair is not None:
+                self._low = pair[0]
+        return pair
+
+    def last(self) -> tuple[int, int] | None:
+        """The greatest key with its value, or None if the map is empty."""
+        with self._lock:
+            pair = self.previous(self._high)
+            if pair is not None:
+                self._high = pair[0]
+        return pair
+
     def pop_first(self) -> tuple[int, int]:
         """Take out the least key, and return it with its value.
 
@@ -319,7 +343,10 @@ class Map(MutableMapping[int, int]):
         KeyError
             If the map is empty (also a ``Refused``).
         """
-        return self._pop_end(self.next, 0)
+        with self._lock:
+            pair = self._taken(self.first())
+            self._low = min(pair[0] + 1, WORD_MAX)
+        return pair
 
     def pop_last(self) -> tuple[int, int]:
         """Take out the greatest key, and return it with its value.
@@ -329,16 +356,18 @@ class Map(MutableMapping[int, int]):
         KeyError
             If the map is empty (also a ``Refused``).
         """
-        return self._pop_end(self.previous, WORD_MAX)
+        with self._lock:
+            pair = self._taken(self.last())
+            self._high = max(pair[0] - 1, 0)
+        return pair
 
     popitem = pop_last
 
-    def _pop_end(self, find, end: int) -> tuple[int, int]:
-        with self._lock:
-            pair = find(end)
-            if pair is None:
-                raise NoSuchKey("the map is empty", _ABSENT, 0)
-            del self[pair[0]]
+    def _taken(self, pair: tuple[int, int] | None) -> tuple[int, int]:
+        """A pair that was found at an end, and is taken out."""
+        if pair is None:
+            raise NoSuchKey("the map is empty", _ABSENT, 0)
+        del self[pair[0]]
         return pair
 
     def range(
@@ -396,7 +425,7 @@ class Map(MutableMapping[int, int]):
             return self._length
 
     def __bool__(self) -> bool:
-        return self.next() is not None
+        return self.first() is not None
 
     def __iter__(self) -> Iterator[int]:
         return (key for key, _ in self.range())
@@ -440,7 +469,7 @@ class Map(MutableMapping[int, int]):
             if self.auto_compact and 0 < wanted <= _MOST_LEVELS:
                 wanted = _levels_for(len(keys), 0, wanted)
             number_of(lib.kuldebiq_map_load(self._handle, wanted, at, len(room)))
-            self._length = len(room)
+            self._length, self._low, self._high = len(room), 0, WORD_MAX
 
     def update(  # type: ignore[override]
         self, pairs: Pairs = (), values: ArrayLike | None = None
@@ -474,7 +503,11 @@ class Map(MutableMapping[int, int]):
 
     def _apply(self, updates: numpy.ndarray) -> None:
         at = ffi.from_buffer("kuldebiq_update[]", updates)
-        self._change(lib.kuldebiq_map_apply, at, len(updates), entries=len(updates))
+        with self._lock:
+            if len(updates):
+                self._low = min(self._low, int(updates["key"].min()))
+                self._high = max(self._high, int(updates["key"].max()))
+            self._change(lib.kuldebiq_map_apply, at, len(updates), entries=len(updates))
 
     def sweep(self, low: SupportsIndex, high: SupportsIndex) -> int:
         """Take out the keys from low to high, both included, and return how many they were."""
@@ -484,7 +517,7 @@ class Map(MutableMapping[int, int]):
         """Take out all keys. The map has as many levels as before, and no entry."""
         with self._lock:
             number_of(lib.kuldebiq_map_new(self._handle, self.levels))
-            self._length = 0
+            self._length, self._low, self._high = 0, 0, WORD_MAX
 
     def copy(self) -> Map:
         """A map of its own with the same pairs."""

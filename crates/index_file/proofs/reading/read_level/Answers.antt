@@ -15,7 +15,8 @@ returns-in_err-count-clause-reading g c =
     let at = c.args.at.now in
     passed-on g.F.Shelf origin_of _ _ _ _ _ _ fault c.from_residual.ensures.1
     (moves g.F.Shelf IsNumber IsNoCut IsNoCut IsLevel IsBeforeLevelCut at at [] _ _ _ fault
-    (omega arith) (no_piece-read g.F.Shelf _) number-goes (λ front none. absurd none) (λ bytes none. absurd none) c.in_err-count.ensures.reading)
+    (omega arith) (no_piece-read g.F.Shelf _) number-goes
+    (λ front none. absurd none) (λ bytes none. absurd none) c.in_err-count.ensures.reading)
 
 pub returns-in_err-runs-clause-reading : goal.returns-in_err-runs-clause-reading
 returns-in_err-runs-clause-reading g c =
@@ -23,8 +24,10 @@ returns-in_err-runs-clause-reading g c =
     let count = c.in_ok-count.count in
     let first = c.in_ok-count.ensures in
     passed-on g.F.Shelf origin_of _ _ _ _ _ _ fault c.from_residual-in_err-runs.ensures.1
-    (moves g.F.Shelf (AreRuns count) (AreBeforeCut count) (AreRuns count) IsLevel IsBeforeLevelCut c.args.at.now c.read_number.new.at (number count) _ _ _ fault
-    (omega (arith, first.at, length-number count)) first.reading (runs-go count (omega arith)) (λ front before. (count, front, omega arith, before, refl))
+    (moves g.F.Shelf (AreRuns count) (AreBeforeCut count)
+    (AreRuns count) IsLevel IsBeforeLevelCut c.args.at.now c.read_number.new.at (number count) _ _ _ fault
+    (omega (arith, first.at, length-number count)) first.reading
+    (runs-go count (omega arith)) (λ front before. (count, front, omega arith, before, refl))
     (runs-go count (omega arith)) c.in_err-runs.ensures.reading)
 
 pub returns-clause-reading : goal.returns-clause-reading
@@ -32,8 +35,16 @@ returns-clause-reading g c =
     let count = c.in_ok-count.count in
     let runs = c.in_ok-runs.runs.items in
     let bytes = flat_map run_bytes runs in
-    same-piece g.F.Shelf c.args.shelf.now c.read_runs.new.shelf (number count ++ bytes) (level_bytes runs) (level-of count runs c.in_ok-runs.ensures.len)
-    (pieces-read g.F.Shelf _ c.read_number.new.shelf _ (number count) bytes c.in_ok-count.ensures.reading c.in_ok-runs.ensures.reading)
+    same-piece g.F.Shelf c.args.shelf.now c.read_runs.new.shelf
+    (number count ++ bytes) (level_bytes runs) (level-of count runs c.in_ok-runs.ensures.len)
+    (pieces-read g.F.Shelf _ c.read_number.new.shelf _
+    (number count) bytes c.in_ok-count.ensures.reading c.in_ok-runs.ensures.reading)
 
 pub returns-clause-at : goal.returns-clause-at
-returns-clause-at g c = omega (arith, length-level c.in_ok-count.count c.in_ok-runs.runs.items c.in_ok-runs.ensures.len, c.in_ok-count.ensures.at, c.in_ok-runs.ensures.at)
+returns-clause-at g c =
+    omega (
+      arith,
+      length-level c.in_ok-count.count c.in_ok-runs.runs.items c.in_ok-runs.ensures.len,
+      c.in_ok-count.ensures.at,
+      c.in_ok-runs.ensures.at,
+    )

@@ -16,7 +16,8 @@ returns-then-at-gt-FURTHEST-clause-reading g c =
     let so_far = c.loop-done.invariant in
     let none : List SavedRun = [] in
     let fit : LevelFits none = record { few = omega arith; each = All-nil RunFits } in
-    let on = list-goes level_bytes LevelFits levels c.args.count none (level_bytes none) so_far.fits fit (omega (arith, so_far.len)) refl in
+    let on = list-goes level_bytes LevelFits levels c.args.count none
+    (level_bytes none) so_far.fits fit (omega (arith, so_far.len)) refl in
     no_memory-behind g.F.Shelf _ _ (flat_map level_bytes levels) _ _ so_far.read (level_bytes none ++ on.0, on.1)
 
 pub returns-in_err-level-clause-reading : goal.returns-in_err-level-clause-reading
@@ -25,10 +26,13 @@ returns-in_err-level-clause-reading g c =
     let levels = runs_of c.loop-done.levels.items in
     let so_far = c.loop-done.invariant in
     let count = c.args.count in
-    let goes = λ (bytes : List ℕ) (level : IsLevel bytes). list-goes level_bytes LevelFits levels count level.0 bytes so_far.fits level.1 (omega (arith, so_far.len)) level.2 in
+    let goes = λ (bytes : List ℕ) (level : IsLevel bytes). list-goes
+    level_bytes LevelFits levels count level.0 bytes so_far.fits level.1 (omega (arith, so_far.len)) level.2 in
     passed-on g.F.Shelf origin_of _ _ _ _ _ _ fault c.from_residual.ensures.1
-    (moves g.F.Shelf IsLevel IsBeforeLevelCut IsLevel (AreLevels count) (AreBeforeLevelCut count) c.args.at.now c.loop-done.at (flat_map level_bytes levels) _ _ _ fault
-    so_far.at so_far.read goes (λ front before. (levels, front, omega (arith, so_far.len), so_far.fits, before, refl)) goes c.in_err-level.ensures.reading)
+    (moves g.F.Shelf IsLevel IsBeforeLevelCut IsLevel (AreLevels count)
+    (AreBeforeLevelCut count) c.args.at.now c.loop-done.at (flat_map level_bytes levels) _ _ _ fault
+    so_far.at so_far.read goes (λ front before. (levels, front, omega (arith, so_far.len), so_far.fits, before, refl))
+    goes c.in_err-level.ensures.reading)
 
 pub returns-then-is_err-clause-reading : goal.returns-then-is_err-clause-reading
 returns-then-is_err-clause-reading g c =
@@ -36,7 +40,9 @@ returns-then-is_err-clause-reading g c =
     let so_far = c.loop-done.invariant in
     let level = c.in_ok-level.level.items in
     let bytes = flat_map level_bytes levels in
-    let on = list-goes level_bytes LevelFits levels c.args.count level (level_bytes level) so_far.fits c.in_ok-level.ensures.fits (omega (arith, so_far.len)) refl in
+    let on = list-goes level_bytes LevelFits levels c.args.count level
+    (level_bytes level) so_far.fits c.in_ok-level.ensures.fits (omega (arith, so_far.len)) refl in
     no_memory-behind g.F.Shelf _ _ (bytes ++ level_bytes level) _ _
-    (pieces-read g.F.Shelf _ c.loop-done.shelf c.read_level.new.shelf bytes (level_bytes level) so_far.read c.in_ok-level.ensures.reading)
+    (pieces-read g.F.Shelf _ c.loop-done.shelf c.read_level.new.shelf bytes
+    (level_bytes level) so_far.read c.in_ok-level.ensures.reading)
     (on.0, subst (AreLevels c.args.count) (sym (append_assoc bytes (level_bytes level) on.0)) on.1)

@@ -12,7 +12,8 @@ returns-in_err-fill_all-clause-reading g c =
     let buf = c.fill_all.new.bytes in
     passed-on g.F.Shelf origin_of _ _ _ _ _ _ fault c.from_residual.ensures.1
     (ends-early g.F.Shelf IsNumber IsNoCut IsNoCut c.args.at.now buf _ _ fault
-    (fronts-of_buffer IsNumber buf (number-of_buffer buf (omega arith) c.in_err-fill_all.ensures.small)) c.in_err-fill_all.ensures.reading)
+    (fronts-of_buffer IsNumber buf (number-of_buffer buf (omega arith) c.in_err-fill_all.ensures.small))
+    c.in_err-fill_all.ensures.reading)
 
 pub returns-clause-reading : goal.returns-clause-reading
 returns-clause-reading g c =

@@ -19,7 +19,8 @@ returns-then-byte-gt2-clause-reading g c =
     let buf = c.fill_all.new.bytes in
     let read = c.in_ok-fill_all.ensures in
     fails-in g.F.Shelf _ _ buf c.args.shelf.now c.fill_all.new.shelf read.reading
-    (run-side _ _ c.args.at.now _ buf (omega arith) read.small read.reading.read (omega (arith, read.at)) c.if-byte-gt2.true)
+    (run-side _ _ c.args.at.now _ buf
+    (omega arith) read.small read.reading.read (omega (arith, read.at)) c.if-byte-gt2.true)
     (omega (arith, read.at))
 
 pub returns-in_err-cut-clause-reading : goal.returns-in_err-cut-clause-reading
@@ -28,8 +29,10 @@ returns-in_err-cut-clause-reading g c =
     let buf = c.fill_all.new.bytes in
     let read = c.in_ok-fill_all.ensures in
     passed-on g.F.Shelf origin_of _ _ _ _ _ _ fault c.from_residual-in_err-cut.ensures.1
-    (moves g.F.Shelf (FollowsInCut (get_or buf 12 0)) IsNoCut IsNoCut IsRun IsBeforeCut c.args.at.now c.fill_all.new.at buf _ _ _ fault
-    (omega (arith, read.at)) read.reading (run-goes buf (omega arith) read.small) (λ front none. absurd none) (λ bytes none. absurd none)
+    (moves g.F.Shelf (FollowsInCut (get_or buf 12 0))
+    IsNoCut IsNoCut IsRun IsBeforeCut c.args.at.now c.fill_all.new.at buf _ _ _ fault
+    (omega (arith, read.at)) read.reading
+    (run-goes buf (omega arith) read.small) (λ front none. absurd none) (λ bytes none. absurd none)
     c.in_err-cut.ensures.reading)
 
 pub returns-clause-reading : goal.returns-clause-reading
@@ -40,11 +43,19 @@ returns-clause-reading g c =
     let a = c.number_at-2.result in
     let b = c.number_at-3.result in
     let more = read.read in
-    let pair = pair-of buf start a b (omega arith) c.number_at.ensures.bytes c.number_at-2.ensures.bytes c.number_at-3.ensures.bytes in
-    same-piece g.F.Shelf c.args.shelf.now c.read_cut.new.shelf (buf ++ more.0) _ (run-read buf more.0 start a b c.in_ok-cut.cut (omega arith) pair more.1)
-    (pieces-read g.F.Shelf c.args.shelf.now c.fill_all.new.shelf c.read_cut.new.shelf buf more.0 c.in_ok-fill_all.ensures.reading
+    let pair = pair-of buf start a b
+    (omega arith) c.number_at.ensures.bytes c.number_at-2.ensures.bytes c.number_at-3.ensures.bytes in
+    same-piece g.F.Shelf c.args.shelf.now c.read_cut.new.shelf
+    (buf ++ more.0) _ (run-read buf more.0 start a b c.in_ok-cut.cut (omega arith) pair more.1)
+    (pieces-read
+    g.F.Shelf c.args.shelf.now c.fill_all.new.shelf c.read_cut.new.shelf buf more.0 c.in_ok-fill_all.ensures.reading
     (record { files = read.files; quiet = read.quiet; read = more.2 }))
 
 pub returns-clause-at : goal.returns-clause-at
 returns-clause-at g c =
-    omega (arith, length-run c.number_at.result c.number_at-2.result c.number_at-3.result c.in_ok-cut.cut, c.in_ok-cut.ensures.at, c.in_ok-fill_all.ensures.at)
+    omega (
+      arith,
+      length-run c.number_at.result c.number_at-2.result c.number_at-3.result c.in_ok-cut.cut,
+      c.in_ok-cut.ensures.at,
+      c.in_ok-fill_all.ensures.at,
+    )

@@ -23,8 +23,12 @@ loop-last-init g c =
 
 pub go_on-progress-requires-clause-stands : goal.go_on-progress-requires-clause-stands
 go_on-progress-requires-clause-stands g c =
-    let so_far = c.loop-last.invariant in
-    (c.args.start, subst (λ (n : ℕ). StandsFor c.loop-last.hulls (points_in c.args.points) n c.args.start (c.loop-last.last + 1)) (sym so_far.bound) so_far.stands, omega (arith, so_far.room))
+    let so_far = c.loop-last.invariant in (
+      c.args.start,
+      subst (λ (n : ℕ). StandsFor c.loop-last.hulls (points_in c.args.points) n c.args.start
+          (c.loop-last.last + 1)) (sym so_far.bound) so_far.stands,
+      omega (arith, so_far.room),
+    )
 
 -- ---- a place that begins no stretch
 
@@ -37,7 +41,8 @@ offer-requires g c =
       bound_of c.args.hulls.now,
       c.args.start,
       last + 1,
-      IsNext-place c.loop-last.hulls c.args.points (bound_of c.args.hulls.now) c.args.start (last + 1) so_far.stands (omega arith),
+      IsNext-place c.loop-last.hulls c.args.points (bound_of c.args.hulls.now) c.args.start (last + 1) so_far.stands
+          (omega arith),
       omega arith,
       omega (arith, so_far.room),
     )
@@ -60,7 +65,12 @@ loop-last-preserved-then-not-may_begin_stretch g c =
     }
 
 pub run_of-requires : goal.run_of-requires
-run_of-requires g c = (points_in c.args.points, bound_of c.args.hulls.now, rw c.in-Cut.ensures.stands c.loop-last.invariant.stands)
+run_of-requires g c = (
+  points_in c.args.points,
+  bound_of c.args.hulls.now,
+  rw c.in-Cut.ensures.stands
+      c.loop-last.invariant.stands,
+)
 
 pub returns-in-Cut-clause-longest : goal.returns-in-Cut-clause-longest
 returns-in-Cut-clause-longest g c =
@@ -70,15 +80,18 @@ returns-in-Cut-clause-longest g c =
     let last = c.loop-last.last in
     let inside : last + 1 < c.args.to = c.loop-last-test.true in
     let next = IsNext-place c.loop-last.hulls c.args.points eps c.args.start (last + 1) so_far.stands (omega arith) in
-    rw c.run_of.ensures.end (IsLongest-cut c.loop-last.hulls p eps c.args.to c.args.start (last + 1) so_far.stands (c.in-Cut.ensures.fits p eps c.args.start (last + 1) next))
+    rw c.run_of.ensures.end (IsLongest-cut c.loop-last.hulls p eps c.args.to c.args.start (last + 1) so_far.stands
+    (c.in-Cut.ensures.fits p eps c.args.start (last + 1) next))
 
 pub returns-in-Cut-clause-steep : goal.returns-in-Cut-clause-steep
 returns-in-Cut-clause-steep g c =
-    rw c.run_of.ensures.end (c.run_of.ensures.steep (points_in c.args.points) (bound_of c.args.hulls.now) (rw c.in-Cut.ensures.stands c.loop-last.invariant.stands))
+    rw c.run_of.ensures.end (c.run_of.ensures.steep (points_in c.args.points) (bound_of c.args.hulls.now) (rw
+    c.in-Cut.ensures.stands c.loop-last.invariant.stands))
 
 pub returns-in-Cut-clause-flat : goal.returns-in-Cut-clause-flat
 returns-in-Cut-clause-flat g c =
-    rw c.run_of.ensures.end (c.run_of.ensures.flat (points_in c.args.points) (bound_of c.args.hulls.now) (rw c.in-Cut.ensures.stands c.loop-last.invariant.stands))
+    rw c.run_of.ensures.end (c.run_of.ensures.flat (points_in c.args.points) (bound_of c.args.hulls.now) (rw
+    c.in-Cut.ensures.stands c.loop-last.invariant.stands))
 
 pub returns-in-Cut-clause-cut : goal.returns-in-Cut-clause-cut
 returns-in-Cut-clause-cut g c =
@@ -88,7 +101,8 @@ returns-in-Cut-clause-cut g c =
     let last = c.loop-last.last in
     let inside : last + 1 < c.args.to = c.loop-last-test.true in
     let next = IsNext-place c.loop-last.hulls c.args.points eps c.args.start (last + 1) so_far.stands (omega arith) in
-    rw c.run_of.ensures.end (HasItsCut-cut p eps c.args.to c.args.start (last + 1) c.in-Cut.witness c.run_of.result.segment c.run_of.ensures.start c.run_of.ensures.cut inside
+    rw c.run_of.ensures.end (HasItsCut-cut p eps c.args.to c.args.start (last + 1) c.in-Cut.witness
+    c.run_of.result.segment c.run_of.ensures.start c.run_of.ensures.cut inside
     (c.in-Cut.ensures.witness p eps c.args.start (last + 1) next))
 
 -- ---- a place that may begin one
@@ -98,10 +112,12 @@ run_of-requires-in-Cut-offer g c =
     let p = points_in c.args.points in
     let so_far = c.loop-last.invariant in
     let progress = c.go_on-progress in
-    let begun = subst (λ (n : ℕ). StandsFor c.loop-last.hulls p n c.args.start (c.loop-last.last + 1)) (sym so_far.bound) so_far.stands in (
+    let begun = subst (λ (n : ℕ). StandsFor c.loop-last.hulls p n c.args.start (c.loop-last.last + 1)) (sym
+    so_far.bound) so_far.stands in (
       p,
       bound_of c.args.hulls.now,
-      subst (λ (n : ℕ). StandsFor progress.new.hulls p n c.args.start (progress.result.last + 1)) so_far.bound (progress.ensures.stands c.args.start begun),
+      subst (λ (n : ℕ). StandsFor progress.new.hulls p n c.args.start (progress.result.last + 1)) so_far.bound
+          (progress.ensures.stands c.args.start begun),
     )
 
 pub returns-in-Cut-offer-clause-longest : goal.returns-in-Cut-offer-clause-longest
@@ -110,9 +126,12 @@ returns-in-Cut-offer-clause-longest g c =
     let so_far = c.loop-last.invariant in
     let progress = c.go_on-progress in
     let end = progress.result.last + 1 in
-    let begun = subst (λ (n : ℕ). StandsFor c.loop-last.hulls p n c.args.start (c.loop-last.last + 1)) (sym so_far.bound) so_far.stands in
-    let stands = subst (λ (n : ℕ). StandsFor progress.new.hulls p n c.args.start end) so_far.bound (progress.ensures.stands c.args.start begun) in
-    let refused : IsRefused p (bound_of c.loop-last.hulls) c.args.start end c.in-Cut-offer.witness = MatchOffer-cut _ _ progress.result.offer c.in-Cut-offer.witness c.in-Cut-offer.is progress.ensures.cut c.args.start begun in
+    let begun = subst (λ (n : ℕ). StandsFor c.loop-last.hulls p n c.args.start (c.loop-last.last + 1)) (sym
+    so_far.bound) so_far.stands in
+    let stands = subst (λ (n : ℕ). StandsFor progress.new.hulls p n c.args.start end) so_far.bound
+    (progress.ensures.stands c.args.start begun) in
+    let refused : IsRefused p (bound_of c.loop-last.hulls) c.args.start end c.in-Cut-offer.witness = MatchOffer-cut _
+    _ progress.result.offer c.in-Cut-offer.witness c.in-Cut-offer.is progress.ensures.cut c.args.start begun in
     rw c.run_of-in-Cut-offer.ensures.end
     (IsLongest-cut progress.new.hulls p (bound_of c.args.hulls.now) c.args.to c.args.start end stands
     (subst (λ (n : ℕ). IsRefused p n c.args.start end c.in-Cut-offer.witness) so_far.bound refused).refused)
@@ -122,20 +141,24 @@ returns-in-Cut-offer-clause-steep g c =
     let p = points_in c.args.points in
     let so_far = c.loop-last.invariant in
     let progress = c.go_on-progress in
-    let begun = subst (λ (n : ℕ). StandsFor c.loop-last.hulls p n c.args.start (c.loop-last.last + 1)) (sym so_far.bound) so_far.stands in
+    let begun = subst (λ (n : ℕ). StandsFor c.loop-last.hulls p n c.args.start (c.loop-last.last + 1)) (sym
+    so_far.bound) so_far.stands in
     rw c.run_of-in-Cut-offer.ensures.end
     (c.run_of-in-Cut-offer.ensures.steep p (bound_of c.args.hulls.now)
-    (subst (λ (n : ℕ). StandsFor progress.new.hulls p n c.args.start (progress.result.last + 1)) so_far.bound (progress.ensures.stands c.args.start begun)))
+    (subst (λ (n : ℕ). StandsFor progress.new.hulls p n c.args.start (progress.result.last + 1)) so_far.bound
+    (progress.ensures.stands c.args.start begun)))
 
 pub returns-in-Cut-offer-clause-flat : goal.returns-in-Cut-offer-clause-flat
 returns-in-Cut-offer-clause-flat g c =
     let p = points_in c.args.points in
     let so_far = c.loop-last.invariant in
     let progress = c.go_on-progress in
-    let begun = subst (λ (n : ℕ). StandsFor c.loop-last.hulls p n c.args.start (c.loop-last.last + 1)) (sym so_far.bound) so_far.stands in
+    let begun = subst (λ (n : ℕ). StandsFor c.loop-last.hulls p n c.args.start (c.loop-last.last + 1)) (sym
+    so_far.bound) so_far.stands in
     rw c.run_of-in-Cut-offer.ensures.end
     (c.run_of-in-Cut-offer.ensures.flat p (bound_of c.args.hulls.now)
-    (subst (λ (n : ℕ). StandsFor progress.new.hulls p n c.args.start (progress.result.last + 1)) so_far.bound (progress.ensures.stands c.args.start begun)))
+    (subst (λ (n : ℕ). StandsFor progress.new.hulls p n c.args.start (progress.result.last + 1)) so_far.bound
+    (progress.ensures.stands c.args.start begun)))
 
 pub returns-in-Cut-offer-clause-cut : goal.returns-in-Cut-offer-clause-cut
 returns-in-Cut-offer-clause-cut g c =
@@ -143,11 +166,15 @@ returns-in-Cut-offer-clause-cut g c =
     let so_far = c.loop-last.invariant in
     let progress = c.go_on-progress in
     let end = progress.result.last + 1 in
-    let begun = subst (λ (n : ℕ). StandsFor c.loop-last.hulls p n c.args.start (c.loop-last.last + 1)) (sym so_far.bound) so_far.stands in
-    let refused : IsRefused p (bound_of c.loop-last.hulls) c.args.start end c.in-Cut-offer.witness = MatchOffer-cut _ _ progress.result.offer c.in-Cut-offer.witness c.in-Cut-offer.is progress.ensures.cut c.args.start begun in
-    let within : end < c.args.to = MatchOffer-cut _ _ progress.result.offer c.in-Cut-offer.witness c.in-Cut-offer.is progress.ensures.within in
+    let begun = subst (λ (n : ℕ). StandsFor c.loop-last.hulls p n c.args.start (c.loop-last.last + 1)) (sym
+    so_far.bound) so_far.stands in
+    let refused : IsRefused p (bound_of c.loop-last.hulls) c.args.start end c.in-Cut-offer.witness = MatchOffer-cut _
+    _ progress.result.offer c.in-Cut-offer.witness c.in-Cut-offer.is progress.ensures.cut c.args.start begun in
+    let within : end < c.args.to = MatchOffer-cut _ _ progress.result.offer c.in-Cut-offer.witness c.in-Cut-offer.is
+    progress.ensures.within in
     rw c.run_of-in-Cut-offer.ensures.end
-    (HasItsCut-cut p (bound_of c.args.hulls.now) c.args.to c.args.start end c.in-Cut-offer.witness c.run_of-in-Cut-offer.result.segment
+    (HasItsCut-cut p (bound_of c.args.hulls.now) c.args.to c.args.start end c.in-Cut-offer.witness
+    c.run_of-in-Cut-offer.result.segment
     c.run_of-in-Cut-offer.ensures.start c.run_of-in-Cut-offer.ensures.cut within
     (subst (λ (n : ℕ). IsRefused p n c.args.start end c.in-Cut-offer.witness) so_far.bound refused).witness)
 
@@ -157,16 +184,19 @@ pub returns-clause-longest : goal.returns-clause-longest
 returns-clause-longest g c =
     let so_far = c.loop-last.invariant in
     let at_end : c.loop-last.last + 1 ≡ c.args.to = omega (arith, so_far.within) in
-    rw c.run_of-2.ensures.end (IsLongest-whole c.loop-last.hulls (points_in c.args.points) (bound_of c.args.hulls.now) c.args.to c.args.start (rw at_end at so_far.stands))
+    rw c.run_of-2.ensures.end (IsLongest-whole c.loop-last.hulls (points_in c.args.points) (bound_of c.args.hulls.now)
+    c.args.to c.args.start (rw at_end at so_far.stands))
 
 pub returns-clause-steep : goal.returns-clause-steep
 returns-clause-steep g c =
     let so_far = c.loop-last.invariant in
     let at_end : c.loop-last.last + 1 ≡ c.args.to = omega (arith, so_far.within) in
-    rw c.run_of-2.ensures.end (c.run_of-2.ensures.steep (points_in c.args.points) (bound_of c.args.hulls.now) (rw at_end at so_far.stands))
+    rw c.run_of-2.ensures.end (c.run_of-2.ensures.steep (points_in c.args.points) (bound_of c.args.hulls.now) (rw
+    at_end at so_far.stands))
 
 pub returns-clause-flat : goal.returns-clause-flat
 returns-clause-flat g c =
     let so_far = c.loop-last.invariant in
     let at_end : c.loop-last.last + 1 ≡ c.args.to = omega (arith, so_far.within) in
-    rw c.run_of-2.ensures.end (c.run_of-2.ensures.flat (points_in c.args.points) (bound_of c.args.hulls.now) (rw at_end at so_far.stands))
+    rw c.run_of-2.ensures.end (c.run_of-2.ensures.flat (points_in c.args.points) (bound_of c.args.hulls.now) (rw
+    at_end at so_far.stands))

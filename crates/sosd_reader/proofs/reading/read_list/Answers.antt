@@ -39,7 +39,8 @@ loop-done-preserved g c =
     let list = g.T.NumberList.list c.read_chunk.new.numbers in
     let so_far = c.loop-done.invariant in
     let same = so_far.kind in
-    let P : Kind → Type 0 = λ k. ReadsOn g.F.Shelf (ReadsNumbers (number_width k) front list) c.loop-done.shelf c.read_chunk.new.shelf in
+    let P : Kind → Type 0 =
+    λ k. ReadsOn g.F.Shelf (ReadsNumbers (number_width k) front list) c.loop-done.shelf c.read_chunk.new.shelf in
     let reads = subst P same c.in_ok-read_chunk.ensures.reading in
     record {
       kind = c.in_ok-read_chunk.ensures.kind ∙ same;

@@ -3,7 +3,8 @@ use Rattle.std.proofs.Common.{◌≡◌, ℕ, ◌+◌, ◌-◌, ◌++◌, List, 
 use Rattle.zorder.specs.Regions.{IsInside}
 use Rattle.boxes.specs.BoxAnswers.{codes_inside}
 use Rattle.boxes.specs.Walks.{HasWalked}
-use Rattle.boxes.proofs.LookedLemmas.{of_region, inside_fronts, not_empty, walk_along}
+use Rattle.boxes.proofs.Fronts.{inside_fronts}
+use Rattle.boxes.proofs.LookedLemmas.{of_region, not_empty, walk_along}
 use Rattle.boxes.proofs.boxes.Boxes.next_stretch.Goals as goal
 
 pub stretch_end-end-requires-clause-some_inside : goal.stretch_end-end-requires-clause-some_inside
@@ -35,7 +36,7 @@ returns-clause-found c =
     let at = c.args.walk.now.at in
     let end = c.stretch_end-end.result in
     let place : at + (end - at) ≡ end = omega (arith, c.stretch_end-end.ensures.onwards) in
-    inside_fronts region codes of at (end - at) (omega (arith, c.stretch_end-end.ensures.within, ap length is))
+    inside_fronts region codes at (end - at) (omega (arith, c.stretch_end-end.ensures.within, ap length is))
     (λ k from to. subst (IsInside region) (ap (λ (xs : List ℕ). slice_index xs k) is) (c.stretch_end-end.ensures.inside c.codes-codes.ensures.never_falls k from (omega arith)))
     ∙ ap (λ (xs : List ℕ). take (end - at) (drop at xs) ++ codes_inside region (drop (at + (end - at)) codes)) (sym is)
     ∙ ap (λ (n : ℕ). take (end - at) (drop at shown) ++ codes_inside region (drop n codes)) place

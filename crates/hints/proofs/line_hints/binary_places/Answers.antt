@@ -2,9 +2,10 @@
 use Rattle.std.proofs.Common.{◌≡◌, ◌-◌, ◌<◌, ◌≤◌, ◌+◌, ◌*◌, ◌^◌, ℕ, sym, subst, arith}
 use Rattle.std.specs.Int.Count.{count_leading_zeros}
 use Rattle.std.proofs.lemmas.Nat.{leading_length}
-use Rattle.hints.proofs.made.binary_places.Goals as goal
+use Rattle.hints.proofs.line_hints.binary_places.Goals as goal
 
-places : (width : ℕ) → width < 2 ^ 64 → (width < 2 ^ (64 - count_leading_zeros 64 width)) × (2 ^ (64 - count_leading_zeros 64 width) ≤ 2 * width + 1)
+places : (width : ℕ) → width < 2 ^ 64 → (width < 2 ^ (64 - count_leading_zeros 64 width)) ×
+    (2 ^ (64 - count_leading_zeros 64 width) ≤ 2 * width + 1)
 places width short =
     let known = leading_length 64 width short in
     let is : 64 - count_leading_zeros 64 width ≡ known.0 = omega (arith, known.1) in
