@@ -12,6 +12,8 @@ mod drill_inputs_rows;
 #[cfg(test)]
 mod log_levels_draws;
 #[cfg(test)]
+mod log_levels_ends;
+#[cfg(test)]
 mod log_levels_ranges;
 #[cfg(test)]
 mod log_levels_rows;

@@ -12,7 +12,7 @@ use std::test::Fail;
 const NOTHING: (u64, u64) = (7, 77_777);
 
 /// A list without values for so many keys.
-fn no_values(alloc: Global, keys: usize) -> Result<Vec<Option<u64>>, AllocError> {
+pub(crate) fn no_values(alloc: Global, keys: usize) -> Result<Vec<Option<u64>>, AllocError> {
     let mut plain = Vec::new(alloc);
     for _ in 0..keys {
         plain.push(None)?;
@@ -65,7 +65,7 @@ fn check_range<R: Abort + AllocGlobal>(
 }
 
 /// The greatest key of the list up to `q`, with its value.
-fn plain_floor(plain: &[Option<u64>], q: u64) -> Option<(u64, u64)> {
+pub(crate) fn plain_floor(plain: &[Option<u64>], q: u64) -> Option<(u64, u64)> {
     let mut floor = None;
     for key in 0..plain.len() {
         if let Some(value) = plain[key] {
@@ -86,7 +86,7 @@ fn draw(draws: &mut Generator, n: u64) -> u64
 }
 
 /// A random update of both; a sweep takes eight keys at most.
-fn update<R: AllocGlobal>(
+pub(crate) fn update<R: AllocGlobal>(
     rt: &R,
     map: &mut LogMap,
     plain: &mut Vec<Option<u64>>,
@@ -111,7 +111,7 @@ fn update<R: AllocGlobal>(
 }
 
 /// Gives a key of the list its value.
-fn set(plain: &mut Vec<Option<u64>>, key: u64, value: Option<u64>) {
+pub(crate) fn set(plain: &mut Vec<Option<u64>>, key: u64, value: Option<u64>) {
     if let Some(place) = plain.get_mut(key as usize) {
         *place = value;
     }

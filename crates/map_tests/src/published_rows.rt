@@ -102,6 +102,7 @@ fn stages_appear_at_once(rt: HostRuntime) -> Result<(), Fail> {
             if let Some(look) = look(first_look.leave()) {
                 after = Some((
                     (look.seen(), look.get(1), look.get(2)),
+                    (look.first(), look.last(), look.contains(1), look.is_empty()),
                     (
                         look.next(2),
                         look.next(6),
@@ -118,7 +119,11 @@ fn stages_appear_at_once(rt: HostRuntime) -> Result<(), Fail> {
     assert_eq!(rt; before, Some((0, None, None)));
     assert_eq!(rt;
         after,
-        Some(((5, Some(10), None), (Some((5, 50)), None, 1, 2)))
+        Some((
+            (5, Some(10), None),
+            (Some((1, 10)), Some((5, 50)), true, false),
+            (Some((5, 50)), None, 1, 2)
+        ))
     );
     Ok(())
 }
