@@ -60,10 +60,13 @@
  * kuldebiq_map_get searches a buffer of 64 entries, and then the map's levels, the newest first, up
  * to the first one that has the key. kuldebiq_map_range searches each level once for each 64 pairs
  * that it writes, and then goes along key by key. kuldebiq_map_count searches each level once and
- * goes along all the keys that it counts. kuldebiq_map_next searches each level once and goes along
- * the deleted keys that it passes, each of which costs as much as another key;
- * kuldebiq_map_previous searches the levels anew at each of them. A map remembers one stretch of
- * numbers without a key, which a sweep leaves. A search that begins in it goes on behind it.
+ * goes along all the keys that it counts. kuldebiq_map_next and kuldebiq_map_first search each level
+ * once and go along the deleted keys that they pass, each of which costs as much as another key;
+ * kuldebiq_map_previous and kuldebiq_map_last search the levels anew at each of them. A map
+ * remembers one stretch of numbers without a key, which a sweep leaves and a deletion doesn't. A
+ * search that begins in it goes on behind it. So a queue takes its first key by kuldebiq_map_first
+ * and then sweeps from 0 to that key: after kuldebiq_map_del each search would pass all the keys
+ * that were taken before.
  *
  * A put writes to the buffer. Each 64th put merges levels: half of the time only the lowest, and at
  * the longest all of them, which takes as long as loading the whole map. A level that has an entry
@@ -313,11 +316,11 @@ uint32_t kuldebiq_version(void);
  * The keys stay yours, and so do the hints, numbers that lead a lookup among them. Both may lie in
  * memory or be mapped from files. The hints that kuldebiq_hints_write gave for these very keys make
  * a lookup fast; damaged hints, those of other keys, or none, (NULL, 0), make it slower and nothing
- * else. Nor do the keys have to be in order. Where they fall somewhere,
- * a lookup returns a place that brackets the question: the key before that place is below the
- * question, unless the place is 0, and the key at it isn't, unless the place is count. There may be
- * several such places. Which one is returned depends on the hints, and kuldebiq_find_many may write
- * another one than kuldebiq_find returns. */
+ * else. The keys need not be in order either. If a key is below the one before it, a lookup returns
+ * a place that brackets the question: the key before that place is below the question, unless the
+ * place is 0, and the key at it isn't, unless the place is count. There may be several such places.
+ * Which one is returned depends on the hints, and kuldebiq_find_many may write another one than
+ * kuldebiq_find returns. */
 
 /* Returns how many keys are below the question, if the keys never fall: the place of the first key
  * that is not below the question, or count if there is none. In any keys it returns a place from 0
