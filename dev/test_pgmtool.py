@@ -148,7 +148,7 @@ class House:
             shutil.copy(TOP / name, self.top / name)
         self.bin = self.top / "bin"
         self.bin.mkdir()
-        for name in "awk bash basename cat chmod cut dirname find grep head mktemp nproc od ps \
+        for name in "awk bash basename cat chmod cut dirname find grep head mkdir mktemp nproc od ps \
                 readlink realpath rm sed sleep sort stat tail touch tput tr wc".split():
             (self.bin / name).symlink_to(shutil.which(name))
         self.log = self.top / "log"
@@ -348,6 +348,29 @@ class Script(unittest.TestCase):
         self.assertEqual(self.house.run("build", "f").returncode, 0)
         # One of its own wants it built anew, and there is no `rt`.
         os.utime(self.house.top / "crates/pgmtool/src/main.rt", (later, later))
+        self.assertEqual(self.house.run("build", "f").returncode, 1)
+
+    def test_a_line_of_a_crate_that_the_program_does_not_use(self):
+        listed = self.house.top / "crates.txt"
+
+        def put(text, seconds):
+            listed.write_text(text)
+            os.utime(listed, (time.time() + seconds, time.time() + seconds))
+
+        was = listed.read_text()
+        put(was, -9)
+        self.house.program("exit 0\n")
+        self.assertEqual(self.house.run("build", "f").returncode, 0)
+        put("# Mine.\n" + was + "\nmine: anyhow hints\n", 9)
+        self.assertEqual(self.house.run("build", "f").returncode, 0)
+        # One of its own wants it built anew, and there is no `rt`.
+        put(was.replace("near: ", "near: anyhow "), 9)
+        self.assertEqual(self.house.run("build", "f").returncode, 1)
+        put(was, 9)
+        self.assertEqual(self.house.run("build", "f").returncode, 0)
+        # Of a program that was built since, the lines that it was built of aren't kept.
+        later = time.time() + 5
+        os.utime(self.house.top / "crates/pgmtool/out/pgmtool", (later, later))
         self.assertEqual(self.house.run("build", "f").returncode, 1)
 
     def test_which_file_is_not_read(self):
