@@ -20,7 +20,8 @@ case "$*" in
   'try --test')
     echo $$ >>"$STAND_IN_LOG"
     trap 'echo ended >>"$STAND_IN_LOG"; exit 143' TERM
-    [ ! -f slow ] || { sleep "$(cat slow)" & wait $!; }
+    # What it starts is a group of its own.
+    [ ! -f slow ] || { set -m; sleep "$(cat slow)" & echo $! >>"$STAND_IN_LOG.below"; wait $!; }
     cat said
     exit "$(cat status)" ;;
   *) echo "stand-in: $*"; exit 9 ;;
@@ -136,6 +137,14 @@ class Words(unittest.TestCase):
                 ("drill 0 1", "N: 0 is not from 1 to 1000000"),
                 ("drill 5 x", "SEED: `x` is no whole number from 0 to 2147483647")]:
             self.assertEqual(self.wrong(*words.split()), said, words)
+
+
+def is_running(pid):
+    try:
+        # One whose end nobody has asked for is no more.
+        return pathlib.Path(f"/proc/{pid}/stat").read_text().rsplit(")", 1)[1].split()[0] != "Z"
+    except FileNotFoundError:
+        return False
 
 
 class House:
@@ -260,8 +269,11 @@ class Script(unittest.TestCase):
         ran.send_signal(number)
         self.assertEqual(ran.wait(10), 130)
         self.assertEqual(self.house.log.read_text().split(), [*begun, "ended", "ended"])
-        for pid in begun:
-            self.assertFalse(os.path.exists(f"/proc/{pid}"))
+        below = pathlib.Path(f"{self.house.log}.below")
+        self.assertEqual(len(below.read_text().split()), 2)
+        for pid in begun + below.read_text().split():
+            self.assertFalse(is_running(pid))
+        below.unlink()
 
     def test_being_stopped_stops_what_runs(self):
         self.house.rt()
@@ -292,9 +304,40 @@ class Script(unittest.TestCase):
                 break
             seen += part
         os.close(master)
-        self.assertRegex(seen, rb"tests passed 2, 1 of 2 crates done, testing b_tests, \d+:\d\d")
+        self.assertRegex(seen, rb"1 of 2 crates done, 1 at work, 2 tests passed: b_tests, \d+:\d\d")
         self.assertIn(b"4 passed, 0 failed", ran.communicate()[0])
         self.assertTrue(seen.endswith(b"\r\x1b[K"))
+
+    def test_all_are_stopped_by_a_signal_to_the_whole_group(self):
+        """As by Ctrl-C, or by `timeout`, which sends it twice."""
+        self.house.rt()
+        for name in ("a_tests", "b_tests"):
+            self.house.tested(name, PASSED, slow=30)
+        below = pathlib.Path(f"{self.house.log}.below")
+        for seconds in (0.3, 1.1, 2.2):
+            ran = subprocess.run(["timeout", "-s", "INT", str(seconds), self.house.top / "pgmtool", "test"],
+                                 env=self.house.environment | {"PATH": f"{self.house.bin}:{os.environ['PATH']}"},
+                                 stdin=subprocess.DEVNULL, stdout=subprocess.PIPE,
+                                 stderr=subprocess.PIPE, text=True, timeout=20)
+            self.assertEqual((ran.returncode, ran.stdout), (124, ""))
+            self.assertNotRegex(ran.stderr, r"line \d+:|FAILED|syntax|expected")
+            begun = [it for it in self.house.log.read_text().split() if it != "ended"]
+            for pid in begun + (below.read_text().split() if below.exists() else []):
+                self.assertFalse(is_running(pid))
+
+    def test_without_a_terminal_each_crate_that_ends_is_told(self):
+        self.house.rt()
+        for name, slow in (("a_tests", None), ("b_tests", 1)):
+            self.house.tested(name, PASSED, slow=slow)
+        said = self.house.run("test").stderr
+        self.assertIn("pgmtool: 1 of 2 crates done, 1 at work, 2 tests passed: b_tests\n", said)
+        self.assertIn("pgmtool: 2 of 2 crates done, 0 at work, 4 tests passed\n", said)
+
+    def test_a_line_of_progress_ends_behind_a_word(self):
+        for text, said in (("some words", "some words"), ("some more words", "some .."),
+                           ("some moreover", "some ..")):
+            call = ["bash", "-uc", f'source "{TOP}/dev/steps.sh"; shortened "$1" 10', "", text]
+            self.assertEqual(subprocess.check_output(call, text=True), said + "\n")
 
     def test_words_behind_a_refusal(self):
         self.house.program("echo 'fault usage'; exit 2\n")
