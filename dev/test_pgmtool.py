@@ -433,7 +433,8 @@ class Script(unittest.TestCase):
                 ("build {}", count + bytes(12), "its size is that of keys of 4 bytes (--narrow)\n"),
                 ("build {}", count + bytes(24), "of keys of 8 bytes, and of points, which `box`"),
                 ("build {}", count + bytes(48), "its size is that of points, which `box` and `near`"),
-                ("box {} s", count + bytes(36), "its size is that of points of 3 coordinates (--dims)")]:
+                ("box {} s", count + bytes(36), "its size is that of points of 3 coordinates (--dims 3)"),
+                ("box {} s --dims 3", count + bytes(24), "points of 2 coordinates (--dims 2), and of keys")]:
             given.write_bytes(data)
             ran = self.house.run(*words.format(given).split())
             self.assertEqual(ran.returncode, 5)

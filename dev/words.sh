@@ -217,7 +217,8 @@ wrong_line() {
     }'
 }
 
-# What is wrong with a word where a number of a command's script belongs, and what makes a key of it.
+# What is wrong with a word where a number of a command's script belongs, and what makes a key of
+# it.
 no_number() {
   local word=$2 part map=
   if [[ $word =~ ^[+-]?([0-9]+\.?|[0-9]*\.([0-9]+))$ ]]; then
@@ -227,7 +228,8 @@ no_number() {
     # Half of the range is added to what may be negative, and a coordinate has another range.
     case $1/$word in box/-* | near/-*) map= ;; */-*) map+=' --signed' ;; esac
     [ "${#part}" -le 19 ] || map=
-    echo "\`$word\` is no whole number from 0 on${map:+: \`dev/keys.py$map --key $word\` gives the key}"
+    map=${map:+": \`dev/keys.py$map --key $word\` gives the key"}
+    echo "\`$word\` is no whole number from 0 on$map"
   elif [[ $word =~ ^[0-9]{4}-[0-9]{2}-[0-9]{2}(T|$) ]]; then
     echo "\`$word\` is no number: \`dev/keys.py --time --key $word\` gives the key"
   else
