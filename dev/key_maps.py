@@ -25,12 +25,12 @@ TO_1970 = datetime.date(1970, 1, 1).toordinal() - 1
 
 
 class Refused(Exception):
-    """Why a cell has no key, and the scale with which it has one, if there is one, and whether it
-    needs --signed with that."""
+    """Why a cell has no key, the scale with which it has one, if there is one, and its number, if
+    a scale or an offset may help."""
 
-    def __init__(self, text, scale=None, signed=False):
+    def __init__(self, text, scale=None, number=None):
         super().__init__(text)
-        self.scale, self.signed = scale, signed
+        self.scale, self.number = scale, number
 
 
 def is_time(cell):
@@ -76,7 +76,8 @@ class Decimals:
             raise self.unscaled(f"{shown(cell)} times {self.scale} is no whole number", number,
                                 places)
         if not 0 <= value + self.offset < self.below:
-            raise Refused(self.outside(cell, value))
+            raise Refused(self.outside(cell, value),
+                          number=fractions.Fraction(value, self.scale))
         return value + self.offset
 
     def unscaled(self, text, number, places):
@@ -85,9 +86,10 @@ class Decimals:
             number, places = number // 10, places - 1
         if abs(number) >= self.below or places > 19:
             return Refused(f"{text}: --float takes doubles")
-        scale, signed = 10 ** max(places, 0), number < 0 and self.offset == 0
-        also = " --signed" if signed else ""
-        return Refused(f"{text}: --scale {scale}{also} takes it", scale, signed)
+        scale = 10 ** max(places, 0)
+        also = " --signed" if number < 0 and self.offset == 0 else ""
+        return Refused(f"{text}: --scale {scale}{also} takes it", scale,
+                       fractions.Fraction(number * 10 ** max(-places, 0), scale))
 
     def outside(self, cell, value):
         if value < 0 and self.offset == 0:

@@ -49,6 +49,7 @@ import array
 import csv
 import importlib.util
 import io
+import math
 import os
 import sys
 
@@ -324,11 +325,12 @@ def zones_apart(of, zoned, left_out):
 
 def made_of(source, of, skips):
     """The keys of each column, and the rows that they come from; prints what is wrong."""
-    empty, wrong, columns = {}, {}, []
+    empty, wrong, columns, whys = {}, {}, [], []
     for column in source.columns:
         keys, holes, refused, zoned = mapped(of, column)
         empty.update(holes)
         wrong.update(refused)
+        whys += refused
         columns.append(keys)
         if not refused:
             wrong.update(zones_apart(of, zoned, {it for it, _ in holes}))
@@ -340,10 +342,9 @@ def made_of(source, of, skips):
         print(f"{source.place(index)}: {wrong[index]}", file=sys.stderr)
     if wrong:
         more = f", of which {TOLD} are shown" if len(wrong) > TOLD else ""
-        scales = [getattr(why, "scale", None) for why in wrong.values()]
-        also = " --signed" if any(getattr(why, "signed", False) for why in wrong.values()) else ""
-        helps = (f"; --scale {max(scales)}{also} takes them all" if len(scales) > 1 and all(scales)
-                 else "")
+        helps = ""
+        if len(wrong) > 1 and all(isinstance(why, Refused) for why in wrong.values()):
+            helps = takes_all(source, of, [why for index, why in whys if index in wrong], empty)
         rows = "row" if len(wrong) == 1 else "rows"
         raise Wrong(f"{len(wrong)} wrong {rows} in all{more}; nothing was written{helps}")
     rows = source.rows
@@ -351,6 +352,29 @@ def made_of(source, of, skips):
         columns = [without(it, empty) for it in columns]
         rows = without(rows, empty)
     return columns, rows, len(empty)
+
+
+def takes_all(source, of, whys, left_out):
+    """What is said of the options with which no row is wrong, if there are such."""
+    if any(why.number is None for why in whys):
+        return ""
+    scale = max((why.scale for why in whys if why.scale), default=of.asked)
+    said = [f"--scale {scale}"] if scale != of.asked else []
+    # Each number below the offset that was given is among those refused.
+    offset = math.ceil(-min(why.number for why in whys) * (scale or 1))
+    if offset <= of.offset:
+        tried = [(said, of.offset)]
+    else:
+        tried = [([*said, f"--offset {offset}"], offset)]
+        if of.offset == 0:
+            tried.insert(0, ([*said, "--signed"], of.below // 2))
+    good = []
+    for words, offset in tried:
+        other = key_maps.Decimals(of.below, scale, offset)
+        refused = (index for column in source.columns for index, _ in mapped(other, column)[2])
+        if words and all(index in left_out for index in refused):
+            good.append(" ".join(words))
+    return f"; {' or '.join(good)} takes them all" if good else ""
 
 
 def without(values, left_out):
@@ -459,17 +483,23 @@ def translate(given):
 def words():
     asked = argparse.ArgumentParser(
         description=__doc__, usage=argparse.SUPPRESS, allow_abbrev=False,
-        formatter_class=argparse.RawDescriptionHelpFormatter)
+        formatter_class=argparse.RawDescriptionHelpFormatter, add_help=False)
+
+    def add(*names, **how):
+        # The text above has all of them.
+        asked.add_argument(*names, help=argparse.SUPPRESS, **how)
+
+    add("-h", "--help", action="help")
     for name in ("numbers", "file"):
-        asked.add_argument(name, nargs="?")
-    asked.add_argument("--column", action="append", default=[])
+        add(name, nargs="?")
+    add("--column", action="append", default=[])
     for option in ("--separator", "--rows"):
-        asked.add_argument(option)
+        add(option)
     for option in ("--scale", "--offset"):
-        asked.add_argument(option, type=int)
+        add(option, type=int)
     for flag in ("narrow", "points", "skip-empty",
                  "signed", "float", "time", "nanoseconds", "prefix"):
-        asked.add_argument(f"--{flag}", action="store_true")
+        add(f"--{flag}", action="store_true")
     # Behind --key and --back all words are values, also those with a hyphen in front.
     said = sys.argv[1:]
     cut = next((at for at, word in enumerate(said) if word in ("--key", "--back")), len(said))

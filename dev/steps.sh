@@ -40,9 +40,9 @@ show_progress() {
     sleep 2
     while kill -0 $$ 2>/dev/null; do
       text=$("$@" 2>/dev/null) || break
-      text="$who: $text"
+      text=$(shortened "$who: $text" $((width - 10)))
       time=$(clock $((SECONDS - begun)))
-      printf '%s%s, %s' "$wipe" "${text:0:$((width - 10))}" "$time" >&2
+      printf '%s%s, %s' "$wipe" "$text" "$time" >&2
       sleep "$apart"
     done
     printf '%s' "$wipe" >&2
@@ -56,6 +56,16 @@ hide_progress() {
   wait "$shower" 2>/dev/null || true
   shower=
   printf '%s' "$wipe" >&2
+}
+
+# A text, without its last words where it is longer than so many characters.
+shortened() {
+  local text=$1
+  if [ "${#text}" -gt "$2" ]; then
+    text=${text:0:$(($2 - 2))}
+    text="${text% *} .."
+  fi
+  echo "$text"
 }
 
 # Seconds, as minutes and seconds.

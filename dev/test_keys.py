@@ -163,6 +163,38 @@ class Plain(unittest.TestCase):
         self.assertIn("3 wrong rows in all; nothing was written; --scale 100 takes them all", said)
         self.assertNotIn("them all", self.refused("t", "9.99\nx\n"))
 
+    def test_one_offset_for_all(self):
+        said = self.refused("t", "-5\n7\n-180\n")
+        self.assertIn("t:1: `-5` is below 0: --signed or --offset 5 takes it", said)
+        self.assertIn("2 wrong rows in all; nothing was written; --signed or --offset 180 takes "
+                      "them all\n", said)
+        self.assertEqual(self.made("t", "-5\n7\n-180\n", "--offset", "180"), [0, 175, 187])
+        # In a row where both are wrong, both count.
+        text = "".join(f"-{at}.5 -{at % 7}.25\n" for at in range(25))
+        said = self.refused("t", "7 9\n" + text, "--points")
+        self.assertIn("--scale 100 --signed or --scale 100 --offset 2450 takes them all\n", said)
+        said = self.refused("t", text, "--points", "--scale", "100")
+        self.assertIn("t:2: `-1.25` is below 0: --signed or --offset 125 takes it", said)
+        self.assertIn("; --signed or --offset 2450 takes them all\n", said)
+        self.assertEqual(min(self.made("t", text, "--points", "--scale", "100", "--offset", "2450",
+                                       width=4)), 0)
+        self.assertIn("; --offset 2450 takes them all\n", self.refused(
+            "t", text, "--points", "--scale", "100", "--offset", "99"))
+        # What takes the wrong rows may not take the others.
+        said = self.refused("t", f"-5\n-7\n{MOST - 6}\n")
+        self.assertNotIn("them all", said)
+        self.assertIn("written; --offset 7 takes them all\n",
+                      self.refused("t", f"-5\n-7\n{MOST - 7}\n"))
+        self.assertNotIn("them all", self.refused("t", f"0.5\n-0.5\n{MOST // 5}\n"))
+
+    def test_help_has_each_option_once(self):
+        ran = self.call("--help")
+        self.assertEqual((ran.returncode, ran.stderr), (0, ""))
+        for option in ("--column", "--narrow", "--skip-empty"):
+            self.assertEqual(len([it for it in ran.stdout.splitlines() if it.strip().startswith(option)]), 1)
+        self.assertNotIn("positional", ran.stdout)
+        self.assertTrue(ran.stdout.rstrip().endswith("half a second with numpy."))
+
     def test_doubles(self):
         below = lambda bits: MOST ^ bits
         self.assertEqual(

@@ -20,7 +20,8 @@ case "$*" in
   'try --test')
     echo $$ >>"$STAND_IN_LOG"
     trap 'echo ended >>"$STAND_IN_LOG"; exit 143' TERM
-    [ ! -f slow ] || { sleep "$(cat slow)" & wait $!; }
+    # What it starts is a group of its own.
+    [ ! -f slow ] || { set -m; sleep "$(cat slow)" & echo $! >>"$STAND_IN_LOG.below"; wait $!; }
     cat said
     exit "$(cat status)" ;;
   *) echo "stand-in: $*"; exit 9 ;;
@@ -101,6 +102,22 @@ class Words(unittest.TestCase):
             name, *names = words.split()
             self.assertEqual(names, [it[0] for it in defined[name] if it[0].isupper()])
 
+    def test_the_lines_of_scripts_are_those_of_the_formats(self):
+        text = (TOP / "docs/formats.md").read_text().split("## Scripts")[1].split("## Commands")[0]
+        told = {}
+        for commands, lines in re.findall(r"^\| (`.*`) \| (.*`.*) \|$", text, re.M):
+            for command in re.findall(r"`(\w+)`", commands):
+                told[command] = re.findall(r"`([a-z]+ [A-Z][^`]*)`", lines)
+        told["mix"] = [it for it in told["replay"] if not it.startswith("sweep")]
+        found = {command: [] for command in told}
+        for line, commands in lines_of("script_lines"):
+            for command in commands.split():
+                found[command].append(line)
+        self.assertEqual(found, told)
+        # Those are the commands that take a script.
+        self.assertEqual(sorted(found), sorted(words.split()[0] for words, _ in lines_of("commands")
+                                               if "SCRIPT" in words))
+
     def test_the_kit_is_the_one_of_the_readme(self):
         kit = re.search(r"^kit=(\S+)$", (TOP / "dev/steps.sh").read_text(), re.M)[1]
         self.assertIn(f"`{kit}`", (TOP / "README.md").read_text())
@@ -138,6 +155,14 @@ class Words(unittest.TestCase):
             self.assertEqual(self.wrong(*words.split()), said, words)
 
 
+def is_running(pid):
+    try:
+        # One whose end nobody has asked for is no more.
+        return pathlib.Path(f"/proc/{pid}/stat").read_text().rsplit(")", 1)[1].split()[0] != "Z"
+    except FileNotFoundError:
+        return False
+
+
 class House:
     """A folder with the script, and stand-ins."""
 
@@ -148,7 +173,7 @@ class House:
             shutil.copy(TOP / name, self.top / name)
         self.bin = self.top / "bin"
         self.bin.mkdir()
-        for name in "awk bash basename cat chmod cut dirname find grep head mktemp nproc od ps \
+        for name in "awk bash basename cat chmod cut dirname find grep head mkdir mktemp nproc od ps \
                 readlink realpath rm sed sleep sort stat tail touch tput tr wc".split():
             (self.bin / name).symlink_to(shutil.which(name))
         self.log = self.top / "log"
@@ -260,8 +285,11 @@ class Script(unittest.TestCase):
         ran.send_signal(number)
         self.assertEqual(ran.wait(10), 130)
         self.assertEqual(self.house.log.read_text().split(), [*begun, "ended", "ended"])
-        for pid in begun:
-            self.assertFalse(os.path.exists(f"/proc/{pid}"))
+        below = pathlib.Path(f"{self.house.log}.below")
+        self.assertEqual(len(below.read_text().split()), 2)
+        for pid in begun + below.read_text().split():
+            self.assertFalse(is_running(pid))
+        below.unlink()
 
     def test_being_stopped_stops_what_runs(self):
         self.house.rt()
@@ -292,9 +320,40 @@ class Script(unittest.TestCase):
                 break
             seen += part
         os.close(master)
-        self.assertRegex(seen, rb"tests passed 2, 1 of 2 crates done, testing b_tests, \d+:\d\d")
+        self.assertRegex(seen, rb"1 of 2 crates done, 1 at work, 2 tests passed: b_tests, \d+:\d\d")
         self.assertIn(b"4 passed, 0 failed", ran.communicate()[0])
         self.assertTrue(seen.endswith(b"\r\x1b[K"))
+
+    def test_all_are_stopped_by_a_signal_to_the_whole_group(self):
+        """As by Ctrl-C, or by `timeout`, which sends it twice."""
+        self.house.rt()
+        for name in ("a_tests", "b_tests"):
+            self.house.tested(name, PASSED, slow=30)
+        below = pathlib.Path(f"{self.house.log}.below")
+        for seconds in (0.3, 1.1, 2.2):
+            ran = subprocess.run(["timeout", "-s", "INT", str(seconds), self.house.top / "pgmtool", "test"],
+                                 env=self.house.environment | {"PATH": f"{self.house.bin}:{os.environ['PATH']}"},
+                                 stdin=subprocess.DEVNULL, stdout=subprocess.PIPE,
+                                 stderr=subprocess.PIPE, text=True, timeout=20)
+            self.assertEqual((ran.returncode, ran.stdout), (124, ""))
+            self.assertNotRegex(ran.stderr, r"line \d+:|FAILED|syntax|expected")
+            begun = [it for it in self.house.log.read_text().split() if it != "ended"]
+            for pid in begun + (below.read_text().split() if below.exists() else []):
+                self.assertFalse(is_running(pid))
+
+    def test_without_a_terminal_each_crate_that_ends_is_told(self):
+        self.house.rt()
+        for name, slow in (("a_tests", None), ("b_tests", 1)):
+            self.house.tested(name, PASSED, slow=slow)
+        said = self.house.run("test").stderr
+        self.assertIn("pgmtool: 1 of 2 crates done, 1 at work, 2 tests passed: b_tests\n", said)
+        self.assertIn("pgmtool: 2 of 2 crates done, 0 at work, 4 tests passed\n", said)
+
+    def test_a_line_of_progress_ends_behind_a_word(self):
+        for text, said in (("some words", "some words"), ("some more words", "some .."),
+                           ("some moreover", "some ..")):
+            call = ["bash", "-uc", f'source "{TOP}/dev/steps.sh"; shortened "$1" 10', "", text]
+            self.assertEqual(subprocess.check_output(call, text=True), said + "\n")
 
     def test_words_behind_a_refusal(self):
         self.house.program("echo 'fault usage'; exit 2\n")
@@ -327,8 +386,19 @@ class Script(unittest.TestCase):
         script = self.house.top / "given"
         for text, cause, said in [
                 ("find 1\nfind x7\n", "2 number", "line 2 of {}, `find x7`: `x7` is no number\n"),
+                ("find 9.990", "1 number", "`9.990` is no whole number from 0 on: "
+                 "`dev/keys.py --scale 100 --key 9.990` gives the key\n"),
+                ("find -5", "1 number", "`dev/keys.py --signed --key -5` gives the key\n"),
+                ("find -.5", "1 number", "`dev/keys.py --scale 10 --signed --key -.5` gives"),
+                ("find 2026-02-28", "1 number", "`dev/keys.py --time --key 2026-02-28` gives"),
                 (f"find {2**64}\n", "1 number", "a number is out of range\n"),
-                ("fint 3\n", "1 word", "`fint` is no command of this script\n"),
+                ("fint 3\n", "1 word",
+                 "`fint` is no command of this script, whose lines are `find Q`\n"),
+                ("999\n", "1 word", "`999` is no command of this script, whose lines are `find Q`\n"),
+                ("near 1 2 3\n", "1 word", "whose lines are `find Q`; `near` takes it\n"),
+                ("\\n 3\n", "1 word", "`\\n` is no command of this script"),
+                ("del 3\n", "1 word", "whose lines are `find Q`; `replay` and `mix` take it\n"),
+                ("KBQHINT1\0\n", "1 word", "{} is a file of hints, and no script\n"),
                 ("find\n", "1 missing", "a number is missing\n"),
                 ("find 3 4\n", "1 extra", "a word follows the last number\n")]:
             script.write_text(text)
@@ -336,9 +406,46 @@ class Script(unittest.TestCase):
             ran = self.house.run("query", "keys", str(script))
             self.assertEqual((ran.returncode, ran.stdout), (6, f"fault script {cause}\n"))
             self.assertIn(said.format(script), ran.stderr)
+            self.assertNotIn("the line above", ran.stderr)
         # Of a script that is too long no line is named.
         self.house.program("echo 'fault script too long'; exit 6\n")
-        self.assertNotIn("line 1", self.house.run("query", "keys", str(script)).stderr)
+        said = self.house.run("query", "keys", str(script)).stderr
+        self.assertEqual(said, f"pgmtool: {script} is too long for a script, "
+                         "which has 67,108,864 bytes at most\n")
+        # A coordinate below 0 has no key.
+        script.write_text("near -5 0 1\n")
+        self.house.program("echo 'fault script 1 number'; exit 6\n")
+        said = self.house.run("near", "points", str(script)).stderr
+        self.assertIn("`-5` is no whole number from 0 on\n", said)
+
+    def test_another_file_than_a_key_file(self):
+        self.house.program("echo 'fault keys unsorted 1 2 1'; exit 5\n")
+        given = self.house.top / "given"
+        count = (3).to_bytes(8, "little")
+        for words, data, said in [
+                ("query {} keys", b"# how many\n\nfind 3\n",
+                 "it is a script, and FILE and SCRIPT seem swapped: the words are query FILE SCRIPT\n"),
+                ("build {}", b"near 1 2 3\n", "it is a script: the words are build FILE\n"),
+                ("find {} k s", b"KBQHINT1" + count,
+                 "it is a file of hints: the words are find FILE HINTS SCRIPT\n"),
+                ("check {} k", b"PGMINDEX" + count,
+                 "it is a saved index: the words are check FILE INDEX\n"),
+                ("build {}", count + bytes(12), "its size is that of keys of 4 bytes (--narrow)\n"),
+                ("build {}", count + bytes(24), "of keys of 8 bytes, and of points, which `box`"),
+                ("build {}", count + bytes(48), "its size is that of points, which `box` and `near`"),
+                ("box {} s", count + bytes(36), "its size is that of points of 3 coordinates (--dims 3)"),
+                ("box {} s --dims 3", count + bytes(24), "points of 2 coordinates (--dims 2), and of keys")]:
+            given.write_bytes(data)
+            ran = self.house.run(*words.format(given).split())
+            self.assertEqual(ran.returncode, 5)
+            kind = "point" if words.startswith("box") else "key"
+            self.assertIn(f"pgmtool: {given} is no {kind} file: the line above says why\n", ran.stderr)
+            self.assertIn(said, ran.stderr)
+            self.assertNotIn("keys.py", ran.stderr)
+        given.write_bytes(b"1 2\n3 4\n")
+        said = self.house.run("near", str(given), "s").stderr
+        self.assertIn("is a text, and a point file has numbers of 4 bytes", said)
+        self.assertIn(f"python3 dev/keys.py {given} my.points --points\n", said)
 
     def test_a_crate_that_the_program_does_not_use(self):
         self.house.program("exit 0\n")
@@ -348,6 +455,29 @@ class Script(unittest.TestCase):
         self.assertEqual(self.house.run("build", "f").returncode, 0)
         # One of its own wants it built anew, and there is no `rt`.
         os.utime(self.house.top / "crates/pgmtool/src/main.rt", (later, later))
+        self.assertEqual(self.house.run("build", "f").returncode, 1)
+
+    def test_a_line_of_a_crate_that_the_program_does_not_use(self):
+        listed = self.house.top / "crates.txt"
+
+        def put(text, seconds):
+            listed.write_text(text)
+            os.utime(listed, (time.time() + seconds, time.time() + seconds))
+
+        was = listed.read_text()
+        put(was, -9)
+        self.house.program("exit 0\n")
+        self.assertEqual(self.house.run("build", "f").returncode, 0)
+        put("# Mine.\n" + was + "\nmine: anyhow hints\n", 9)
+        self.assertEqual(self.house.run("build", "f").returncode, 0)
+        # One of its own wants it built anew, and there is no `rt`.
+        put(was.replace("near: ", "near: anyhow "), 9)
+        self.assertEqual(self.house.run("build", "f").returncode, 1)
+        put(was, 9)
+        self.assertEqual(self.house.run("build", "f").returncode, 0)
+        # Of a program that was built since, the lines that it was built of aren't kept.
+        later = time.time() + 5
+        os.utime(self.house.top / "crates/pgmtool/out/pgmtool", (later, later))
         self.assertEqual(self.house.run("build", "f").returncode, 1)
 
     def test_which_file_is_not_read(self):

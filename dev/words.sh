@@ -46,6 +46,21 @@ SEED|0|2147483647||drill|what they are drawn from
 TEXT
 }
 
+# The lines of scripts: how one is written, and of which commands.
+script_lines() {
+  cat <<'TEXT'
+find Q|query relax find
+box LOW_1 .. LOW_d HIGH_1 .. HIGH_d|box
+near C_1 .. C_d K|near
+put K V|replay mix
+del K|replay mix
+sweep A B|replay
+get K|replay mix
+next Q|replay mix
+count A B|replay mix
+TEXT
+}
+
 # What else a person has to know of a command: its name, and a sentence.
 remarks() {
   cat <<'TEXT'
@@ -186,6 +201,40 @@ wrong_word() {
     range=$(option_of "${wanted[$number]}" "$command") || continue
     wrong_number "${wanted[$number]}" "${given[$number]}" ${range% *}
   done | head -n 1
+}
+
+# Why a line of a command's script may not begin with a word: which lines it has, and which commands
+# take one that begins so.
+wrong_line() {
+  script_lines | word=$2 awk -F'|' -v of="$1" '
+    index(" " $2 " ", " " of " ") { own = own (own ? ", " : "") "`" $1 "`" }
+    index($1, ENVIRON["word"] " ") == 1 { count = split($2, others, " ") }
+    END {
+      printf "`%s` is no command of this script, whose lines are %s", ENVIRON["word"], own
+      for (i = 1; i <= count; i++)
+        printf "%s`%s`", (i == 1 ? "; " : i < count ? ", " : " and "), others[i]
+      print (count > 1 ? " take it" : count ? " takes it" : "")
+    }'
+}
+
+# What is wrong with a word where a number of a command's script belongs, and what makes a key of
+# it.
+no_number() {
+  local word=$2 part map=
+  if [[ $word =~ ^[+-]?([0-9]+\.?|[0-9]*\.([0-9]+))$ ]]; then
+    part=${BASH_REMATCH[2]}
+    while [ "$part" != "${part%0}" ]; do part=${part%0}; done
+    case $word in *.*) map=" --scale 1${part//?/0}" ;; esac
+    # Half of the range is added to what may be negative, and a coordinate has another range.
+    case $1/$word in box/-* | near/-*) map= ;; */-*) map+=' --signed' ;; esac
+    [ "${#part}" -le 19 ] || map=
+    map=${map:+": \`dev/keys.py$map --key $word\` gives the key"}
+    echo "\`$word\` is no whole number from 0 on$map"
+  elif [[ $word =~ ^[0-9]{4}-[0-9]{2}-[0-9]{2}(T|$) ]]; then
+    echo "\`$word\` is no number: \`dev/keys.py --time --key $word\` gives the key"
+  else
+    echo "\`$word\` is no number"
+  fi
 }
 
 # The words of a call that are names and no options, a line each: most are files.

@@ -1,11 +1,20 @@
 #!/usr/bin/env bash
-# Installs the library for itself, and builds and runs the examples over it: as they are, and once more with the
-# sanitizers for addresses and for undefined behaviour. A part whose compiler isn't there is skipped.
-# The tests of the package for Python run behind them over the same library.
+# Installs the library for itself, and builds and runs the examples over it: as they are, and once
+# more with the sanitizers for addresses and for undefined behaviour. A part whose compiler isn't
+# there is skipped. The tests of the package for Python run behind them over the same library.
 set -eu
 cd "$(dirname "$0")/.."
 
 have() { command -v "$1" >/dev/null 2>&1; }
+
+# What an example prints is compared by the name of its source, so each such text has one.
+for text in examples/c/*.out examples/cpp/*.out; do
+    if [ ! -f "${text%.out}.c" ] && [ ! -f "${text%.out}.cpp" ]; then
+        echo "examples: $text has no source"
+        exit 1
+    fi
+done
+
 cc=${CC:-cc}
 cxx=${CXX:-c++}
 if ! have "$cc"; then
