@@ -1,5 +1,6 @@
 -- Updates cut into batches.
-use Rattle.std.proofs.Common.{◌≡◌, ◌≤◌, ◌<◌, ◌+◌, ◌-◌, ◌++◌, ◌∷◌, [], ℕ, List, length, take, drop, min, zero, suc, ap, sym, ◌∙◌, arith, append_assoc, length-append}
+use Rattle.std.proofs.Common.{◌≡◌, ◌≤◌, ◌<◌, ◌+◌, ◌-◌, ◌++◌, ◌∷◌, [], ℕ, List, length, take, drop}
+use Rattle.std.proofs.Common.{min, zero, suc, ap, sym, ◌∙◌, arith, append_assoc, length-append}
 use Rattle.std.proofs.lemmas.List.{take-append-drop, take_min, length-drop}
 use mathlib.Core.List.{IsPrefix}
 use Rattle.log_levels.specs.declared.update.Update.{Update}
@@ -8,20 +9,28 @@ use Rattle.log_levels.specs.Maps.{map_after}
 use Rattle.log_levels.proofs.UpdateLemmas.{entries_of-append}
 use Rattle.batches.specs.Batches.{AreBatches, AreFull}
 
-pub full_more : (size : ℕ) (batches : List (List Update)) (batch : List Update) → AreFull size batches → length batch ≡ size → AreFull size (batches ++ batch ∷ [])
+pub full_more : (size : ℕ) (batches : List (List Update)) (batch : List Update) →
+    AreFull size batches → length batch ≡ size → AreFull size (batches ++ batch ∷ [])
 full_more size [] batch full same = (same, tt)
 full_more size (b ∷ batches) batch full same = (full.0, full_more size batches batch full.1 same)
 
 -- behind full batches one more may be shorter
-pub batches_more : (size : ℕ) (batches : List (List Update)) (batch : List Update) → AreFull size batches → 0 < length batch → length batch ≤ size →
+pub batches_more : (size : ℕ) (batches : List (List Update)) (batch : List Update) →
+    AreFull size batches → 0 < length batch → length batch ≤ size →
     AreBatches size (batches ++ batch ∷ [])
 batches_more size [] batch full some few = (some, few)
 batches_more size (b ∷ []) batch full some few = (full.0, (some, few))
-batches_more size (b ∷ c ∷ batches) batch full some few = (full.0, batches_more size (c ∷ batches) batch full.1 some few)
+batches_more size (b ∷ c ∷ batches) batch full some few =
+    (full.0, batches_more size (c ∷ batches) batch full.1 some few)
 
 -- entries of fewer updates are fewer
 pub fewer_entries : (xs ys : List Update) → length (entries_of xs) ≤ length (entries_of (xs ++ ys))
-fewer_entries xs ys = omega (arith, ap (λ l. length l) (entries_of-append xs ys), length-append (entries_of xs) (entries_from (map_after xs) ys))
+fewer_entries xs ys =
+    omega (
+      arith,
+      ap (λ l. length l) (entries_of-append xs ys),
+      length-append (entries_of xs) (entries_from (map_after xs) ys),
+    )
 
 -- the first updates of a list are how it begins
 pub first_begin : (n : ℕ) (xs ys : List Update) → ys ≡ take n xs → IsPrefix ys xs
@@ -46,4 +55,5 @@ pub batch_more : (from size to : ℕ) (xs : List Update) → from ≤ length xs 
     take (from + size) xs ≡ take from xs ++ take (to - from) (drop from xs)
 batch_more from size to xs within to_is =
     take-add from size xs ∙ ap (λ (l : List Update). take from xs ++ l)
-    (sym (take_min size (drop from xs)) ∙ ap (λ (n : ℕ). take n (drop from xs)) (omega (arith, length-drop from xs, within, to_is)))
+    (sym (take_min size (drop from xs))
+    ∙ ap (λ (n : ℕ). take n (drop from xs)) (omega (arith, length-drop from xs, within, to_is)))

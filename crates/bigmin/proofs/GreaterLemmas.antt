@@ -19,16 +19,31 @@ bit_at-greater_other d c a b i other = elim (max_cases (dilated d c a) (dilated 
 
 -- the code that is put together from them, coordinate by coordinate
 pub made_more : (d c first low code more i : ℕ) → more ≡ max (dilated d c first) (dilated d c low) →
-    (i % d < c → bit_at code i ≡ bit_at (max (dilated d (i % d) first) (dilated d (i % d) low)) i) → (c ≤ i % d → bit_at code i ≡ 0) → i % d < c + 1 →
+    (i % d < c → bit_at code i ≡ bit_at (max (dilated d (i % d) first) (dilated d (i % d) low)) i) →
+    (c ≤ i % d → bit_at code i ≡ 0) → i % d < c + 1 →
     bit_at (bit_or code more) i ≡ bit_at (max (dilated d (i % d) first) (dilated d (i % d) low)) i
 made_more d c first low code more i is made others below = elim (cases_eq (i % d) c) [
   | inl own ↦
       let here = ap (λ k. bit_at (max (dilated d k first) (dilated d k low)) i) own in
       omega (arith, bit_at_or code more i, others (omega arith), ap (λ m. bit_at m i) is)
-  | inr apart ↦ omega (arith, bit_at_or code more i, made (omega arith), ap (λ m. bit_at m i) is, bit_at-greater_other d c first low i apart)
+  | inr apart ↦
+      omega (
+        arith,
+        bit_at_or code more i,
+        made (omega arith),
+        ap (λ m. bit_at m i) is,
+        bit_at-greater_other d c first low i apart,
+      )
 ]
 
-pub others_more : (d c first low code more i : ℕ) → more ≡ max (dilated d c first) (dilated d c low) → (c ≤ i % d → bit_at code i ≡ 0) → c + 1 ≤ i % d →
+pub others_more : (d c first low code more i : ℕ) →
+    more ≡ max (dilated d c first) (dilated d c low) → (c ≤ i % d → bit_at code i ≡ 0) → c + 1 ≤ i % d →
     bit_at (bit_or code more) i ≡ 0
 others_more d c first low code more i is others above =
-    omega (arith, bit_at_or code more i, others (omega arith), ap (λ m. bit_at m i) is, bit_at-greater_other d c first low i (λ own. omega arith))
+    omega (
+      arith,
+      bit_at_or code more i,
+      others (omega arith),
+      ap (λ m. bit_at m i) is,
+      bit_at-greater_other d c first low i (λ own. omega arith),
+    )

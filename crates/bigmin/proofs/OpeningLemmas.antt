@@ -1,5 +1,8 @@
 -- From where the next code of a box begins to differ, and that the least code from there on is the next one.
--- A code of the box above z differs from z first at a zero of z. There z's coordinate is still within reach of its high end, and no coordinate of z is decided to be out of its interval by a higher place: else the code, which agrees with z above, were out of it too. So the lowest such place is where the next code begins to differ, and of the codes that do so there the least has the least coordinates: z's bits down to that place, or the low end.
+-- A code of the box above z differs from z first at a zero of z. There z's coordinate is still within reach of its
+-- high end, and no coordinate of z is decided to be out of its interval by a higher place: else the code, which
+-- agrees with z above, were out of it too. So the lowest such place is where the next code begins to differ, and
+-- of the codes that do so there the least has the least coordinates: z's bits down to that place, or the low end.
 use Rattle.std.proofs.Common.{◌≡◌, ℕ, ◌%◌, ◌^◌, ◌<◌, ◌≤◌, max, sym, ap, ◌∙◌, subst, inl, inr, refl, arith}
 use Rattle.std.specs.Int.{bit_at}
 use Rattle.std.proofs.lemmas.Bool.{cases_lt, cases_eq}
@@ -52,18 +55,33 @@ module _ (d z low high : ℕ) (some : 0 < d) (z_fits : z < 2 ^ 64) where
           differs = top;
           within = elim (cases_lt t i) [
             | inr rest ↦ rest
-            | inl lower ↦ absurd (omega (arith, between.not_above (i % d) within, less_by_bit i _ _ (swap_lesser i _ _ _ (λ j higher. sym (top.above j (omega arith))) differ_here)))
+            | inl lower ↦ absurd
+                (omega (
+                  arith,
+                  between.not_above (i % d) within,
+                  less_by_bit i _ _ (swap_lesser i _ _ _ (λ j higher. sym (top.above j (omega arith))) differ_here),
+                ))
           ];
         }
 
     undecided : (c t : ℕ) → c < d → IsDecidedAt d z low high c t → t ≤ i
     undecided c t below (inl falls) = elim (cases_lt i t) [
       | inr rest ↦ rest
-      | inl higher ↦ absurd (omega (arith, between.not_below c below, less_by_bit t _ _ (swap_lesser t _ _ _ (λ j from. agree c j (omega arith)) falls)))
+      | inl higher ↦ absurd
+          (omega (
+            arith,
+            between.not_below c below,
+            less_by_bit t _ _ (swap_lesser t _ _ _ (λ j from. agree c j (omega arith)) falls),
+          ))
     ]
     undecided c t below (inr rises) = elim (cases_lt i t) [
       | inr rest ↦ rest
-      | inl higher ↦ absurd (omega (arith, between.not_above c below, less_by_bit t _ _ (swap_greater t _ _ _ (λ j from. agree c j (omega arith)) rises)))
+      | inl higher ↦ absurd
+          (omega (
+            arith,
+            between.not_above c below,
+            less_by_bit t _ _ (swap_greater t _ _ _ (λ j from. agree c j (omega arith)) rises),
+          ))
     ]
 
     pub Opens-from_code : Opens d z low high i
@@ -76,8 +94,10 @@ pub record IsFirst (z b first : ℕ) : Type 0 where
   pub at : bit_at first b ≡ 1
   pub above : (j : ℕ) → b < j → bit_at first j ≡ bit_at z j
 
-module _ (d z low high b first code : ℕ) (some : 0 < d) (z_fits : z < 2 ^ 64) (low_fits : low < 2 ^ 64) (opens : Opens d z low high b) (is_first : IsFirst z b first)
-    (least : IsLeastFrom d first low code) (code_fits : code < 2 ^ 64) (ordered : (c : ℕ) → c < d → dilated d c low ≤ dilated d c high) where
+module _ (d z low high b first code : ℕ) (some : 0 < d)
+    (z_fits : z < 2 ^ 64) (low_fits : low < 2 ^ 64) (opens : Opens d z low high b) (is_first : IsFirst z b first)
+    (least : IsLeastFrom d first low code)
+    (code_fits : code < 2 ^ 64) (ordered : (c : ℕ) → c < d → dilated d c low ≤ dilated d c high) where
   -- ---- the least code from an opening is in the box
 
   abbrev greater_of : ℕ → ℕ
@@ -100,8 +120,10 @@ module _ (d z low high b first code : ℕ) (some : 0 < d) (z_fits : z < 2 ^ 64) 
           let room = opens.room in
           let top = subst (λ k. DiffersAt room.top (dilated d k z) (dilated d k high)) own room.differs in
           elim (cases_lt t room.top) [
-            | inl lower ↦ absurd (omega (arith, top.clear, top.set, found.above room.top lower, first_above c room.top (omega arith)))
-            | inr rest ↦ let same : room.top ≡ t = omega (arith, room.within) in absurd (omega (arith, top.set, found.clear, ap (bit_at (dilated d c high)) same))
+            | inl lower ↦ absurd
+                (omega (arith, top.clear, top.set, found.above room.top lower, first_above c room.top (omega arith)))
+            | inr rest ↦ let same : room.top ≡ t = omega (arith, room.within) in
+                absurd (omega (arith, top.set, found.clear, ap (bit_at (dilated d c high)) same))
           ]
 
       never : (t : ℕ) → DiffersAt t (dilated d c high) (dilated d c first) → ⊥
@@ -112,7 +134,8 @@ module _ (d z low high b first code : ℕ) (some : 0 < d) (z_fits : z < 2 ^ 64) 
             | inr rest ↦ elim (cases_eq t b) [
               | inl here ↦ at_b t here found
               | inr apart ↦
-                  let decided = opens.undecided c t below (inr (swap_greater t _ _ _ (λ j from. sym (first_above c j (omega arith))) found)) in
+                  let decided = opens.undecided c t below
+                  (inr (swap_greater t _ _ _ (λ j from. sym (first_above c j (omega arith))) found)) in
                   omega arith
             ]
           ]
@@ -132,9 +155,11 @@ module _ (d z low high b first code : ℕ) (some : 0 < d) (z_fits : z < 2 ^ 64) 
         | inr rest ↦ elim (cases_eq t b) [
           | inl here ↦
               let own = own_from_one d c low t found.set in
-              absurd (omega (arith, found.clear, bit_at-own d c first t is_first.fits own, is_first.at, ap (bit_at first) here))
+              absurd (omega
+              (arith, found.clear, bit_at-own d c first t is_first.fits own, is_first.at, ap (bit_at first) here))
           | inr apart ↦
-              let decided = opens.undecided c t below (inl (swap_lesser t _ _ _ (λ j from. sym (first_above c j (omega arith))) found)) in
+              let decided = opens.undecided c t below
+              (inl (swap_lesser t _ _ _ (λ j from. sym (first_above c j (omega arith))) found)) in
               absurd (omega arith)
         ]
       ]
@@ -165,17 +190,20 @@ module _ (d z low high b first code : ℕ) (some : 0 < d) (z_fits : z < 2 ^ 64) 
 
   -- ---- and it is the least of those above z, where the opening is the lowest
 
-  pub code_least : (w : ℕ) → w < 2 ^ 64 → z < w → IsBetween d low high w → ((i : ℕ) → Opens d z low high i → b ≤ i) → code ≤ w
+  pub code_least : (w : ℕ) →
+      w < 2 ^ 64 → z < w → IsBetween d low high w → ((i : ℕ) → Opens d z low high i → b ≤ i) → code ≤ w
   code_least w w_fits more between lowest =
       let (i, found) = top_difference 64 z w w_fits more in
       let from = lowest i (Opens-from_code d z low high some z_fits w i w_fits found between) in
       elim (cases_lt b i) [
         | inl lower ↦
-            let less = less_by_bit i code w (swap_lesser i z code w (λ j higher. code_kept j (omega arith) ∙ is_first.above j (omega arith)) found) in
+            let less = less_by_bit i code w
+            (swap_lesser i z code w (λ j higher. code_kept j (omega arith) ∙ is_first.above j (omega arith)) found) in
             omega arith
         | inr rest ↦ elim (cases_lt w code) [
           | inr at_most ↦ at_most
-          | inl falls ↦ let (t, under) = top_difference 64 w code code_fits falls in absurd (never i (omega arith) found t under)
+          | inl falls ↦ let (t, under) = top_difference 64 w code code_fits falls in
+              absurd (never i (omega arith) found t under)
         ]
       ]
     where
@@ -194,8 +222,17 @@ module _ (d z low high b first code : ℕ) (some : 0 < d) (z_fits : z < 2 ^ 64) 
             let (t, under) = top_difference 64 _ _ (dilated-lt d c first) falls in
             let own = own_from_one d c first t under.set in
             elim (cases_lt t b) [
-              | inl lower ↦ absurd (omega (arith, under.set, bit_at-own d c first t is_first.fits own, is_first.below t lower))
-              | inr from ↦ absurd (omega (arith, under.set, under.clear, bit_at-own d c first t is_first.fits own, bit_at-own d c w t w_fits own, agree i here found t from))
+              | inl lower ↦
+                  absurd (omega (arith, under.set, bit_at-own d c first t is_first.fits own, is_first.below t lower))
+              | inr from ↦ absurd
+                  (omega (
+                    arith,
+                    under.set,
+                    under.clear,
+                    bit_at-own d c first t is_first.fits own,
+                    bit_at-own d c w t w_fits own,
+                    agree i here found t from,
+                  ))
             ]
       ]
 
@@ -208,4 +245,5 @@ module _ (d z low high b first code : ℕ) (some : 0 < d) (z_fits : z < 2 ^ 64) 
             set = bit_at-own d c code t code_fits refl ∙ under.set;
             above = λ j higher. agree_dilated d c w code j w_fits code_fits (under.above j higher);
           } in
-          omega (arith, less_by_bit t _ _ lane, dilated-code c, not_below_first i c here found, between.not_below c below)
+          omega
+          (arith, less_by_bit t _ _ lane, dilated-code c, not_below_first i c here found, between.not_below c below)

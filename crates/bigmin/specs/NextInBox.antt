@@ -1,5 +1,6 @@
 -- The next code in a region (BIGMIN).
--- Source: H. Tropf and H. Herzog, Multidimensional range search in dynamically balanced trees, Angewandte Informatik 2/1981.
+-- Source: H. Tropf and H. Herzog, Multidimensional range search
+-- in dynamically balanced trees, Angewandte Informatik 2/1981.
 use Rattle.std.specs.Prelude.{ℕ, ◌<◌, ◌≤◌}
 use Rattle.zorder.specs.declared.regions.Region.{Region}
 use Rattle.zorder.specs.Codes.{IsCode}

@@ -1,5 +1,6 @@
 -- The list of the points' codes, one more at a time, and their sort.
-use Rattle.std.proofs.Common.{◌≡◌, ℕ, ◌+◌, ◌-◌, ◌*◌, ◌/◌, ◌^◌, ◌<◌, List, [], ◌∷◌, ◌++◌, length, take, drop, map, sym, ap, ◌∙◌, arith}
+use Rattle.std.proofs.Common.{◌≡◌, ℕ, ◌+◌, ◌-◌, ◌*◌, ◌/◌, ◌^◌, ◌<◌, List, [], ◌∷◌}
+use Rattle.std.proofs.Common.{◌++◌, length, take, drop, map, sym, ap, ◌∙◌, arith}
 use Rattle.std.specs.Fork.{slice_chunk}
 use Rattle.std.specs.List.{range_with_len}
 use Rattle.std.proofs.Math.Nat.{mul-div_cancel_left}
@@ -24,9 +25,11 @@ first_codes-more d coords i start end place long =
 pub points_few : (d : ℕ) (coords : List ℕ) → IsDimension d → ArePoints d coords → length coords / d < 2 ^ 32
 points_few d coords is points =
     let some : 0 < d = omega (arith, is.0) in
-    let count : length coords / d ≡ points.count = ap (λ (n : ℕ). n / d) points.whole ∙ mul-div_cancel_left points.count some in
+    let count : length coords / d ≡ points.count = ap (λ (n : ℕ). n / d) points.whole
+    ∙ mul-div_cancel_left points.count some in
     omega (arith, count, points.few)
 
 -- what is written over the whole of a list is the list
-pub written_over : (codes sorted : List ℕ) (n : ℕ) → length sorted ≡ n → take n (sorted ++ drop (length sorted) codes) ≡ sorted
+pub written_over : (codes sorted : List ℕ) (n : ℕ) →
+    length sorted ≡ n → take n (sorted ++ drop (length sorted) codes) ≡ sorted
 written_over codes sorted n long = take_at sorted (drop (length sorted) codes) n long

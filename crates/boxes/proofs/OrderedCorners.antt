@@ -9,14 +9,17 @@ use Rattle.zorder.specs.Regions.{IsEmpty, IsRegion}
 use Rattle.zorder.proofs.CallerLemmas.{code-lt, corners-from_inside, low_inside}
 use Rattle.bigmin.specs.NextBetween.{AreOrdered}
 
-pub ordered_corners : (region : Region) → IsRegion region → (corners : Corners) → AreCorners region corners → (IsEmpty region → ⊥) → (d : ℕ) → d ≡ region.d
+pub ordered_corners : (region : Region) →
+    IsRegion region → (corners : Corners) → AreCorners region corners → (IsEmpty region → ⊥) → (d : ℕ) → d ≡ region.d
     → AreOrdered d corners.low corners.high
 ordered_corners region is corners are some_inside d same c below =
-    let inside = low_inside region is (λ k within. elim (cases_lt (slice_index region.high k) (slice_index region.low k)) [
+    let inside =
+    low_inside region is (λ k within. elim (cases_lt (slice_index region.high k) (slice_index region.low k)) [
       | inl falls ↦ absurd (some_inside (k, within, falls))
       | inr rest ↦ rest
     ]) in
-    let between = corners-from_inside region is corners are d (code region.d region.low) same (code-lt region.d is.dimension region.low) inside in
+    let between = corners-from_inside region is corners are d
+    (code region.d region.low) same (code-lt region.d is.dimension region.low) inside in
     omega (arith, between.not_below c below, between.not_above c below)
 
 -- the distance from the lower end, in 64 bits, is within the width just where the number is between the ends

@@ -1,5 +1,6 @@
 -- What a region asks for of sorted codes, and at how many of them it has to be looked.
--- Source: H. Tropf and H. Herzog, Multidimensional range search in dynamically balanced trees, Angewandte Informatik 2/1981.
+-- Source: H. Tropf and H. Herzog, Multidimensional range search
+-- in dynamically balanced trees, Angewandte Informatik 2/1981.
 use Rattle.std.specs.Prelude.{ℕ, ◌-◌, ◌<◌, ◌≤◌, ◌&&◌, Bool, nat_le, List, length, filter, slice_index}
 use Rattle.std.specs.List.{list_all, range_with_len}
 use Rattle.zorder.specs.declared.regions.Region.{Region}
@@ -10,7 +11,8 @@ use Rattle.boxes.specs.Places.{IsCountOf}
 -- coordinate c of the code z lies between the region's low and its high, both included
 abbrev pub is_between : Region → ℕ → ℕ → Bool
 is_between region z c =
-    nat_le (slice_index region.low c) (coordinate region.d c z) && nat_le (coordinate region.d c z) (slice_index region.high c)
+    nat_le (slice_index region.low c) (coordinate region.d c z)
+    && nat_le (coordinate region.d c z) (slice_index region.high c)
 
 -- each coordinate does: the test of `IsInside`
 unfoldable pub is_inside : Region → ℕ → Bool

@@ -6,7 +6,8 @@ use Rattle.std.specs.List.Sorted.{IsNonDecreasing, IsPermutation}
 use Rattle.levels.specs.Indexes.{PgmIndex}
 use Rattle.zorder.specs.Codes.{IsCode, IsDimension, code}
 
--- the codes of points of d coordinates, in the points' order: that of point i is made of the d coordinates from d * i on
+-- the codes of points of d coordinates, in the points' order:
+-- that of point i is made of the d coordinates from d * i on
 abbrev pub codes_of : ℕ → List ℕ → List ℕ
 codes_of d coords = map (λ i. code d (slice_chunk coords d i)) (range_with_len 0 (length coords / d))
 

@@ -1,5 +1,7 @@
 -- Each kind of step keeps the rule of the claim word.
-use Rattle.std.proofs.Common.{◌≡◌, ◌≢◌, ◌==◌, if◌then◌else◌, ℕ, zero, suc, ◌+◌, ◌%◌, ◌^◌, ◌<◌, ◌≤◌, nat_lt, List, [], ◌∷◌, ◌++◌, length, slice_index, set, min, sum_by, sym, ap, refl, ◌∙◌, subst, inl, inr, arith, length-append, length-set, get_or-set_same}
+use Rattle.std.proofs.Common.{◌≡◌, ◌≢◌, ◌==◌, if◌then◌else◌, ℕ, zero, suc, ◌+◌, ◌%◌, ◌^◌, ◌<◌, ◌≤◌, nat_lt}
+use Rattle.std.proofs.Common.{List, [], ◌∷◌, ◌++◌, length, slice_index, set, min, sum_by, sym, ap, refl}
+use Rattle.std.proofs.Common.{◌∙◌, subst, inl, inr, arith, length-append, length-set, get_or-set_same}
 use mathlib.Core.Option.{none, some, some-injective}
 use lib.ListN.{get_elem?}
 use Rattle.std.proofs.lemmas.Bool.{cases_lt, cases_eq, cond-true, cond-false, lt-ltb, le-ltb, eq-eqb, ne_eqb}
@@ -11,7 +13,8 @@ use Rattle.claims.specs.declared.views.View.{View}
 use Rattle.claims.specs.declared.views.Plan.{Plan}
 use Rattle.claims.specs.Claims.{times, once_below}
 use Rattle.claims.specs.Views.{IsAllowed, AreClaimed, drew, view_of, without_one, one_of, joined, spent}
-use Rattle.claims.proofs.Totals.{total-set, total-least, total-le, total-zero, total-split, total-join, each-set, each-snoc}
+use Rattle.claims.proofs.Totals.{total-set, total-least, total-le, total-zero}
+use Rattle.claims.proofs.Totals.{total-split, total-join, each-set, each-snoc}
 
 pub once-yes : (x n : ℕ) → x < n → once_below x n ≡ 1
 once-yes x n below = cond-true (nat_lt x n) 1 0 (lt-ltb x n below)
@@ -23,7 +26,8 @@ times-append : (x : ℕ) (a b : List ℕ) → times x (a ++ b) ≡ times x a + t
 times-append x a b = sum_by-append (λ n. if n == x then 1 else 0) a b
 
 -- make: nothing is drawn, and one seat has all workers
-pub makes : (plan : Plan) → plan.pieces + plan.workers + 1 < 2 ^ 64 → 1 ≤ plan.workers → AreClaimed plan (opening (0 ∷ []) [] (view_of plan))
+pub makes : (plan : Plan) →
+    plan.pieces + plan.workers + 1 < 2 ^ 64 → 1 ≤ plan.workers → AreClaimed plan (opening (0 ∷ []) [] (view_of plan))
 makes plan small some_worker = record {
   small = small;
   word = refl;
@@ -42,10 +46,12 @@ makes plan small some_worker = record {
     each (suc id) v e = absurd (cc e)
 
 -- split: one worker gets a seat of its own
-pub splits : (plan : Plan) (id : ℕ) (v : View) → 1 < v.workers → v.ended ≡ 0 → v.drawn ≡ [] → Splits (AreClaimed plan) id v (without_one v) (one_of v)
+pub splits : (plan : Plan) (id : ℕ) (v : View) →
+    1 < v.workers → v.ended ≡ 0 → v.drawn ≡ [] → Splits (AreClaimed plan) id v (without_one v) (one_of v)
 splits plan id v more live fresh s rule at =
     let here = rule.each id v at in
-    let same = λ (f : View → ℕ) (parts : f (without_one v) + f (one_of v) ≡ f v). total-split f s.views id v (without_one v) (one_of v) at parts in
+    let same = λ (f : View → ℕ) (parts : f (without_one v) + f (one_of v) ≡ f v).
+    total-split f s.views id v (without_one v) (one_of v) at parts in
     let drawn = same (λ v. length v.drawn) (omega arith) in
     let marks = same (λ v. v.ended) (omega arith) in
     record {
@@ -62,12 +68,14 @@ splits plan id v more live fresh s rule at =
     }
 
 -- join: one seat has what both drew, and the other is spent
-pub joins : (plan : Plan) (id other : ℕ) (v w : View) → 1 ≤ v.workers → Joins (AreClaimed plan) id v other w (joined v w) spent
+pub joins : (plan : Plan) (id other : ℕ) (v w : View) →
+    1 ≤ v.workers → Joins (AreClaimed plan) id v other w (joined v w) spent
 joins plan id other v w some_worker s rule at apart there =
     let here = rule.each id v at in
     let second : get_elem? s.views other ≡ some w = sym (set_else s.views id other (joined v w) apart) ∙ there in
     let yonder = rule.each other w second in
-    let same = λ (f : View → ℕ) (parts : f (joined v w) + f spent ≡ f v + f w). total-join f s.views id other v (joined v w) w spent at there parts in
+    let same = λ (f : View → ℕ) (parts : f (joined v w) + f spent ≡ f v + f w).
+    total-join f s.views id other v (joined v w) w spent at there parts in
     let drawn = same (λ v. length v.drawn) (omega (arith, length-append v.drawn w.drawn)) in
     let marks = same (λ v. v.ended) (omega arith) in
     record {
@@ -79,7 +87,11 @@ joins plan id other v w some_worker s rule at apart there =
       seated = same (λ v. v.workers) (omega arith) ∙ rule.seated;
       each = each-set (IsAllowed plan.pieces) (set s.views id (joined v w)) other spent
           (each-set (IsAllowed plan.pieces) s.views id (joined v w) rule.each
-          (record { marks = omega (arith, here.marks, yonder.marks); pieces = λ h. here.pieces some_worker; idle = λ h. absurd (omega arith) }))
+          (record {
+            marks = omega (arith, here.marks, yonder.marks);
+            pieces = λ h. here.pieces some_worker;
+            idle = λ h. absurd (omega arith);
+          }))
           (record { marks = omega arith; pieces = λ h. absurd (omega arith); idle = λ h. refl });
     }
 
@@ -131,7 +143,8 @@ times-member x numbers k inside is =
     omega (arith, hit-yes x (slice_index numbers k) is)
 
 -- what a seat drew before is below the word
-drawn_below : (plan : Plan) (s : State (Unit {0}) View) (id : ℕ) (v : View) → AreClaimed plan s → get_elem? s.views id ≡ some v → (k : ℕ) → k < length v.drawn →
+drawn_below : (plan : Plan) (s : State (Unit {0}) View) (id : ℕ) (v : View) →
+    AreClaimed plan s → get_elem? s.views id ≡ some v → (k : ℕ) → k < length v.drawn →
     slice_index v.drawn k < slice_index s.words 0
 drawn_below plan s id v rule at k inside =
     let x = slice_index v.drawn k in
@@ -144,7 +157,8 @@ drawn_below plan s id v rule at k inside =
     ]
 
 module _ (plan : Plan) (slots id : ℕ) (me : Me (Unit {0}) View) (one : me.0.workers ≡ 1) (live : me.0.ended ≡ 0) where
-  draw_some : (s : State (Unit {0}) View) → AreClaimed plan s → get_elem? s.views id ≡ some me.0 → slice_index s.words 0 < plan.pieces →
+  draw_some : (s : State (Unit {0}) View) →
+      AreClaimed plan s → get_elem? s.views id ≡ some me.0 → slice_index s.words 0 < plan.pieces →
       AreClaimed plan (stepped s 0 (slice_index s.words 0 + 1) id me.1 (drawing me.0 (slice_index s.words 0)) keeps)
   draw_some s rule at below =
       let v = me.0 in
@@ -171,10 +185,12 @@ module _ (plan : Plan) (slots id : ℕ) (me : Me (Unit {0}) View) (one : me.0.wo
               ap (once_below x) after,
             );
         seated = omega (arith, total-set (λ v. v.workers) s.views id v (drawing v w) at, rule.seated);
-        each = each-set (IsAllowed plan.pieces) s.views id (drawing v w) rule.each (record { marks = here.marks; pieces = here.pieces; idle = λ h. absurd (omega arith) });
+        each = each-set (IsAllowed plan.pieces) s.views id (drawing v w) rule.each
+            (record { marks = here.marks; pieces = here.pieces; idle = λ h. absurd (omega arith) });
       }
 
-  draw_none : (s : State (Unit {0}) View) → AreClaimed plan s → get_elem? s.views id ≡ some me.0 → plan.pieces ≤ slice_index s.words 0 →
+  draw_none : (s : State (Unit {0}) View) →
+      AreClaimed plan s → get_elem? s.views id ≡ some me.0 → plan.pieces ≤ slice_index s.words 0 →
       AreClaimed plan (stepped s 0 (slice_index s.words 0 + 1) id me.1 (ending me.0) keeps)
   draw_none s rule at from =
       let v = me.0 in
@@ -189,9 +205,11 @@ module _ (plan : Plan) (slots id : ℕ) (me : Me (Unit {0}) View) (one : me.0.wo
         word = length-set s.words 0 (w + 1) ∙ rule.word;
         taken = omega (arith, rule.taken);
         below = omega (arith, rule.below);
-        once = λ x. omega (arith, total-set (λ v. times x v.drawn) s.views id v (ending v) at, rule.once x, ap (once_below x) least);
+        once = λ x. omega
+            (arith, total-set (λ v. times x v.drawn) s.views id v (ending v) at, rule.once x, ap (once_below x) least);
         seated = omega (arith, total-set (λ v. v.workers) s.views id v (ending v) at, rule.seated);
-        each = each-set (IsAllowed plan.pieces) s.views id (ending v) rule.each (record { marks = omega arith; pieces = here.pieces; idle = here.idle });
+        each = each-set (IsAllowed plan.pieces) s.views id
+            (ending v) rule.each (record { marks = omega arith; pieces = here.pieces; idle = here.idle });
       }
 
   pub draws : Allows (AreClaimed plan) slots id me 0 (λ w. (w + 1) % 2 ^ 64) (drew (step slots 0 1 0 none) me)
@@ -219,20 +237,26 @@ module _ (plan : Plan) (slots id : ℕ) (me : Me (Unit {0}) View) (one : me.0.wo
 -- ---- close
 
 -- once one view has all workers, it has all that was drawn
-module _ (plan : Plan) (s : State (Unit {0}) View) (id : ℕ) (v : View) (rule : AreClaimed plan s) (at : get_elem? s.views id ≡ some v) (all : v.workers ≡ plan.workers) where
-  alone : (f : View → ℕ) → f spent ≡ 0 → ((w : View) → IsAllowed plan.pieces w → w.workers ≡ 0 → f w ≡ 0) → sum_by f s.views ≡ f v
+module _ (plan : Plan) (s : State (Unit {0}) View) (id : ℕ)
+    (v : View) (rule : AreClaimed plan s) (at : get_elem? s.views id ≡ some v) (all : v.workers ≡ plan.workers) where
+  alone : (f : View → ℕ) →
+      f spent ≡ 0 → ((w : View) → IsAllowed plan.pieces w → w.workers ≡ 0 → f w ≡ 0) → sum_by f s.views ≡ f v
   alone f nothing idle =
       let workers = total-set (λ v. v.workers) s.views id v spent at in
       let none : sum_by (λ v. v.workers) (set s.views id spent) ≡ 0 = omega (arith, rule.seated) in
       let rest = total-zero f (λ v. v.workers) (set s.views id spent)
-      (λ j w e no_worker. each-set (λ w. w.workers ≡ 0 → f w ≡ 0) s.views id spent (λ j w e. idle w (rule.each j w e)) (λ h. nothing) j w e no_worker) none in
+      (λ j w e no_worker. each-set (λ w. w.workers ≡ 0 → f w ≡ 0) s.views id spent
+      (λ j w e. idle w (rule.each j w e)) (λ h. nothing) j w e no_worker) none in
       omega (arith, total-set f s.views id v spent at)
 
   pub closes-once : (x : ℕ) → times x v.drawn ≡ once_below x (min (slice_index s.words 0) plan.pieces)
-  closes-once x = sym (alone (λ v. times x v.drawn) refl (λ w allowed none. ap (times x) (allowed.idle none))) ∙ rule.once x
+  closes-once x =
+      sym (alone (λ v. times x v.drawn) refl (λ w allowed none. ap (times x) (allowed.idle none))) ∙ rule.once x
 
   pub closes-drawn : length v.drawn ≡ min (slice_index s.words 0) plan.pieces
-  closes-drawn = sym (alone (λ v. length v.drawn) refl (λ w allowed none. ap (λ (l : List ℕ). length l) (allowed.idle none))) ∙ rule.below
+  closes-drawn =
+      sym (alone (λ v. length v.drawn) refl (λ w allowed none. ap (λ (l : List ℕ). length l) (allowed.idle none)))
+      ∙ rule.below
 
   pub closes-word : slice_index s.words 0 ≡ min (slice_index s.words 0) plan.pieces + v.ended
   closes-word =

@@ -1,5 +1,6 @@
 -- Numbers that workers draw from one word, each once.
-use Rattle.std.specs.Prelude.{◌≡◌, ◌==◌, if◌then◌else◌, ℕ, ◌<◌, ◌≤◌, Bool, true, false, List, [], ◌∷◌, ◌++◌, Option, Some, None, nat_lt, count_by}
+use Rattle.std.specs.Prelude.{◌≡◌, ◌==◌, if◌then◌else◌, ℕ, ◌<◌, ◌≤◌, Bool, true, false}
+use Rattle.std.specs.Prelude.{List, [], ◌∷◌, ◌++◌, Option, Some, None, nat_lt, count_by}
 use Rattle.atomic_table.specs.Seated.{TableId}
 
 -- which claims a seat is of, and the numbers there are: those below pieces
@@ -12,13 +13,15 @@ pub record Claimed : Type 0 where
   pub origin : Origin
   pub workers : ℕ
 
--- a worker's seat: of which claims it is, the numbers that it drew, in order, and whether it was told that there are no more
+-- a worker's seat: of which claims it is, the numbers that it
+-- drew, in order, and whether it was told that there are no more
 pub record Drawn : Type 0 where
   pub origin : Origin
   pub drawn : List ℕ
   pub ended : Bool
 
--- the one event of a worker that hasn't ended, where the word is w: it draws w, or ends where w isn't below the number of pieces
+-- the one event of a worker that hasn't ended, where the word is
+-- w: it draws w, or ends where w isn't below the number of pieces
 pub record IsDrawAt (w : ℕ) (before : Drawn) (answer : Option ℕ) (after : Drawn) : Type 0 where
   pub some : w < before.origin.pieces → (answer ≡ Some w) × (after ≡ record before { drawn = before.drawn ++ w ∷ [] })
   pub none : before.origin.pieces ≤ w → (answer ≡ None) × (after ≡ record before { ended = true })

@@ -1,5 +1,6 @@
 -- The rule of the claim word, over what all seats know. No public clause cites it.
-use Rattle.std.specs.Prelude.{◌≡◌, if◌then◌else◌, ℕ, ◌+◌, ◌-◌, ◌^◌, ◌<◌, ◌≤◌, Bool, [], ◌∷◌, ◌++◌, All, length, slice_index, min, sum_by}
+use Rattle.std.specs.Prelude.{◌≡◌, if◌then◌else◌, ℕ, ◌+◌, ◌-◌, ◌^◌, ◌<◌, ◌≤◌, Bool}
+use Rattle.std.specs.Prelude.{[], ◌∷◌, ◌++◌, All, length, slice_index, min, sum_by}
 use Rattle.std.specs.List.Sorted.{IsStrictlyIncreasing}
 use mathlib.Core.Option.{some}
 use lib.ListN.{get_elem?}
@@ -14,7 +15,8 @@ pub record IsAllowed (bound : ℕ) (v : View) : Type 0 where
   pub pieces : 0 < v.workers → v.pieces ≡ bound
   pub idle : v.workers ≡ 0 → v.drawn ≡ []
 
--- The word is the number of draws: of pieces in all views, and of marks. The pieces of all views are those below the lesser of the word and their number, each once. Each worker stands in one view
+-- The word is the number of draws: of pieces in all views, and of marks. The pieces of all views are
+-- those below the lesser of the word and their number, each once. Each worker stands in one view
 pub record AreClaimed (plan : Plan) (s : State (Unit {0}) View) : Type 0 where
   pub small : plan.pieces + plan.workers + 1 < 2 ^ 64
   pub word : length s.words ≡ 1
@@ -30,7 +32,8 @@ Sat = Me (Unit {0}) View
 -- what a draw tells: the number found, the view after it, and that it is above all that the seat drew before
 abbrev pub drew : Step (Unit {0}) → Sat → ℕ → Sat → Type 0
 drew st m w m' = (m'.1 ≡ m.1)
-    × (w < m.0.pieces → (m'.0 ≡ record m.0 { drawn = m.0.drawn ++ w ∷ [] }) × ((k : ℕ) → k < length m.0.drawn → slice_index m.0.drawn k < w))
+    × (w < m.0.pieces → (m'.0 ≡ record m.0 { drawn = m.0.drawn ++ w ∷ [] })
+    × ((k : ℕ) → k < length m.0.drawn → slice_index m.0.drawn k < w))
     × (m.0.pieces ≤ w → m'.0 ≡ record m.0 { ended = m.0.ended + 1 })
 
 -- the view of all workers, before any draw
@@ -46,7 +49,8 @@ one_of v = record { pieces = v.pieces; drawn = []; workers = 1; ended = 0 }
 
 -- two views as one, and what is left of the second
 abbrev pub joined : View → View → View
-joined v w = record { pieces = v.pieces; drawn = v.drawn ++ w.drawn; workers = v.workers + w.workers; ended = v.ended + w.ended }
+joined v w =
+    record { pieces = v.pieces; drawn = v.drawn ++ w.drawn; workers = v.workers + w.workers; ended = v.ended + w.ended }
 
 abbrev pub spent : View
 spent = record { pieces = 0; drawn = []; workers = 0; ended = 0 }

@@ -1,8 +1,10 @@
 -- Words that `clap` takes name a command, whose options hold what their parsers let through.
 --
--- Main results: what was entered is a command of the definition, with rows that passed (`command_met`), which tells what the
+-- Main results: what was entered is a command of the definition,
+-- with rows that passed (`command_met`), which tells what the
 -- options of a name hold (`options_of`), and is a request (`words_ask`).
-use Rattle.std.proofs.Common.{◌≡◌, ◌⊎◌, inl, inr, rules, Bool, true, false, not, cond, ◌&&◌, List, [], ◌∷◌, Option, Some, None, is_some, refl, sym, ap, ap₂, subst, ◌∙◌}
+use Rattle.std.proofs.Common.{◌≡◌, ◌⊎◌, inl, inr, rules, Bool, true, false, not, cond, ◌&&◌, List}
+use Rattle.std.proofs.Common.{[], ◌∷◌, Option, Some, None, is_some, refl, sym, ap, ap₂, subst, ◌∙◌}
 use Rattle.std.specs.Prelude.{find, map, codes, option_map, option_and_then, ok_or, Err, IsSome}
 use Rattle.std.specs.List.{list_all, list_any}
 use Rattle.std.specs.Option.{option_map_or}
@@ -12,8 +14,10 @@ use Rattle.clap.proofs.WalkLemmas.{both}
 use Rattle.clap.proofs.OnLiterals.{clap_on_literals}
 use Rattle.clap.specs.Walk.{Text, Rule, Row, Held, answers_to, finished, nothing_held, settled, walk, walk_from}
 use Rattle.clap.specs.Kinds.{check_kinds}
-use Rattle.clap.specs.Simple.{App, Shape, argument_words, built, entered, label_of, names_of, rows_at, subcommand_of, is_simple}
-use Rattle.clap.specs.Faults.{built_fault, check_fault, defaults_fault, entered_fault, is_simple_and_free, level_fault, settle_fault, walk_fault}
+use Rattle.clap.specs.Simple.{App, Shape, argument_words, built, entered, label_of}
+use Rattle.clap.specs.Simple.{names_of, rows_at, subcommand_of, is_simple}
+use Rattle.clap.specs.Faults.{built_fault, check_fault, defaults_fault, entered_fault}
+use Rattle.clap.specs.Faults.{is_simple_and_free, level_fault, settle_fault, walk_fault}
 use Rattle.clap.specs.Facts.{explicit_source}
 use Rattle.clap.specs.Takes.{is_given}
 use Rattle.std.specs.Box.{box_value}
@@ -33,7 +37,9 @@ use Rattle.command_line.specs.Commands.{Command, application, commands, request_
 use Rattle.command_line.specs.declared.request.Request as declared
 use Rattle.command_line.specs.Requests.{Request, asked_of}
 use Rattle.command_line.specs.Words.{AreTaken, AskFor, request_of}
-use Rattle.command_line.specs.Passed.{ArePassed, AreDrillOptions, AreHintOptions, AreIndexOptions, AreQueryOptions, AreReplayOptions, IsDimensionOption, IsNarrowOption, IsPiecesOption, IsSendersOption}
+use Rattle.command_line.specs.Passed.{ArePassed, AreDrillOptions, AreHintOptions, AreIndexOptions}
+use Rattle.command_line.specs.Passed.{AreQueryOptions, AreReplayOptions, IsDimensionOption}
+use Rattle.command_line.specs.Passed.{IsNarrowOption, IsPiecesOption, IsSendersOption}
 use Rattle.command_line.proofs.PassedRows.{all_set, level_good, quiet}
 use Rattle.command_line.proofs.OptionReads.{number_reads, flag_reads, takes_numbers, takes_flag}
 
@@ -52,10 +58,15 @@ pub record IsOfCommand (p : Text × List Row) (s : Shape) : Type 0 where
   pub passed : ArePassed s.rules p.1
 
 module _ (p : Text × List Row) (words : List Text) where
-  shape_entered : (s : Shape) → sets_once s ≡ true → level_fault s [] nothing_held words false [] ≡ [] → rows_at s words ≡ p → IsOfCommand p s
+  shape_entered : (s : Shape) →
+      sets_once s ≡ true → level_fault s [] nothing_held words false [] ≡ [] → rows_at s words ≡ p → IsOfCommand p s
   shape_entered s once clean is =
       let parts = both (not s.args_override_self) (all_set s.rules) once in
-      let here : IsOfCommand (rows_at s words) s = record { name = refl; passed = level_good s [] (is_not s.args_override_self parts.0) parts.1 words false [] clean } in
+      let here : IsOfCommand (rows_at s words) s =
+      record {
+        name = refl;
+        passed = level_good s [] (is_not s.args_override_self parts.0) parts.1 words false [] clean;
+      } in
       subst (λ (q : Text × List Row). IsOfCommand q s) is here
     where
       is_not : (t : Bool) → not t ≡ true → t ≡ false
@@ -72,31 +83,40 @@ module _ (p : Text × List Row) (words : List Text) where
   abbrev Gives : Option Shape → Type 0
   Gives o = option_map (λ s. rows_at s words) o ≡ Some p
 
-  find_entered : (name : Text) (subs : List Shape) → list_all sets_once subs ≡ true → IsClean (Chosen name subs) → Gives (Chosen name subs) →
+  find_entered : (name : Text) (subs : List Shape) →
+      list_all sets_once subs ≡ true → IsClean (Chosen name subs) → Gives (Chosen name subs) →
       SomeShape subs (IsOfCommand p)
   find_entered name [] once clean is = cc
   find_entered name (s ∷ rest) once clean is =
       let parts = both (sets_once s) (list_all sets_once rest) once in
       go (answers_to name (label_of s)) parts.0 clean is (find_entered name rest parts.1)
     where
-      go : (t : Bool) → sets_once s ≡ true → IsClean (cond t (Some s) (Chosen name rest)) → Gives (cond t (Some s) (Chosen name rest)) →
-          (IsClean (Chosen name rest) → Gives (Chosen name rest) → SomeShape rest (IsOfCommand p)) → SomeShape (s ∷ rest) (IsOfCommand p)
+      go : (t : Bool) → sets_once s ≡ true →
+          IsClean (cond t (Some s) (Chosen name rest)) → Gives (cond t (Some s) (Chosen name rest)) →
+          (IsClean (Chosen name rest) → Gives (Chosen name rest) → SomeShape rest (IsOfCommand p)) →
+          SomeShape (s ∷ rest) (IsOfCommand p)
       go true one clean is later = let same : rows_at s words ≡ p = cc in inl (shape_entered s one clean same)
       go false one clean is later = inr (later clean is)
 
 -- of a built command
-module _ (a : App) (once : list_all sets_once a.subs ≡ true) (required : a.top.subcommand_required ≡ true) (negates : a.top.arg_required_else_help ≡ false) where
-  entered_one : (stop : Option (Text × List Text)) (p : Text × List Row) → entered_fault a stop ≡ [] → entered a stop ≡ Some p → SomeShape a.subs (IsOfCommand p)
+module _ (a : App) (once : list_all sets_once a.subs ≡ true)
+    (required : a.top.subcommand_required ≡ true) (negates : a.top.arg_required_else_help ≡ false) where
+  entered_one : (stop : Option (Text × List Text)) (p : Text × List Row) →
+      entered_fault a stop ≡ [] → entered a stop ≡ Some p → SomeShape a.subs (IsOfCommand p)
   entered_one None p clean is = cc
   entered_one (Some q) p clean is = find_entered p q.1 q.0 a.subs once clean is
 
   -- where no command is entered, one is missing
-  none_entered : (rows : List Row) (o : Option (Text × List Row)) → check_fault a.top rows (is_some o) ≡ [] → o ≡ None → ⊥
-  none_entered rows None clean is = missing a.top.arg_required_else_help a.top.subcommand_required negates required clean
+  none_entered : (rows : List Row) (o : Option (Text × List Row)) →
+      check_fault a.top rows (is_some o) ≡ [] → o ≡ None → ⊥
+  none_entered rows None clean is =
+      missing a.top.arg_required_else_help a.top.subcommand_required negates required clean
     where
       missing : (help wanted : Bool) → help ≡ false → wanted ≡ true →
           check_kinds (help && not (list_any (λ r. explicit_source r.source) rows)) wanted
-          (not (a.top.subcommand_negates_reqs && false) && list_any (λ r. r.required && not (is_given r.id rows)) a.top.rules) ≡ [] → ⊥
+          (not (a.top.subcommand_negates_reqs && false)
+          && list_any (λ r. r.required && not (is_given r.id rows)) a.top.rules)
+          ≡ [] → ⊥
       missing false true h w bad = cc
       missing true wanted h w bad = cc
       missing false false h w bad = cc
@@ -109,7 +129,8 @@ module _ (a : App) (once : list_all sets_once a.subs ≡ true) (required : a.top
   Ended words = (walk a.top.rules (names_of a) nothing_held words).held
 
   fault_parts : (words : List Text) → built_fault a nothing_held words ≡ [] →
-      (entered_fault a (Stop words) ≡ []) × (check_fault a.top (finished a.top.rules (Ended words)) (is_some (entered a (Stop words))) ≡ [])
+      (entered_fault a (Stop words) ≡ [])
+      × (check_fault a.top (finished a.top.rules (Ended words)) (is_some (entered a (Stop words))) ≡ [])
   fault_parts words clean =
       let first = quiet (walk_fault a.top (names_of a) (walk_from nothing_held) words) _ clean in
       let second = quiet (entered_fault a (Stop words)) _ first.1 in
@@ -135,24 +156,30 @@ are_apart (s ∷ rest) = differs s.name rest && are_apart rest
 abbrev rules_in : Text → List Shape → List Rule
 rules_in name subs = option_map_or (λ s. s.rules) (find (λ s. bytes_eq s.name name) subs) []
 
-none_named : (name : Text) (subs : List Shape) (p : Text × List Row) → p.0 ≡ name → differs name subs ≡ true → SomeShape subs (IsOfCommand p) → ⊥
+none_named : (name : Text) (subs : List Shape) (p : Text × List Row) →
+    p.0 ≡ name → differs name subs ≡ true → SomeShape subs (IsOfCommand p) → ⊥
 none_named name [] p is apart some = some
 none_named name (s ∷ rest) p is apart (inl here) =
     let same : bytes_eq s.name name ≡ true = (bytes_eq-Decides s.name name).1 (sym here.name ∙ is) in
     let other = both (not (bytes_eq s.name name)) (differs name rest) apart in
     absurd (cc (other.0, same))
-none_named name (s ∷ rest) p is apart (inr later) = none_named name rest p is (both (not (bytes_eq s.name name)) (differs name rest) apart).1 later
+none_named name (s ∷ rest) p is apart (inr later) =
+    none_named name rest p is (both (not (bytes_eq s.name name)) (differs name rest) apart).1 later
 
-passed_in : (name : Text) (subs : List Shape) (p : Text × List Row) → p.0 ≡ name → are_apart subs ≡ true → SomeShape subs (IsOfCommand p) → ArePassed (rules_in name subs) p.1
+passed_in : (name : Text) (subs : List Shape) (p : Text × List Row) →
+    p.0 ≡ name → are_apart subs ≡ true → SomeShape subs (IsOfCommand p) → ArePassed (rules_in name subs) p.1
 passed_in name [] p is apart some = absurd some
 passed_in name (s ∷ rest) p is apart some =
     let parts = both (differs s.name rest) (are_apart rest) apart in
     go (bytes_eq s.name name) refl parts.0 (passed_in name rest p is parts.1) some
   where
-    go : (t : Bool) → bytes_eq s.name name ≡ t → differs s.name rest ≡ true → (SomeShape rest (IsOfCommand p) → ArePassed (rules_in name rest) p.1) →
-        SomeShape (s ∷ rest) (IsOfCommand p) → ArePassed (option_map_or (λ s. s.rules) (cond t (Some s) (find (λ s. bytes_eq s.name name) rest)) []) p.1
+    go : (t : Bool) → bytes_eq s.name name ≡ t →
+        differs s.name rest ≡ true → (SomeShape rest (IsOfCommand p) → ArePassed (rules_in name rest) p.1) →
+        SomeShape (s ∷ rest) (IsOfCommand p) →
+        ArePassed (option_map_or (λ s. s.rules) (cond t (Some s) (find (λ s. bytes_eq s.name name) rest)) []) p.1
     go true same apart others (inl here) = here.passed
-    go true same apart others (inr later) = absurd (none_named s.name rest p (is ∙ sym ((bytes_eq-Decides s.name name).0 same)) apart later)
+    go true same apart others (inr later) =
+        absurd (none_named s.name rest p (is ∙ sym ((bytes_eq-Decides s.name name).0 same)) apart later)
     go false other apart others (inl here) =
         let same : bytes_eq s.name name ≡ true = (bytes_eq-Decides s.name name).1 (sym here.name ∙ is) in
         absurd (cc (other, same))
@@ -170,8 +197,11 @@ all_apart = refl
 abbrev pub Holds : Text → (List Row → Type 0) → Type 0
 Holds name P = (rows : List Row) → ArePassed (rules_of name) rows → P rows
 
-index_options : (rules : List Rule) (rows : List Row) → (list_all (takes_numbers 0 MAX_EPSILON (codes "eps")) rules ≡ true) →
-    (list_all (takes_numbers 0 MAX_EPSILON (codes "rec")) rules ≡ true) → (list_all (takes_numbers 1 MAX_WORKERS (codes "workers")) rules ≡ true) → (list_all (takes_flag (codes "narrow")) rules ≡ true) →
+index_options : (rules : List Rule) (rows : List Row) →
+    (list_all (takes_numbers 0 MAX_EPSILON (codes "eps")) rules ≡ true) →
+    (list_all (takes_numbers 0 MAX_EPSILON (codes "rec")) rules ≡ true) →
+    (list_all (takes_numbers 1 MAX_WORKERS (codes "workers")) rules ≡ true) →
+    (list_all (takes_flag (codes "narrow")) rules ≡ true) →
     ArePassed rules rows → AreIndexOptions rows
 index_options rules rows eps eps_rec workers narrow passed = record {
   eps = number_reads rules 0 MAX_EPSILON (codes "eps") rows eps passed;
@@ -181,9 +211,12 @@ index_options rules rows eps eps_rec workers narrow passed = record {
 }
 
 -- of rules that let these numbers through
-replay_options : (rules : List Rule) (rows : List Row) → (list_all (takes_numbers 1 MAX_LEVELS (codes "levels")) rules ≡ true) →
-    (list_all (takes_numbers 1 MAX_BATCH (codes "batch")) rules ≡ true) → (list_all (takes_numbers 0 MAX_READERS (codes "readers")) rules ≡ true) →
-    (list_all (takes_numbers 1 MAX_WORKERS (codes "workers")) rules ≡ true) → ArePassed rules rows → AreReplayOptions rows
+replay_options : (rules : List Rule) (rows : List Row) →
+    (list_all (takes_numbers 1 MAX_LEVELS (codes "levels")) rules ≡ true) →
+    (list_all (takes_numbers 1 MAX_BATCH (codes "batch")) rules ≡ true) →
+    (list_all (takes_numbers 0 MAX_READERS (codes "readers")) rules ≡ true) →
+    (list_all (takes_numbers 1 MAX_WORKERS (codes "workers")) rules ≡ true) →
+    ArePassed rules rows → AreReplayOptions rows
 replay_options rules rows levels batch readers workers passed = record {
   levels = number_reads rules 1 MAX_LEVELS (codes "levels") rows levels passed;
   batch = number_reads rules 1 MAX_BATCH (codes "batch") rows batch passed;
@@ -215,7 +248,10 @@ query_options rows passed = (
 
 pub relax_options : Holds (codes "relax") (λ rows. AreIndexOptions rows × IsPiecesOption rows)
 unfolding clap_on_literals
-relax_options rows passed = (index_options (rules_of (codes "relax")) rows refl refl refl refl passed, number_reads (rules_of (codes "relax")) 1 MAX_PIECES (codes "pieces") rows refl passed)
+relax_options rows passed = (
+  index_options (rules_of (codes "relax")) rows refl refl refl refl passed,
+  number_reads (rules_of (codes "relax")) 1 MAX_PIECES (codes "pieces") rows refl passed,
+)
 
 pub box_options : Holds (codes "box") IsDimensionOption
 unfolding clap_on_literals
@@ -231,7 +267,10 @@ replaying_options rows passed = replay_options (rules_of (codes "replay")) rows 
 
 pub mix_options : Holds (codes "mix") (λ rows. AreReplayOptions rows × IsSendersOption rows)
 unfolding clap_on_literals
-mix_options rows passed = (replay_options (rules_of (codes "mix")) rows refl refl refl refl passed, number_reads (rules_of (codes "mix")) 1 MAX_SENDERS (codes "senders") rows refl passed)
+mix_options rows passed = (
+  replay_options (rules_of (codes "mix")) rows refl refl refl refl passed,
+  number_reads (rules_of (codes "mix")) 1 MAX_SENDERS (codes "senders") rows refl passed,
+)
 
 pub hint_options : Holds (codes "hints") AreHintOptions
 unfolding clap_on_literals
@@ -262,29 +301,37 @@ once_all : list_all sets_once (built application).subs ≡ true
 unfolding clap_on_literals
 once_all = refl
 
-pub command_met : (words : List Text) (p : Text × List Row) → AreTaken words → subcommand_of application words ≡ Some p → IsCommand p
+pub command_met : (words : List Text) (p : Text × List Row) →
+    AreTaken words → subcommand_of application words ≡ Some p → IsCommand p
 command_met words p taken is =
     let parts = fault_parts (built application) once_all refl refl (argument_words application words) taken in
-    (entered_one (built application) once_all refl refl (Stop (built application) once_all refl refl (argument_words application words)) p parts.0 is)
+    (entered_one (built application) once_all refl refl
+    (Stop (built application) once_all refl refl (argument_words application words)) p parts.0 is)
 
 -- some name of the list is that of the command
 abbrev IsAmong : Text → List Text → Type 0
 IsAmong name [] = ⊥
 IsAmong name (n ∷ rest) = (name ≡ n) ⊎ IsAmong name rest
 
-named_among : (subs : List Shape) (p : Text × List Row) → SomeShape subs (IsOfCommand p) → IsAmong p.0 (map (λ s. s.name) subs)
+named_among : (subs : List Shape) (p : Text × List Row) →
+    SomeShape subs (IsOfCommand p) → IsAmong p.0 (map (λ s. s.name) subs)
 named_among [] p some = some
 named_among (s ∷ rest) p (inl here) = inl here.name
 named_among (s ∷ rest) p (inr later) = inr (named_among rest p later)
 
-found_among : (name : Text) (rows : List Command) → IsAmong name (map (λ c. c.name) rows) → (c : Command) × (find (λ c. bytes_eq name c.name) rows ≡ Some c)
+found_among : (name : Text) (rows : List Command) →
+    IsAmong name (map (λ c. c.name) rows) → (c : Command) × (find (λ c. bytes_eq name c.name) rows ≡ Some c)
 found_among name [] some = absurd some
 found_among name (c ∷ rest) some = go (bytes_eq name c.name) refl (found_among name rest) some
   where
-    go : (t : Bool) → bytes_eq name c.name ≡ t → (IsAmong name (map (λ c. c.name) rest) → (found : Command) × (find (λ c. bytes_eq name c.name) rest ≡ Some found)) →
-        IsAmong name (map (λ c. c.name) (c ∷ rest)) → (found : Command) × (cond t (Some c) (find (λ c. bytes_eq name c.name) rest) ≡ Some found)
+    go : (t : Bool) → bytes_eq name c.name ≡ t →
+        (IsAmong name (map (λ c. c.name) rest) →
+        (found : Command) × (find (λ c. bytes_eq name c.name) rest ≡ Some found)) →
+        IsAmong name (map (λ c. c.name) (c ∷ rest)) →
+        (found : Command) × (cond t (Some c) (find (λ c. bytes_eq name c.name) rest) ≡ Some found)
     go true same others _ = (c, refl)
-    go false other others (inl is) = let same : bytes_eq name c.name ≡ true = (bytes_eq-Decides name c.name).1 is in absurd (cc (other, same))
+    go false other others (inl is) =
+        let same : bytes_eq name c.name ≡ true = (bytes_eq-Decides name c.name).1 is in absurd (cc (other, same))
     go false other others (inr later) = others later
 
 same_names : map (λ s. s.name) (built application).subs ≡ map (λ c. c.name) commands
@@ -300,7 +347,8 @@ asks p is =
 pub words_ask : (words : List Text) → AreTaken words → (request : Request) × AskFor words request
 words_ask words taken = go (subcommand_of application words) refl
   where
-    go : (o : Option (Text × List Row)) → subcommand_of application words ≡ o → (request : Request) × AskFor words request
+    go : (o : Option (Text × List Row)) →
+        subcommand_of application words ≡ o → (request : Request) × AskFor words request
     go None none =
         let parts = fault_parts (built application) once_all refl refl (argument_words application words) taken in
         let a = built application in
@@ -314,7 +362,8 @@ words_ask words taken = go (subcommand_of application words) refl
 
 -- the command and its rows, as the getter tells them
 both_told : {Z : Type 0} (o : Option (Box SubCommand Z)) (name : Text) (rows : List Row) →
-    Some name ≡ option_map (λ b. (out-SubCommand (box_value b)).name.now) o → Some rows ≡ option_map (λ p. p.1) (subcommand_rows o) →
+    Some name ≡ option_map (λ b. (out-SubCommand (box_value b)).name.now) o →
+    Some rows ≡ option_map (λ p. p.1) (subcommand_rows o) →
     subcommand_rows o ≡ Some (name, rows)
 both_told None name rows named found = cc
 both_told (Some b) name rows named found =
@@ -322,16 +371,20 @@ both_told (Some b) name rows named found =
     let same_rows : rows ≡ rows_of (found_of (out-SubCommand (box_value b)).matches) = cc in
     ap₂ (λ (n : Text) (r : List Row). Some (n, r)) (sym same_name) (sym same_rows)
 
-pub met_rows : (m : ArgMatches) (name : Text) (rows : List Row) → Some name ≡ subcommand_name_of m → Some rows ≡ option_map (λ p. p.1) (subcommand_rows_of m) →
+pub met_rows : (m : ArgMatches) (name : Text) (rows : List Row) →
+    Some name ≡ subcommand_name_of m → Some rows ≡ option_map (λ p. p.1) (subcommand_rows_of m) →
     subcommand_rows_of m ≡ Some (name, rows)
 met_rows m name rows named found = both_told (out-ArgMatches m).subcommand name rows named found
 
 -- what the options of the command of a name hold, by the name that was asked for
-pub options_of : {P : List Row → Type 0} (p : Text × List Row) (asked : Text) → Holds asked P → IsCommand p → bytes_eq p.0 asked ≡ true → P p.1
-options_of p asked holds is same = holds p.1 (passed_in asked (built application).subs p ((bytes_eq-Decides p.0 asked).0 same) all_apart is)
+pub options_of : {P : List Row → Type 0} (p : Text × List Row) (asked : Text) →
+    Holds asked P → IsCommand p → bytes_eq p.0 asked ≡ true → P p.1
+options_of p asked holds is same =
+    holds p.1 (passed_in asked (built application).subs p ((bytes_eq-Decides p.0 asked).0 same) all_apart is)
 
 -- words that are taken are never refused for their command
-pub never_refused : {E : Type 0} (words : List Text) (found : Option declared.Request) (e : E) → AreTaken words → option_map asked_of found ≡ request_of words →
+pub never_refused : {E : Type 0} (words : List Text) (found : Option declared.Request) (e : E) →
+    AreTaken words → option_map asked_of found ≡ request_of words →
     ok_or found e ≡ Err e → ⊥
 never_refused words None e taken is refused =
     let request = words_ask words taken in
@@ -348,4 +401,5 @@ unfolding clap_on_literals
 is_free_application = refl
 
 pub some_request : (words : List Text) → AreTaken words → IsSome (request_of words)
-some_request words taken = let request = words_ask words taken in subst (λ (o : Option Request). IsSome o) (sym request.1.asks) (search rules)
+some_request words taken =
+    let request = words_ask words taken in subst (λ (o : Option Request). IsSome o) (sym request.1.asks) (search rules)

@@ -82,9 +82,11 @@ relax_rules = build_rules ++ positional (codes "SCRIPT") ∷ number (codes "piec
 abbrev pub points_rules : List Rule
 points_rules = positional (codes "FILE") ∷ positional (codes "SCRIPT") ∷ number (codes "dims") 2 4 (codes "2") ∷ []
 
--- a script of updates and questions, how many levels the map has that they are made to and asked of, and how many updates a batch has
+-- a script of updates and questions, how many levels the map has that
+-- they are made to and asked of, and how many updates a batch has
 abbrev pub batch_rules : List Rule
-batch_rules = positional (codes "SCRIPT") ∷ number (codes "levels") 1 MAX_LEVELS (codes "20") ∷ number (codes "batch") 1 MAX_BATCH (codes "16") ∷ []
+batch_rules = positional (codes "SCRIPT")
+    ∷ number (codes "levels") 1 MAX_LEVELS (codes "20") ∷ number (codes "batch") 1 MAX_BATCH (codes "16") ∷ []
 
 -- and how many readers ask beside the writer
 abbrev pub replay_rules : List Rule
@@ -108,7 +110,8 @@ hints_rules = positional (codes "FILE") ∷ number (codes "eps") 0 MAX_EPSILON (
 
 -- a key file, a file of hints, a script of questions, and how wide the keys are
 abbrev pub find_rules : List Rule
-find_rules = positional (codes "FILE") ∷ positional (codes "HINTS") ∷ positional (codes "SCRIPT") ∷ flag (codes "narrow") ∷ []
+find_rules =
+    positional (codes "FILE") ∷ positional (codes "HINTS") ∷ positional (codes "SCRIPT") ∷ flag (codes "narrow") ∷ []
 
 -- the program before its commands. No public clause cites it
 abbrev pub bare_program : App

@@ -1,9 +1,13 @@
--- The commands, each in one row: the definition that `clap` is given, and what it finds for a command, follow from the rows.
+-- The commands, each in one row: the definition that `clap` is
+-- given, and what it finds for a command, follow from the rows.
 use Rattle.std.specs.Prelude.{List, [], ◌∷◌, ◌++◌, Option, codes, bytes_eq, map, find, option_map}
 use Rattle.clap.specs.Words.{Text, Row, Rule, Shape, App}
-use Rattle.command_line.specs.Application.{command, program_with, build_rules, query_rules, relax_rules, points_rules, replay_rules, mix_rules, hints_rules, find_rules, drill_rules, check_rules}
-use Rattle.command_line.specs.Requests.{Request, building_of, query_of, relax_of, searching_of, replaying_of, mix_of, hinting_of, finding_of, drilling_of, checking_of}
-use Rattle.command_line.specs.Requests.Request.{build, explain, box, near, replay, hints, find as find_of, drill, save, check}
+use Rattle.command_line.specs.Application.{command, program_with, build_rules, query_rules, relax_rules, points_rules}
+use Rattle.command_line.specs.Application.{replay_rules, mix_rules, hints_rules, find_rules, drill_rules, check_rules}
+use Rattle.command_line.specs.Requests.{Request, building_of, query_of, relax_of, searching_of, replaying_of}
+use Rattle.command_line.specs.Requests.{mix_of, hinting_of, finding_of, drilling_of, checking_of}
+use Rattle.command_line.specs.Requests.Request.{build, explain, box, near, replay, hints}
+use Rattle.command_line.specs.Requests.Request.{find as find_of, drill, save, check}
 
 -- a command: its name, its arguments, and what it asks for by what was found for them
 pub record Command : Type 0 where

@@ -32,7 +32,8 @@ pub record Searching : Type 0 where
   pub script : Text
   pub dims : ℕ
 
--- a script of updates and questions, how many levels the map has, how many updates a batch, and how many readers there are; workers aren't told, since no answer depends on them
+-- a script of updates and questions, how many levels the map has, how many updates a batch,
+-- and how many readers there are; workers aren't told, since no answer depends on them
 pub record Replaying : Type 0 where
   pub script : Text
   pub levels : ℕ
@@ -65,7 +66,8 @@ pub record Finding : Type 0 where
   pub script : Text
   pub narrow : Bool
 
--- each command, with the names of its files and its options; `bits` is how many bits of a key the table goes by that finds a query's positions, and 0 where none is asked for
+-- each command, with the names of its files and its options; `bits` is how many bits of
+-- a key the table goes by that finds a query's positions, and 0 where none is asked for
 pub data Request : Type 0 where
   build : (building : Building) → Request
   explain : (building : Building) → Request
@@ -100,7 +102,8 @@ building_of rows = record {
 }
 
 abbrev pub query_of : List Row → Request
-query_of rows = query (building_of rows) (name_in (codes "SCRIPT") rows) (is_given (codes "windows") rows) (number_in (codes "buckets") 0 rows)
+query_of rows = query (building_of rows)
+    (name_in (codes "SCRIPT") rows) (is_given (codes "windows") rows) (number_in (codes "buckets") 0 rows)
 
 abbrev pub relax_of : List Row → Request
 relax_of rows = relax (building_of rows) (name_in (codes "SCRIPT") rows) (number_in (codes "pieces") 4 rows)

@@ -15,8 +15,10 @@ abbrev pub no_centre : Centre
 no_centre = record { place = []; count = 0 }
 
 -- how many points there are is told by the coordinates
-pub count_is : (d : ℕ) (coords : List ℕ) → IsDimension d → (points : ArePoints d coords) → length coords / d ≡ points.count
-count_is d coords dimension points = ap (λ (n : ℕ). n / d) points.whole ∙ mul-div_cancel_left points.count (omega (arith, dimension.0))
+pub count_is : (d : ℕ) (coords : List ℕ) →
+    IsDimension d → (points : ArePoints d coords) → length coords / d ≡ points.count
+count_is d coords dimension points =
+    ap (λ (n : ℕ). n / d) points.whole ∙ mul-div_cancel_left points.count (omega (arith, dimension.0))
 
 pub points_of : (d : ℕ) (coords : List ℕ) → length coords ≡ d * (length coords / d) → length coords / d < 2 ^ 32 →
     All (λ value. value < 2 ^ coordinate_bits d) coords → ArePoints d coords

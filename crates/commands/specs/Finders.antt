@@ -30,18 +30,22 @@ pub record IsSortedIndexOf (keys : List ℕ) (bounds : Bounds) (index : PgmIndex
   pub never_falls : IsNonDecreasing keys
   pub of : IsIndexOf keys bounds.eps bounds.eps_rec index
 
--- it finds positions among these keys, and where bits of a key are told by a table over their one index that goes by so many
+-- it finds positions among these keys, and where bits of a key
+-- are told by a table over their one index that goes by so many
 pub record FindsAsAsked (keys : List ℕ) (bounds : Bounds) (bits : ℕ) (finder : Finder) : Type 0 where
   pub among : keys_of finder ≡ keys
   pub way : 0 < bits → (index : PgmIndex) × IsSortedIndexOf keys bounds index × FindsBy index bits finder
 
--- the levels of the relaxed index of these keys, with these bounds, whose points are cut into so many even pieces: level 0 has at most a run more for
+-- the levels of the relaxed index of these keys, with these bounds, whose
+-- points are cut into so many even pieces: level 0 has at most a run more for
 -- each cut than a least cover
-pub record AreEvenLevels (keys : List ℕ) (bounds : Bounds) (pieces : ℕ) (cuts : List ℕ) (levels : List (List Segment)) : Type 0 where
+pub record AreEvenLevels (keys : List ℕ) (bounds : Bounds) (pieces : ℕ) (cuts : List ℕ) (levels : List (List Segment)) :
+    Type 0 where
   pub even : AreCutsAt (length (xs_of keys)) pieces (even_place (length (xs_of keys)) pieces) cuts
   pub index : IsRelaxedIndex keys bounds.eps bounds.eps_rec cuts levels
   pub within : 0 < length keys →
-      IsCoverWithin (length cuts) (points_of (xs_of keys) (ys_of keys)) bounds.eps 0 (length (xs_of keys)) (starts_of (level_at levels 0))
+      IsCoverWithin (length cuts)
+      (points_of (xs_of keys) (ys_of keys)) bounds.eps 0 (length (xs_of keys)) (starts_of (level_at levels 0))
 
 -- the relaxed index of these keys, with these bounds, whose points are cut at `slack` places into so many even pieces
 pub record IsRelaxedOf (keys : List ℕ) (bounds : Bounds) (pieces slack : ℕ) (index : PgmIndex) : Type 0 where

@@ -15,7 +15,8 @@ pub record Bounds : Type 0 where
   pub eps : ℕ
   pub eps_rec : ℕ
 
--- each command, with its inputs and its options; `bits` is how many bits of a key the table of a query goes by, 0 where none is asked for; the hints that a find is led by aren't told, since no answer depends on them
+-- each command, with its inputs and its options; `bits` is how many bits of a key the table of a query goes
+-- by, 0 where none is asked for; the hints that a find is led by aren't told, since no answer depends on them
 pub data Task : Type 0 where
   build : (keys : List ℕ) (bounds : Bounds) → Task
   explain : (keys : List ℕ) (bounds : Bounds) → Task
@@ -44,8 +45,10 @@ mix_of m = mix m.history.updates.items m.history.questions.items m.history.plan.
 abbrev pub task_of : declared.Task → Task
 task_of (variant.Build indexing) = build indexing.sorted.keys.items (bounds_of indexing.bounds)
 task_of (variant.Explain indexing) = explain indexing.sorted.keys.items (bounds_of indexing.bounds)
-task_of (variant.Query a) = query a.indexing.sorted.keys.items (bounds_of a.indexing.bounds) a.questions.items a.windows a.table.bits
-task_of (variant.Relax r) = relax r.indexing.sorted.keys.items (bounds_of r.indexing.bounds) r.pieces.count r.questions.items
+task_of (variant.Query a) =
+    query a.indexing.sorted.keys.items (bounds_of a.indexing.bounds) a.questions.items a.windows a.table.bits
+task_of (variant.Relax r) =
+    relax r.indexing.sorted.keys.items (bounds_of r.indexing.bounds) r.pieces.count r.questions.items
 task_of (variant.Box search) = box search.points.dims search.points.coords.items search.regions.items
 task_of (variant.Near neighbours) = near neighbours.points.dims neighbours.points.coords.items neighbours.centres.items
 task_of (variant.Replay history) = replay_of history

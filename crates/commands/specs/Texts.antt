@@ -1,7 +1,8 @@
 -- The text of each task.
 use Rattle.std.specs.Prelude.{ℕ, List}
 use Rattle.commands.specs.Tasks.{Task}
-use Rattle.commands.specs.Tasks.Task.{build, explain, query, relax, box, near, replay, drill, save, check, mix, hints, find}
+use Rattle.commands.specs.Tasks.Task.{build, explain, query, relax, box, near}
+use Rattle.commands.specs.Tasks.Task.{replay, drill, save, check, mix, hints, find}
 use Rattle.commands.specs.Texts.Build.{IsBuilt}
 use Rattle.commands.specs.Texts.Explain.{IsExplained}
 use Rattle.commands.specs.Texts.Query.{IsAnswered}

@@ -1,7 +1,9 @@
 -- A line with its gap at each place of a run, and which pair it touches first.
 --
--- The idea: a line that fits the run rises from c to d by at most the pair's slope, and by just that where it touches both. So
--- where the line of (a, b) fits, (a, b) is the best pair, and a pair of the same slope touches that same line. Then it is
+-- The idea: a line that fits the run rises from c to d by at most
+-- the pair's slope, and by just that where it touches both. So
+-- where the line of (a, b) fits, (a, b) is the best pair, and
+-- a pair of the same slope touches that same line. Then it is
 -- enough that no place before a touches as a does, and none between a and b as b does (`first_of_ties`). The other way
 -- round, the best pair's line fits where no pair's slope rules it out, read off at each place by the pair with a or b
 -- (`allows-from_pairs`).
@@ -53,7 +55,8 @@ not_below low up most s e a b j apart from to =
     elim (cases_order j b) [
       | inl same ↦ rw same (omega (arith, apart.at_b))
       | inr (inl before) ↦ omega (arith, apart.at_b, apart.rises j b (pair_of s e j b from before pair.to_end))
-      | inr (inr after) ↦ omega (arith, apart.at_b, apart.falls b j (pair_of s e b j (omega (arith, pair.from_start, pair.rises)) after to))
+      | inr (inr after) ↦ omega
+          (arith, apart.at_b, apart.falls b j (pair_of s e b j (omega (arith, pair.from_start, pair.rises)) after to))
     ]
 
 not_above : (low up : ℕ → ℕ) (most s e a b j : ℕ) → AreApart low up most s e a b → s ≤ j → j < e → up j ≤ low j + most
@@ -61,7 +64,8 @@ not_above low up most s e a b j apart from to =
     let pair = apart.pair in
     elim (cases_order j a) [
       | inl same ↦ rw same (omega (arith, apart.at_a))
-      | inr (inl before) ↦ omega (arith, apart.at_a, apart.falls j a (pair_of s e j a from before (omega (arith, pair.rises, pair.to_end))))
+      | inr (inl before) ↦ omega
+          (arith, apart.at_a, apart.falls j a (pair_of s e j a from before (omega (arith, pair.rises, pair.to_end))))
       | inr (inr after) ↦ omega (arith, apart.at_a, apart.rises a j (pair_of s e a j pair.from_start after to))
     ]
 
@@ -71,7 +75,8 @@ before_a low up most s e a b j apart from before =
     elim (cases_lt (low j) (up j)) [
       | inl less ↦ less
       | inr more ↦
-          let comes = apart.first j b (pair_of s e j b from (omega (arith, pair.rises)) pair.to_end) (omega (arith, apart.at_b, more)) in
+          let comes = apart.first j b
+          (pair_of s e j b from (omega (arith, pair.rises)) pair.to_end) (omega (arith, apart.at_b, more)) in
           elim comes [ inl later ↦ absurd (omega (arith, later)) | inr same ↦ absurd (omega (arith, same.1, before)) ]
     ]
 
@@ -81,11 +86,14 @@ before_b low up most s e a b j apart after before =
     elim (cases_lt (up j) (low j + most)) [
       | inl less ↦ less
       | inr more ↦
-          let comes = apart.first a j (pair_of s e a j pair.from_start after (omega (arith, pair.to_end, before))) (omega (arith, apart.at_a, more)) in
-          elim comes [ inl later ↦ absurd (omega (arith, later, before)) | inr same ↦ absurd (omega (arith, same.0, before)) ]
+          let comes = apart.first a j (pair_of s e a j pair.from_start after (omega (arith, pair.to_end, before)))
+          (omega (arith, apart.at_a, more)) in
+          elim comes
+          [ inl later ↦ absurd (omega (arith, later, before)) | inr same ↦ absurd (omega (arith, same.0, before)) ]
     ]
 
-pub allows-from_pairs : (low up : ℕ → ℕ) (most s e a b : ℕ) → AreApart low up most s e a b → AllAllow low up most s e a b
+pub allows-from_pairs : (low up : ℕ → ℕ) (most s e a b : ℕ) →
+    AreApart low up most s e a b → AllAllow low up most s e a b
 allows-from_pairs low up most s e a b apart = λ j from to. record {
   not_below = not_below low up most s e a b j apart from to;
   not_above = not_above low up most s e a b j apart from to;

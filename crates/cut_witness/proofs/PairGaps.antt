@@ -1,6 +1,7 @@
 -- The gaps of a steep and of a flat pair's line, by the slopes of pairs.
 --
--- Main results: `HasSteepPair-from_gaps` and `gaps-from_has_steep` (each place is allowed exactly where the pair is the steep one
+-- Main results: `HasSteepPair-from_gaps` and `gaps-from_has_steep`
+-- (each place is allowed exactly where the pair is the steep one
 -- and some line fits), and the same of the flat pair. Slopes are compared by cross products, cleared of differences.
 use Rattle.std.proofs.Common.{◌≡◌, ℕ, ◌+◌, ◌*◌, ◌-◌, ◌^◌, ◌<◌, ◌≤◌, pos, ◌-ℤ◌, ap, sym, subst, arith}
 use Rattle.std.proofs.Math.Nat.{mul-le-mul_right}
@@ -9,7 +10,8 @@ use borrow.Author.Differences.{up, down}
 use Rattle.exact_cross.specs.Points.{Points, IsAscending}
 use Rattle.exact_cross.specs.Lines.{IsWithin, SomeLineFits}
 use Rattle.exact_cross.specs.Steep.{IsPair, IsSteepPair, IsFlatPair}
-use Rattle.exact_cross.proofs.CallerLemmas.{products_le-out, products_le-in, IsWithin-in, flat_at_most_steep, some_line-one_place}
+use Rattle.exact_cross.proofs.CallerLemmas.{products_le-out, products_le-in, IsWithin-in}
+use Rattle.exact_cross.proofs.CallerLemmas.{flat_at_most_steep, some_line-one_place}
 use Rattle.cut_witness.specs.Pairs.{HasSteepPair, HasFlatPair, steep_gap, flat_gap}
 use Rattle.cut_witness.proofs.Gaps.{AllAllow, first_of_ties, allows-from_pairs}
 
@@ -20,8 +22,10 @@ line_within : (p : Points) (eps j n1 n2 k1 k2 w : ℕ) (positive : 0 < w) →
 line_within p eps j n1 n2 k1 k2 w positive above below =
     let slope : up (pos n1 -ℤ pos n2) + n2 ≡ down (pos n1 -ℤ pos n2) + n1 = omega (arith, ints) in
     let height : up (pos k1 -ℤ pos k2) + k2 ≡ down (pos k1 -ℤ pos k2) + k1 = omega (arith, ints) in
-    let at : (up (pos n1 -ℤ pos n2) + n2) * p.x j ≡ (down (pos n1 -ℤ pos n2) + n1) * p.x j = ap (λ (t : ℕ). t * p.x j) slope in
-    IsWithin-in p eps (record { num = pos n1 -ℤ pos n2; icpt = pos k1 -ℤ pos k2; den = w; positive = positive }) j (omega (arith, at, height, above)) (omega (arith, at, height, below))
+    let at : (up (pos n1 -ℤ pos n2) + n2) * p.x j
+    ≡ (down (pos n1 -ℤ pos n2) + n1) * p.x j = ap (λ (t : ℕ). t * p.x j) slope in
+    IsWithin-in p eps (record { num = pos n1 -ℤ pos n2; icpt = pos k1 -ℤ pos k2; den = w; positive = positive }) j
+    (omega (arith, at, height, above)) (omega (arith, at, height, below))
 
 -- what two places c before d, and the pair, say of each other
 record Climbs (p : Points) (a b c d : ℕ) : Type 0 where
@@ -29,7 +33,8 @@ record Climbs (p : Points) (a b c d : ℕ) : Type 0 where
   climb : p.y b - p.y a + p.y a ≡ p.y b
   gap : p.x d ≡ p.x c + (p.x d - p.x c)
 
-climbs_of : (p : Points) (e a b c d : ℕ) → IsAscending p → e ≤ p.count → a < b → b < e → c < d → d < e → Climbs p a b c d
+climbs_of : (p : Points) (e a b c d : ℕ) →
+    IsAscending p → e ≤ p.count → a < b → b < e → c < d → d < e → Climbs p a b c d
 climbs_of p e a b c d ascends inside rises to rises' to' =
     let right : p.x a < p.x b = ascends.x_rises a b rises (omega arith) in
     let high : p.y a ≤ p.y b = ascends.y_never_falls a b (omega arith) (omega arith) in
@@ -39,44 +44,59 @@ climbs_of p e a b c d ascends inside rises to rises' to' =
 -- the differences of the gaps of a steep pair at c and d, and cross products
 module _ (ya yb yc yd eps w g xa xc xd climb : ℕ) (climbs : climb + ya ≡ yb) (right : xd ≡ xc + g) where
   steep_rises : (yb + 2 * eps) * g + yc * w ≤ (yd + 2 * eps) * w + ya * g →
-      ya * w + (climb + 2 * eps) * xd + (yc * w + (climb + 2 * eps) * xa) ≤ ya * w + (climb + 2 * eps) * xc + (yd * w + (climb + 2 * eps) * xa) + 2 * eps * w
+      ya * w + (climb + 2 * eps) * xd + (yc * w + (climb + 2 * eps) * xa)
+      ≤ ya * w + (climb + 2 * eps) * xc + (yd * w + (climb + 2 * eps) * xa) + 2 * eps * w
   steep_rises h = omega (arith, h, ap (λ (t : ℕ). (climb + 2 * eps) * t) right, ap (λ (t : ℕ). t * g) climbs)
 
-  steep_rises-out : ya * w + (climb + 2 * eps) * xd + (yc * w + (climb + 2 * eps) * xa) ≤ ya * w + (climb + 2 * eps) * xc + (yd * w + (climb + 2 * eps) * xa) + 2 * eps * w →
+  steep_rises-out : ya * w + (climb + 2 * eps) * xd + (yc * w + (climb + 2 * eps) * xa)
+      ≤ ya * w + (climb + 2 * eps) * xc + (yd * w + (climb + 2 * eps) * xa) + 2 * eps * w →
       (yb + 2 * eps) * g + yc * w ≤ (yd + 2 * eps) * w + ya * g
   steep_rises-out h = omega (arith, h, ap (λ (t : ℕ). (climb + 2 * eps) * t) right, ap (λ (t : ℕ). t * g) climbs)
 
-  steep_ties : ya * w + (climb + 2 * eps) * xc + (yd * w + (climb + 2 * eps) * xa) + 2 * eps * w ≤ ya * w + (climb + 2 * eps) * xd + (yc * w + (climb + 2 * eps) * xa) →
+  steep_ties : ya * w + (climb + 2 * eps) * xc + (yd * w + (climb + 2 * eps) * xa) + 2 * eps * w
+      ≤ ya * w + (climb + 2 * eps) * xd + (yc * w + (climb + 2 * eps) * xa) →
       (yd + 2 * eps) * w + ya * g ≤ (yb + 2 * eps) * g + yc * w
   steep_ties h = omega (arith, h, ap (λ (t : ℕ). (climb + 2 * eps) * t) right, ap (λ (t : ℕ). t * g) climbs)
 
   steep_ties-out : (yd + 2 * eps) * w + ya * g ≤ (yb + 2 * eps) * g + yc * w →
-      ya * w + (climb + 2 * eps) * xc + (yd * w + (climb + 2 * eps) * xa) + 2 * eps * w ≤ ya * w + (climb + 2 * eps) * xd + (yc * w + (climb + 2 * eps) * xa)
+      ya * w + (climb + 2 * eps) * xc + (yd * w + (climb + 2 * eps) * xa) + 2 * eps * w
+      ≤ ya * w + (climb + 2 * eps) * xd + (yc * w + (climb + 2 * eps) * xa)
   steep_ties-out h = omega (arith, h, ap (λ (t : ℕ). (climb + 2 * eps) * t) right, ap (λ (t : ℕ). t * g) climbs)
 
   steep_falls : yd * w + ya * g ≤ (yb + 2 * eps) * g + (yc + 2 * eps) * w →
-      ya * w + (climb + 2 * eps) * xc + (yd * w + (climb + 2 * eps) * xa) ≤ ya * w + (climb + 2 * eps) * xd + (yc * w + (climb + 2 * eps) * xa) + 2 * eps * w
+      ya * w + (climb + 2 * eps) * xc + (yd * w + (climb + 2 * eps) * xa)
+      ≤ ya * w + (climb + 2 * eps) * xd + (yc * w + (climb + 2 * eps) * xa) + 2 * eps * w
   steep_falls h = omega (arith, h, ap (λ (t : ℕ). (climb + 2 * eps) * t) right, ap (λ (t : ℕ). t * g) climbs)
 
   flat_rises : yd * w + (ya + 2 * eps) * g ≤ yb * g + (yc + 2 * eps) * w →
-      yd * w + climb * xa + 2 * eps * xd + (ya * w + climb * xc + 2 * eps * xa) ≤ yc * w + climb * xa + 2 * eps * xc + (ya * w + climb * xd + 2 * eps * xa) + 2 * eps * w
-  flat_rises h = omega (arith, h, ap (λ (t : ℕ). climb * t) right, ap (λ (t : ℕ). 2 * eps * t) right, ap (λ (t : ℕ). t * g) climbs)
+      yd * w + climb * xa + 2 * eps * xd + (ya * w + climb * xc + 2 * eps * xa)
+      ≤ yc * w + climb * xa + 2 * eps * xc + (ya * w + climb * xd + 2 * eps * xa) + 2 * eps * w
+  flat_rises h =
+      omega (arith, h, ap (λ (t : ℕ). climb * t) right, ap (λ (t : ℕ). 2 * eps * t) right, ap (λ (t : ℕ). t * g) climbs)
 
-  flat_rises-out : yd * w + climb * xa + 2 * eps * xd + (ya * w + climb * xc + 2 * eps * xa) ≤ yc * w + climb * xa + 2 * eps * xc + (ya * w + climb * xd + 2 * eps * xa) + 2 * eps * w →
+  flat_rises-out : yd * w + climb * xa + 2 * eps * xd + (ya * w + climb * xc + 2 * eps * xa)
+      ≤ yc * w + climb * xa + 2 * eps * xc + (ya * w + climb * xd + 2 * eps * xa) + 2 * eps * w →
       yd * w + (ya + 2 * eps) * g ≤ yb * g + (yc + 2 * eps) * w
-  flat_rises-out h = omega (arith, h, ap (λ (t : ℕ). climb * t) right, ap (λ (t : ℕ). 2 * eps * t) right, ap (λ (t : ℕ). t * g) climbs)
+  flat_rises-out h =
+      omega (arith, h, ap (λ (t : ℕ). climb * t) right, ap (λ (t : ℕ). 2 * eps * t) right, ap (λ (t : ℕ). t * g) climbs)
 
-  flat_ties : yc * w + climb * xa + 2 * eps * xc + (ya * w + climb * xd + 2 * eps * xa) + 2 * eps * w ≤ yd * w + climb * xa + 2 * eps * xd + (ya * w + climb * xc + 2 * eps * xa) →
+  flat_ties : yc * w + climb * xa + 2 * eps * xc + (ya * w + climb * xd + 2 * eps * xa) + 2 * eps * w
+      ≤ yd * w + climb * xa + 2 * eps * xd + (ya * w + climb * xc + 2 * eps * xa) →
       yb * g + (yc + 2 * eps) * w ≤ yd * w + (ya + 2 * eps) * g
-  flat_ties h = omega (arith, h, ap (λ (t : ℕ). climb * t) right, ap (λ (t : ℕ). 2 * eps * t) right, ap (λ (t : ℕ). t * g) climbs)
+  flat_ties h =
+      omega (arith, h, ap (λ (t : ℕ). climb * t) right, ap (λ (t : ℕ). 2 * eps * t) right, ap (λ (t : ℕ). t * g) climbs)
 
   flat_ties-out : yb * g + (yc + 2 * eps) * w ≤ yd * w + (ya + 2 * eps) * g →
-      yc * w + climb * xa + 2 * eps * xc + (ya * w + climb * xd + 2 * eps * xa) + 2 * eps * w ≤ yd * w + climb * xa + 2 * eps * xd + (ya * w + climb * xc + 2 * eps * xa)
-  flat_ties-out h = omega (arith, h, ap (λ (t : ℕ). climb * t) right, ap (λ (t : ℕ). 2 * eps * t) right, ap (λ (t : ℕ). t * g) climbs)
+      yc * w + climb * xa + 2 * eps * xc + (ya * w + climb * xd + 2 * eps * xa) + 2 * eps * w
+      ≤ yd * w + climb * xa + 2 * eps * xd + (ya * w + climb * xc + 2 * eps * xa)
+  flat_ties-out h =
+      omega (arith, h, ap (λ (t : ℕ). climb * t) right, ap (λ (t : ℕ). 2 * eps * t) right, ap (λ (t : ℕ). t * g) climbs)
 
   flat_falls : yb * g + yc * w ≤ (yd + 2 * eps) * w + (ya + 2 * eps) * g →
-      yc * w + climb * xa + 2 * eps * xc + (ya * w + climb * xd + 2 * eps * xa) ≤ yd * w + climb * xa + 2 * eps * xd + (ya * w + climb * xc + 2 * eps * xa) + 2 * eps * w
-  flat_falls h = omega (arith, h, ap (λ (t : ℕ). climb * t) right, ap (λ (t : ℕ). 2 * eps * t) right, ap (λ (t : ℕ). t * g) climbs)
+      yc * w + climb * xa + 2 * eps * xc + (ya * w + climb * xd + 2 * eps * xa)
+      ≤ yd * w + climb * xa + 2 * eps * xd + (ya * w + climb * xc + 2 * eps * xa) + 2 * eps * w
+  flat_falls h =
+      omega (arith, h, ap (λ (t : ℕ). climb * t) right, ap (λ (t : ℕ). 2 * eps * t) right, ap (λ (t : ℕ). t * g) climbs)
 
 -- the ends of the gaps
 abbrev pub steep_low : Points → ℕ → ℕ → ℕ → ℕ → ℕ
@@ -110,9 +130,15 @@ module _ (p : Points) (eps s e a b : ℕ) (ascends : IsAscending p) (inside : e 
       let here = own a b pair in
       let w = p.x b - p.x a in
       let rise = p.y b - p.y a + 2 * eps in (
-        record { num = pos rise -ℤ pos 0; icpt = pos (p.y a * w) -ℤ pos (eps * w + rise * p.x a); den = w; positive = here.width },
+        record {
+          num = pos rise -ℤ pos 0;
+          icpt = pos (p.y a * w) -ℤ pos (eps * w + rise * p.x a);
+          den = w;
+          positive = here.width;
+        },
         λ j from to. let at = allow j from to in
-            line_within p eps j rise 0 (p.y a * w) (eps * w + rise * p.x a) w here.width (omega (arith, at.not_above)) (omega (arith, at.not_below)),
+            line_within p eps j rise 0 (p.y a * w)
+            (eps * w + rise * p.x a) w here.width (omega (arith, at.not_above)) (omega (arith, at.not_below)),
       )
 
   flat_fits : FlatAllow p eps s e a b → SomeLineFits p eps s e
@@ -120,9 +146,15 @@ module _ (p : Points) (eps s e a b : ℕ) (ascends : IsAscending p) (inside : e 
       let here = own a b pair in
       let w = p.x b - p.x a in
       let climb = p.y b - p.y a in (
-        record { num = pos climb -ℤ pos (2 * eps); icpt = pos (p.y a * w + eps * w + 2 * eps * p.x a) -ℤ pos (climb * p.x a); den = w; positive = here.width },
+        record {
+          num = pos climb -ℤ pos (2 * eps);
+          icpt = pos (p.y a * w + eps * w + 2 * eps * p.x a) -ℤ pos (climb * p.x a);
+          den = w;
+          positive = here.width;
+        },
         λ j from to. let at = allow j from to in
-            line_within p eps j climb (2 * eps) (p.y a * w + eps * w + 2 * eps * p.x a) (climb * p.x a) w here.width (omega (arith, at.not_below)) (omega (arith, at.not_above)),
+            line_within p eps j climb (2 * eps) (p.y a * w + eps * w + 2 * eps * p.x a)
+            (climb * p.x a) w here.width (omega (arith, at.not_below)) (omega (arith, at.not_above)),
       )
 
   -- and the pair is the steep pair
@@ -135,14 +167,17 @@ module _ (p : Points) (eps s e a b : ℕ) (ascends : IsAscending p) (inside : e 
         let at_d = allow d (omega (arith, other.from_start, other.rises)) other.to_end in
         record {
           at_most = products_le-in (p.y b + 2 * eps) (p.y a) (p.x d - p.x c) (p.y d + 2 * eps) (p.y c) (p.x b - p.x a)
-              (steep_rises-out (p.y a) (p.y b) (p.y c) (p.y d) eps (p.x b - p.x a) (p.x d - p.x c) (p.x a) (p.x c) (p.x d) (p.y b - p.y a) here.climb here.gap
+              (steep_rises-out (p.y a) (p.y b) (p.y c) (p.y d) eps
+              (p.x b - p.x a) (p.x d - p.x c) (p.x a) (p.x c) (p.x d) (p.y b - p.y a) here.climb here.gap
               (omega (arith, at_c.not_below, at_d.not_above)));
         };
     first = λ c d other ties.
         let here = own c d other in
         first_of_ties (steep_low p eps a b) (steep_up p eps a b) (most_of p eps a b) s e a b allow c d other
-        (steep_ties-out (p.y a) (p.y b) (p.y c) (p.y d) eps (p.x b - p.x a) (p.x d - p.x c) (p.x a) (p.x c) (p.x d) (p.y b - p.y a) here.climb here.gap
-        (products_le-out (p.y d + 2 * eps) (p.y c) (p.x b - p.x a) (p.y b + 2 * eps) (p.y a) (p.x d - p.x c) ties.at_most));
+        (steep_ties-out (p.y a) (p.y b) (p.y c)
+        (p.y d) eps (p.x b - p.x a) (p.x d - p.x c) (p.x a) (p.x c) (p.x d) (p.y b - p.y a) here.climb here.gap
+        (products_le-out
+        (p.y d + 2 * eps) (p.y c) (p.x b - p.x a) (p.y b + 2 * eps) (p.y a) (p.x d - p.x c) ties.at_most));
   }
 
   IsFlatPair-from_gaps : FlatAllow p eps s e a b → IsFlatPair p eps s e a b
@@ -154,14 +189,17 @@ module _ (p : Points) (eps s e a b : ℕ) (ascends : IsAscending p) (inside : e 
         let at_d = allow d (omega (arith, other.from_start, other.rises)) other.to_end in
         record {
           at_most = products_le-in (p.y d) (p.y c + 2 * eps) (p.x b - p.x a) (p.y b) (p.y a + 2 * eps) (p.x d - p.x c)
-              (flat_rises-out (p.y a) (p.y b) (p.y c) (p.y d) eps (p.x b - p.x a) (p.x d - p.x c) (p.x a) (p.x c) (p.x d) (p.y b - p.y a) here.climb here.gap
+              (flat_rises-out (p.y a) (p.y b) (p.y c) (p.y d) eps
+              (p.x b - p.x a) (p.x d - p.x c) (p.x a) (p.x c) (p.x d) (p.y b - p.y a) here.climb here.gap
               (omega (arith, at_c.not_below, at_d.not_above)));
         };
     first = λ c d other ties.
         let here = own c d other in
         first_of_ties (flat_low p eps a b) (flat_up p eps a b) (most_of p eps a b) s e a b allow c d other
-        (flat_ties-out (p.y a) (p.y b) (p.y c) (p.y d) eps (p.x b - p.x a) (p.x d - p.x c) (p.x a) (p.x c) (p.x d) (p.y b - p.y a) here.climb here.gap
-        (products_le-out (p.y b) (p.y a + 2 * eps) (p.x d - p.x c) (p.y d) (p.y c + 2 * eps) (p.x b - p.x a) ties.at_most));
+        (flat_ties-out (p.y a) (p.y b) (p.y c)
+        (p.y d) eps (p.x b - p.x a) (p.x d - p.x c) (p.x a) (p.x c) (p.x d) (p.y b - p.y a) here.climb here.gap
+        (products_le-out
+        (p.y b) (p.y a + 2 * eps) (p.x d - p.x c) (p.y d) (p.y c + 2 * eps) (p.x b - p.x a) ties.at_most));
   }
 
   -- the steep pair of a run that some line fits allows each place
@@ -171,21 +209,30 @@ module _ (p : Points) (eps s e a b : ℕ) (ascends : IsAscending p) (inside : e 
       allows-from_pairs (steep_low p eps a b) (steep_up p eps a b) (most_of p eps a b) s e a b (record {
         pair = pair;
         at_a = omega arith;
-        at_b = omega (arith, ap (λ (t : ℕ). (p.y b - p.y a + 2 * eps) * t) self.gap, ap (λ (t : ℕ). t * (p.x b - p.x a)) self.climb);
+        at_b = omega (
+          arith,
+          ap (λ (t : ℕ). (p.y b - p.y a + 2 * eps) * t) self.gap,
+          ap (λ (t : ℕ). t * (p.x b - p.x a)) self.climb,
+        );
         rises = λ c d other.
             let here = own c d other in
-            steep_rises (p.y a) (p.y b) (p.y c) (p.y d) eps (p.x b - p.x a) (p.x d - p.x c) (p.x a) (p.x c) (p.x d) (p.y b - p.y a) here.climb here.gap
-            (products_le-out (p.y b + 2 * eps) (p.y a) (p.x d - p.x c) (p.y d + 2 * eps) (p.y c) (p.x b - p.x a) (steep.least c d other).at_most);
+            steep_rises (p.y a) (p.y b) (p.y c)
+            (p.y d) eps (p.x b - p.x a) (p.x d - p.x c) (p.x a) (p.x c) (p.x d) (p.y b - p.y a) here.climb here.gap
+            (products_le-out (p.y b + 2 * eps)
+            (p.y a) (p.x d - p.x c) (p.y d + 2 * eps) (p.y c) (p.x b - p.x a) (steep.least c d other).at_most);
         falls = λ c d other.
             let here = own c d other in
-            steep_falls (p.y a) (p.y b) (p.y c) (p.y d) eps (p.x b - p.x a) (p.x d - p.x c) (p.x a) (p.x c) (p.x d) (p.y b - p.y a) here.climb here.gap
+            steep_falls (p.y a) (p.y b) (p.y c)
+            (p.y d) eps (p.x b - p.x a) (p.x d - p.x c) (p.x a) (p.x c) (p.x d) (p.y b - p.y a) here.climb here.gap
             (products_le-out (p.y d) (p.y c + 2 * eps) (p.x b - p.x a) (p.y b + 2 * eps) (p.y a) (p.x d - p.x c)
             (flat_at_most_steep p eps s e c d a b ascends inside fits other pair).at_most);
         first = λ c d other ties.
             let here = own c d other in
             steep.first c d other (record {
-              at_most = products_le-in (p.y d + 2 * eps) (p.y c) (p.x b - p.x a) (p.y b + 2 * eps) (p.y a) (p.x d - p.x c)
-                  (steep_ties (p.y a) (p.y b) (p.y c) (p.y d) eps (p.x b - p.x a) (p.x d - p.x c) (p.x a) (p.x c) (p.x d) (p.y b - p.y a) here.climb here.gap ties);
+              at_most =
+                  products_le-in (p.y d + 2 * eps) (p.y c) (p.x b - p.x a) (p.y b + 2 * eps) (p.y a) (p.x d - p.x c)
+                  (steep_ties (p.y a) (p.y b) (p.y c) (p.y d) eps
+                  (p.x b - p.x a) (p.x d - p.x c) (p.x a) (p.x c) (p.x d) (p.y b - p.y a) here.climb here.gap ties);
             });
       })
 
@@ -195,21 +242,31 @@ module _ (p : Points) (eps s e a b : ℕ) (ascends : IsAscending p) (inside : e 
       allows-from_pairs (flat_low p eps a b) (flat_up p eps a b) (most_of p eps a b) s e a b (record {
         pair = pair;
         at_a = omega arith;
-        at_b = omega (arith, ap (λ (t : ℕ). (p.y b - p.y a) * t) self.gap, ap (λ (t : ℕ). 2 * eps * t) self.gap, ap (λ (t : ℕ). t * (p.x b - p.x a)) self.climb);
+        at_b = omega (
+          arith,
+          ap (λ (t : ℕ). (p.y b - p.y a) * t) self.gap,
+          ap (λ (t : ℕ). 2 * eps * t) self.gap,
+          ap (λ (t : ℕ). t * (p.x b - p.x a)) self.climb,
+        );
         rises = λ c d other.
             let here = own c d other in
-            flat_rises (p.y a) (p.y b) (p.y c) (p.y d) eps (p.x b - p.x a) (p.x d - p.x c) (p.x a) (p.x c) (p.x d) (p.y b - p.y a) here.climb here.gap
-            (products_le-out (p.y d) (p.y c + 2 * eps) (p.x b - p.x a) (p.y b) (p.y a + 2 * eps) (p.x d - p.x c) (flat.greatest c d other).at_most);
+            flat_rises (p.y a) (p.y b) (p.y c)
+            (p.y d) eps (p.x b - p.x a) (p.x d - p.x c) (p.x a) (p.x c) (p.x d) (p.y b - p.y a) here.climb here.gap
+            (products_le-out (p.y d) (p.y c + 2 * eps)
+            (p.x b - p.x a) (p.y b) (p.y a + 2 * eps) (p.x d - p.x c) (flat.greatest c d other).at_most);
         falls = λ c d other.
             let here = own c d other in
-            flat_falls (p.y a) (p.y b) (p.y c) (p.y d) eps (p.x b - p.x a) (p.x d - p.x c) (p.x a) (p.x c) (p.x d) (p.y b - p.y a) here.climb here.gap
+            flat_falls (p.y a) (p.y b) (p.y c)
+            (p.y d) eps (p.x b - p.x a) (p.x d - p.x c) (p.x a) (p.x c) (p.x d) (p.y b - p.y a) here.climb here.gap
             (products_le-out (p.y b) (p.y a + 2 * eps) (p.x d - p.x c) (p.y d + 2 * eps) (p.y c) (p.x b - p.x a)
             (flat_at_most_steep p eps s e a b c d ascends inside fits pair other).at_most);
         first = λ c d other ties.
             let here = own c d other in
             flat.first c d other (record {
-              at_most = products_le-in (p.y b) (p.y a + 2 * eps) (p.x d - p.x c) (p.y d) (p.y c + 2 * eps) (p.x b - p.x a)
-                  (flat_ties (p.y a) (p.y b) (p.y c) (p.y d) eps (p.x b - p.x a) (p.x d - p.x c) (p.x a) (p.x c) (p.x d) (p.y b - p.y a) here.climb here.gap ties);
+              at_most =
+                  products_le-in (p.y b) (p.y a + 2 * eps) (p.x d - p.x c) (p.y d) (p.y c + 2 * eps) (p.x b - p.x a)
+                  (flat_ties (p.y a) (p.y b) (p.y c) (p.y d) eps
+                  (p.x b - p.x a) (p.x d - p.x c) (p.x a) (p.x c) (p.x d) (p.y b - p.y a) here.climb here.gap ties);
             });
       })
 
@@ -236,14 +293,16 @@ HasSteepPair-alone p eps s e a b one low high = record {
 }
 
 -- the sums fit 128 bits: heights of 33 bits, and x of 64
-pub small_sum : (y w r x s : ℕ) → y < 2 ^ 32 → w < 2 ^ 64 → r < 2 ^ 33 → x < 2 ^ 64 → s < 2 ^ 33 → y * w + r * x + s * w < 2 ^ 128
+pub small_sum : (y w r x s : ℕ) →
+    y < 2 ^ 32 → w < 2 ^ 64 → r < 2 ^ 33 → x < 2 ^ 64 → s < 2 ^ 33 → y * w + r * x + s * w < 2 ^ 128
 small_sum y w r x s small wide steep far slack =
     let one : y * w ≤ 4294967296 * w = mul-le-mul_right w (omega arith) in
     let two : r * x ≤ 8589934592 * x = mul-le-mul_right x (omega arith) in
     let three : s * w ≤ 8589934592 * w = mul-le-mul_right w (omega arith) in
     omega arith
 
-pub small_sums : (y w c x x' s : ℕ) → y < 2 ^ 32 → w < 2 ^ 64 → c < 2 ^ 32 → x < 2 ^ 64 → x' < 2 ^ 64 → s < 2 ^ 33 → y * w + c * x + s * x' + s * w < 2 ^ 128
+pub small_sums : (y w c x x' s : ℕ) → y < 2 ^ 32 →
+    w < 2 ^ 64 → c < 2 ^ 32 → x < 2 ^ 64 → x' < 2 ^ 64 → s < 2 ^ 33 → y * w + c * x + s * x' + s * w < 2 ^ 128
 small_sums y w c x x' s small wide climb far far' slack =
     let one : y * w ≤ 4294967296 * w = mul-le-mul_right w (omega arith) in
     let two : c * x ≤ 4294967296 * x = mul-le-mul_right x (omega arith) in

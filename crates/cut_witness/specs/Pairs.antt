@@ -15,7 +15,8 @@ pub record HasFlatPair (p : Points) (eps s e a b : ℕ) : Type 0 where
   pub fits : SomeLineFits p eps s e
   pub pair : IsFlatPair p eps s e a b
 
--- from the lower end of the place j, eps below it, up to the line from eps below a to eps above b; all times x_b - x_a, and both ends raised alike
+-- from the lower end of the place j, eps below it, up to the line from eps
+-- below a to eps above b; all times x_b - x_a, and both ends raised alike
 abbrev pub steep_gap : Points → ℕ → ℕ → ℕ → ℕ → Gap
 steep_gap p eps a b j = record {
   lower = p.y j * (p.x b - p.x a) + (p.y b - p.y a + 2 * eps) * p.x a;
@@ -31,7 +32,8 @@ flat_gap p eps a b j = record {
   most = 2 * eps * (p.x b - p.x a);
 }
 
--- the line is within eps at j; it doesn't touch the end that it touches at a where j is before a, nor the end that it touches at b where j is between them
+-- the line is within eps at j; it doesn't touch the end that it touches at a
+-- where j is before a, nor the end that it touches at b where j is between them
 pub record Allows (gap : Gap) (a b j : ℕ) : Type 0 where
   pub not_below : gap.lower ≤ gap.upper
   pub not_above : gap.upper ≤ gap.lower + gap.most

@@ -28,6 +28,7 @@ pub drawn-here : (seed i state draw : ℕ) → state ≡ state_after seed i → 
 drawn-here seed i state draw here is = is ∙ ap (λ s. drawn s 0) here ∙ drawn-after seed i
 
 -- and its state then
-pub state-next : (seed i state next : ℕ) → state ≡ state_after seed i → next ≡ state_after state 1 → next ≡ state_after seed (i + 1)
+pub state-next : (seed i state next : ℕ) →
+    state ≡ state_after seed i → next ≡ state_after state 1 → next ≡ state_after seed (i + 1)
 state-next seed i state next here is =
     is ∙ ap (λ s. state_after s 1) here ∙ state_after-one (state_after seed i) ∙ sym (state_after-more seed i)

@@ -1,5 +1,6 @@
 -- One read after another: what was read, and what is left.
-use Rattle.std.proofs.Common.{ℕ, ◌+◌, ◌≤◌, List, ◌++◌, length, drop, refl, sym, ap, ◌∙◌, Option, Some, None, append_assoc, arith, OnErr, Result, Ok, Err}
+use Rattle.std.proofs.Common.{ℕ, ◌+◌, ◌≤◌, List, ◌++◌, length, drop, refl, sym, ap, ◌∙◌}
+use Rattle.std.proofs.Common.{Option, Some, None, append_assoc, arith, OnErr, Result, Ok, Err}
 use Rattle.std.proofs.lemmas.List.{drop_at}
 use Rattle.std.proofs.Math.Seq.{drop-append-add}
 use Rattle.edge.specs.Shelf.{HasNothingLeft, TakesAtMost, IsEmptied}
@@ -25,13 +26,15 @@ emptied-after (Some x) None c p h _ = absurd h
 emptied-after (Some x) (Some y) c p _ k = k
 
 -- what was read is gone
-pub takes-read : (a b : Option (List ℕ)) (p : List ℕ) (most : ℕ) → length p ≤ most → HasRead a p b → TakesAtMost most a b
+pub takes-read : (a b : Option (List ℕ)) (p : List ℕ) (most : ℕ) →
+    length p ≤ most → HasRead a p b → TakesAtMost most a b
 takes-read None b p most _ _ = tt
 takes-read (Some x) None p most _ h = absurd h
 takes-read (Some x) (Some y) p most few h =
     (length p, few, ap Some (sym (ap (drop (length p)) h ∙ drop_at p y (length p) refl)))
 
-pub takes-after : (a b c : Option (List ℕ)) (p : List ℕ) (some most : ℕ) → length p + some ≤ most → HasRead a p b → TakesAtMost some b c → TakesAtMost most a c
+pub takes-after : (a b c : Option (List ℕ)) (p : List ℕ) (some most : ℕ) →
+    length p + some ≤ most → HasRead a p b → TakesAtMost some b c → TakesAtMost most a c
 takes-after None b c p some most _ _ _ = tt
 takes-after (Some x) None c p some most _ h _ = absurd h
 takes-after (Some x) (Some y) c p some most few h k =

@@ -32,7 +32,8 @@ told-behind piece Says Says' (Some x) (Some y) of_bytes read says told = subst S
 left-behind : (piece : List ℕ) (Takes Takes' : List ℕ → Type 0) (first before after : Option (List ℕ))
     (origin : Origin) → HasRead first piece before → Behind piece Takes Takes' →
     Leaves origin Takes before after → Leaves origin Takes' first after
-left-behind piece Takes Takes' first before after of_shelf read takes left = emptied-after first before after piece read left
+left-behind piece Takes Takes' first before after of_shelf read takes left =
+    emptied-after first before after piece read left
 left-behind piece Takes Takes' first before after of_memory read takes left =
     (piece ++ left.0, HasRead-append first before after piece left.0 read left.1, takes left.0 left.2)
 left-behind piece Takes Takes' first before after of_bytes read takes left =
@@ -53,7 +54,8 @@ module _ {S : Type 0} (shelf : Ghosts S) where
   same-piece old new p q same read = let P : List ℕ → Type 0 = λ w. ReadsPiece shelf w old new in subst P same read
 
   -- what a buffer and what one byte gives
-  pub filled-piece : (old new : S) (n : ℕ) (buf : List ℕ) → ReadsOn shelf (λ before after. Fills before n buf after) old new →
+  pub filled-piece : (old new : S) (n : ℕ) (buf : List ℕ) →
+      ReadsOn shelf (λ before after. Fills before n buf after) old new →
       ReadsPiece shelf (take n buf) old new
   filled-piece old new n buf fills = record { files = fills.files; quiet = fills.quiet; read = fills.read.read }
 
@@ -75,7 +77,8 @@ module _ {S : Type 0} (shelf : Ghosts S) where
     files = fails.files ∙ so_far.files;
     cause = subst (λ (n : ℕ). HasCauseOf origin n (shelf.faults new)) so_far.quiet fails.cause;
     fault = told-behind piece Says Says' (shelf.rest first) (shelf.rest old) origin so_far.read says fails.fault;
-    left = left-behind piece Takes Takes' (shelf.rest first) (shelf.rest old) (shelf.rest new) origin so_far.read takes fails.left;
+    left = left-behind piece Takes Takes'
+        (shelf.rest first) (shelf.rest old) (shelf.rest new) origin so_far.read takes fails.left;
   }
 
   -- a fault found in bytes that were read, and one of memory behind them
@@ -88,7 +91,8 @@ module _ {S : Type 0} (shelf : Ghosts S) where
     left = (piece, read.read, takes);
   }
 
-  pub no_memory-behind : (Says Takes : List ℕ → Type 0) (piece : List ℕ) (old new : S) → ReadsPiece shelf piece old new →
+  pub no_memory-behind : (Says Takes : List ℕ → Type 0) (piece : List ℕ) (old new : S) →
+      ReadsPiece shelf piece old new →
       Takes piece → ReadFails shelf of_memory Says Takes old new
   no_memory-behind Says Takes piece old new read takes = record {
     files = read.files;

@@ -7,7 +7,8 @@ use Rattle.std.specs.declared.alloc.Global.{Global}
 -- the contents of the first file of this name
 abbrev pub contents_of : List (String Global × Vec ℕ Global) → List ℕ → Option (List ℕ)
 contents_of [] name = None
-contents_of (file ∷ files) name = if bytes_eq (string_bytes file.0) name then Some file.1.items else contents_of files name
+contents_of (file ∷ files) name =
+    if bytes_eq (string_bytes file.0) name then Some file.1.items else contents_of files name
 
 -- the contents of the file in this place
 abbrev pub file_at : List (String Global × Vec ℕ Global) → ℕ → List ℕ

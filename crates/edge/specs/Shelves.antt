@@ -19,7 +19,8 @@ abbrev pub TakesInMemory : MemShelf → List ℕ → Result ⊤ Failed → MemSh
 TakesInMemory old name result new =
     FailsWhere (IsNextToFail old ⊎ (contents_of old.files.items name ≡ None)) (device_of old) result (device_of new)
 
--- a read into a buffer that isn't empty fails exactly where it is to fail, and else gives what is left, as far as the buffer and one call reach
+-- a read into a buffer that isn't empty fails exactly where it is to fail,
+-- and else gives what is left, as far as the buffer and one call reach
 pub record ReadsInMemory (old : MemShelf) (room : ℕ) (result : Result ℕ Failed) (new : MemShelf) : Type 0 where
   pub call : FailsWhere ((0 < room) × IsNextToFail old) (device_of old) result (device_of new)
   pub count : IfOk result (λ n. n ≡ min (min (length (bytes_left old.files.items old.taken)) room) old.most)

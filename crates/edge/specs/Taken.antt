@@ -12,4 +12,5 @@ bytes_left files (Some taken) = drop taken.at (file_at files taken.file)
 
 -- a place in one of the files
 abbrev pub IsTakenOf : List (String Global × Vec ℕ Global) → Option Taken → Type 0
-IsTakenOf files taken = ForSome taken (λ taken. (taken.file < length files) × (taken.at ≤ length (file_at files taken.file)))
+IsTakenOf files taken =
+    ForSome taken (λ taken. (taken.file < length files) × (taken.at ≤ length (file_at files taken.file)))

@@ -14,19 +14,23 @@ difference_times m n q =
     omega (arith, ints, ap (λ (t : ℕ). t * q) plain)
 
 -- (m - n) * q ≤ (k - l) * r, with no difference
-pub products_le-out : (m n q k l r : ℕ) → ((pos m -ℤ pos n) *ℤ pos q) ≤ℤ ((pos k -ℤ pos l) *ℤ pos r) → m * q + l * r ≤ k * r + n * q
+pub products_le-out : (m n q k l r : ℕ) →
+    ((pos m -ℤ pos n) *ℤ pos q) ≤ℤ ((pos k -ℤ pos l) *ℤ pos r) → m * q + l * r ≤ k * r + n * q
 products_le-out m n q k l r h =
     omega (arith, ints, difference_times m n q, difference_times k l r)
 
-pub products_le-in : (m n q k l r : ℕ) → m * q + l * r ≤ k * r + n * q → ((pos m -ℤ pos n) *ℤ pos q) ≤ℤ ((pos k -ℤ pos l) *ℤ pos r)
+pub products_le-in : (m n q k l r : ℕ) →
+    m * q + l * r ≤ k * r + n * q → ((pos m -ℤ pos n) *ℤ pos q) ≤ℤ ((pos k -ℤ pos l) *ℤ pos r)
 products_le-in m n q k l r h =
     omega (arith, ints, difference_times m n q, difference_times k l r)
 
 -- the order of two slopes, with no difference
-pub IsAtMost-out : (f g : Slope) → IsAtMost f g → up f.rise * g.run + down g.rise * f.run ≤ up g.rise * f.run + down f.rise * g.run
+pub IsAtMost-out : (f g : Slope) →
+    IsAtMost f g → up f.rise * g.run + down g.rise * f.run ≤ up g.rise * f.run + down f.rise * g.run
 IsAtMost-out f g h = omega (arith, ints, h.at_most)
 
-pub IsAtMost-in : (f g : Slope) → up f.rise * g.run + down g.rise * f.run ≤ up g.rise * f.run + down f.rise * g.run → IsAtMost f g
+pub IsAtMost-in : (f g : Slope) →
+    up f.rise * g.run + down g.rise * f.run ≤ up g.rise * f.run + down f.rise * g.run → IsAtMost f g
 IsAtMost-in f g h = record { at_most = omega (arith, ints) }
 
 -- the line passes the place at most eps above its point, and at most eps below it

@@ -1,7 +1,8 @@
 -- The height of a line at a key, rounded down: from its quotient, and that there is only one.
 use Rattle.std.proofs.Common.{◌≡◌, ℕ, ◌+◌, ◌*◌, ◌-◌, ◌/◌, ◌^◌, ◌<◌, ◌≤◌, ℤ, pos, ◌+ℤ◌, ◌-ℤ◌, ◌*ℤ◌, ap, arith}
 use Rattle.std.proofs.lemmas.Int.{ints}
-use Rattle.std.proofs.Math.Nat.{div-mul-le_self, lt-div-mul-add, mul-le-mul_left, le_of_mul-le-mul_right, lt_of_mul-lt-mul_right}
+use Rattle.std.proofs.Math.Nat.{div-mul-le_self, lt-div-mul-add, mul-le-mul_left}
+use Rattle.std.proofs.Math.Nat.{le_of_mul-le-mul_right, lt_of_mul-lt-mul_right}
 use Rattle.std.proofs.lemmas.Nat.{mul-lt}
 use borrow.Author.Differences.{up, down}
 use Rattle.exact_cross.specs.declared.line.Line.{Line}
@@ -25,7 +26,8 @@ difference a b = omega (arith, ints)
 
 -- the height, with nothing below 0: rise * q on the one side and rise * x0 on the other
 pub height-out : (line : Line) (q : ℕ) →
-    up (height_at line q) + (down line.y0 * line.run + line.rise * line.x0) ≡ down (height_at line q) + (up line.y0 * line.run + line.rise * q)
+    up (height_at line q) + (down line.y0 * line.run + line.rise * line.x0)
+    ≡ down (height_at line q) + (up line.y0 * line.run + line.rise * q)
 height-out line q =
     let base = times line.y0 line.run in
     let climb = times_left line.rise (pos q -ℤ pos line.x0) in
@@ -34,8 +36,10 @@ height-out line q =
 
 -- f is the floor where these two sums of naturals say so
 pub IsFloorAt-in : (line : Line) (q : ℕ) (f : ℤ) →
-    up f * line.run + (down line.y0 * line.run + line.rise * line.x0) ≤ down f * line.run + (up line.y0 * line.run + line.rise * q) →
-    down f * line.run + (up line.y0 * line.run + line.rise * q) < up f * line.run + line.run + (down line.y0 * line.run + line.rise * line.x0) →
+    up f * line.run + (down line.y0 * line.run + line.rise * line.x0)
+    ≤ down f * line.run + (up line.y0 * line.run + line.rise * q) →
+    down f * line.run + (up line.y0 * line.run + line.rise * q)
+    < up f * line.run + line.run + (down line.y0 * line.run + line.rise * line.x0) →
     IsFloorAt line q f
 IsFloorAt-in line q f not_above greatest =
     let height = height-out line q in
@@ -48,8 +52,10 @@ IsFloorAt-in line q f not_above greatest =
     }
 
 pub IsFloorAt-out : (line : Line) (q : ℕ) (f : ℤ) → IsFloorAt line q f →
-    (up f * line.run + (down line.y0 * line.run + line.rise * line.x0) ≤ down f * line.run + (up line.y0 * line.run + line.rise * q)) ×
-    (down f * line.run + (up line.y0 * line.run + line.rise * q) < up f * line.run + line.run + (down line.y0 * line.run + line.rise * line.x0))
+    (up f * line.run + (down line.y0 * line.run + line.rise * line.x0)
+    ≤ down f * line.run + (up line.y0 * line.run + line.rise * q)) ×
+    (down f * line.run + (up line.y0 * line.run + line.rise * q)
+    < up f * line.run + line.run + (down line.y0 * line.run + line.rise * line.x0))
 IsFloorAt-out line q f floor =
     let height = height-out line q in
     let low = times f line.run in
@@ -66,8 +72,10 @@ IsFloorAt-unique line q f g positive first second =
     let not_below : up g + down f < up f + down g + 1 = lt_of_mul-lt-mul_right line.run (omega arith) in
     omega (arith, ints)
 
--- a line within eps of a point is at most eps below it at and right of the point, and at most eps above it at and left of it
-pub floor_not_below : (p : Points) (eps : ℕ) (line : Line) (positive : 0 < line.run) (j q : ℕ) (f : ℤ) → IsWithin p eps (rational line positive) j → p.x j ≤ q →
+-- a line within eps of a point is at most eps below it at and
+-- right of the point, and at most eps above it at and left of it
+pub floor_not_below : (p : Points) (eps : ℕ) (line : Line) (positive : 0 < line.run) (j q : ℕ) (f : ℤ) →
+    IsWithin p eps (rational line positive) j → p.x j ≤ q →
     IsFloorAt line q f → p.y j + down f ≤ up f + eps
 floor_not_below p eps line positive j q f within right floor =
     let (low, next) = IsFloorAt-out line q f floor in
@@ -77,7 +85,8 @@ floor_not_below p eps line positive j q f within right floor =
     let less : p.y j + down f < up f + eps + 1 = lt_of_mul-lt-mul_right line.run (omega (arith, ints)) in
     omega arith
 
-pub floor_not_above : (p : Points) (eps : ℕ) (line : Line) (positive : 0 < line.run) (j q : ℕ) (f : ℤ) → IsWithin p eps (rational line positive) j → q ≤ p.x j →
+pub floor_not_above : (p : Points) (eps : ℕ) (line : Line) (positive : 0 < line.run) (j q : ℕ) (f : ℤ) →
+    IsWithin p eps (rational line positive) j → q ≤ p.x j →
     IsFloorAt line q f → up f ≤ down f + p.y j + eps
 floor_not_above p eps line positive j q f within left floor =
     let (low, next) = IsFloorAt-out line q f floor in
@@ -95,7 +104,8 @@ pub climb_below : (rise gap : ℕ) → rise < 2 ^ 33 → gap < 2 ^ 64 → rise *
 climb_below rise gap small short = omega (arith, mul-lt rise gap (2 ^ 33) (2 ^ 64) small short)
 
 -- right of the line's point: y0 and the quotient of the climb
-pub IsFloorAt-right : (line : Line) (q gap quotient : ℕ) (f : ℤ) → 0 < line.run → q ≡ line.x0 + gap → quotient ≡ line.rise * gap / line.run →
+pub IsFloorAt-right : (line : Line) (q gap quotient : ℕ) (f : ℤ) →
+    0 < line.run → q ≡ line.x0 + gap → quotient ≡ line.rise * gap / line.run →
     up f + down line.y0 ≡ down f + (up line.y0 + quotient) → IsFloorAt line q f
 IsFloorAt-right line q gap quotient f positive right is climbs =
     let scaled = ap (λ (t : ℕ). t * line.run) climbs in

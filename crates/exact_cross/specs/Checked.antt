@@ -1,5 +1,6 @@
 -- Segments that show by themselves that they are as few as lines can do.
-use Rattle.std.specs.Prelude.{◌≡◌, ℕ, ◌+◌, ◌^◌, ◌<◌, ◌≤◌, pos, negsuc, ◌≤ℤ◌, ◌<ℤ◌, List, [], ◌∷◌, length, None, Some, is_none, cond}
+use Rattle.std.specs.Prelude.{◌≡◌, ℕ, ◌+◌, ◌^◌, ◌<◌, ◌≤◌, pos, negsuc, ◌≤ℤ◌, ◌<ℤ◌}
+use Rattle.std.specs.Prelude.{List, [], ◌∷◌, length, None, Some, is_none, cond}
 use Rattle.exact_cross.specs.declared.line.Line.{Line}
 use Rattle.exact_cross.specs.declared.segment.Witness.{Witness}
 use Rattle.exact_cross.specs.declared.segment.Segment.{Segment}
@@ -27,7 +28,8 @@ pub record IsCutShort (p : Points) (eps to : ℕ) (segment : Segment) (e : ℕ) 
 
 -- what a checker looks at: the starts, each run's line and each run's cut
 pub record AreChecked (p : Points) (eps : ℕ) (segments : List Segment) : Type 0 where
-  pub first : 0 < p.count → (segment : Segment) × (later : List Segment) × (segments ≡ segment ∷ later) × (segment.start ≡ 0)
+  pub first : 0 < p.count →
+      (segment : Segment) × (later : List Segment) × (segments ≡ segment ∷ later) × (segment.start ≡ 0)
   pub rise : StartsRise 0 p.count (starts_of segments)
   pub in_range : EachRun (λ segment e. IsInRange segment.line) p.count segments
   pub fitted : EachRun (IsFitted p eps) p.count segments
@@ -38,14 +40,16 @@ pub record IsLeastCover (p : Points) (eps from to : ℕ) (starts : List ℕ) : T
   pub cover : IsCover p eps from to starts
   pub least : (others : List ℕ) → IsCover p eps from to others → length starts ≤ length others
 
--- a cut, where a run has one, has three places that lie from its start on to its end and are fitted by no line; the run that ends at `to` has none
+-- a cut, where a run has one, has three places that lie from its start on
+-- to its end and are fitted by no line; the run that ends at `to` has none
 pub record IsCutIfAny (p : Points) (eps to : ℕ) (segment : Segment) (e : ℕ) : Type 0 where
   pub last : e ≡ to → segment.cut ≡ None
   pub shown : (w : Witness) → segment.cut ≡ Some w → IsWitness p eps w × (segment.start ≤ w.p) × (w.r ≡ e)
 
 -- what a checker looks at where runs may lack their cuts
 pub record AreShown (p : Points) (eps : ℕ) (segments : List Segment) : Type 0 where
-  pub first : 0 < p.count → (segment : Segment) × (later : List Segment) × (segments ≡ segment ∷ later) × (segment.start ≡ 0)
+  pub first : 0 < p.count →
+      (segment : Segment) × (later : List Segment) × (segments ≡ segment ∷ later) × (segment.start ≡ 0)
   pub rise : StartsRise 0 p.count (starts_of segments)
   pub in_range : EachRun (λ segment e. IsInRange segment.line) p.count segments
   pub fitted : EachRun (IsFitted p eps) p.count segments

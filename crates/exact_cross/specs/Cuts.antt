@@ -8,10 +8,13 @@ use Rattle.exact_cross.specs.Points.{Points}
 use Rattle.exact_cross.specs.Steep.{IsSteepPair, IsFlatPair}
 use Rattle.exact_cross.specs.Witnesses.{IsOver, IsUnder}
 
--- of the run s..e the steep pair, where the place e lies over it, and else the flat pair, where e lies under it; the other pair tells nothing
+-- of the run s..e the steep pair, where the place e lies over it, and
+-- else the flat pair, where e lies under it; the other pair tells nothing
 abbrev pub CutsAt : Points → ℕ → ℕ → ℕ → Side → ℕ → ℕ → Type 0
-CutsAt p eps s e Over a b = IsSteepPair p eps s e a b × IsOver p eps a b e × ((c d : ℕ) → IsFlatPair p eps s e c d → IsUnder p eps c d e → ⊥)
-CutsAt p eps s e Under a b = IsFlatPair p eps s e a b × IsUnder p eps a b e × ((c d : ℕ) → IsSteepPair p eps s e c d → IsOver p eps c d e → ⊥)
+CutsAt p eps s e Over a b =
+    IsSteepPair p eps s e a b × IsOver p eps a b e × ((c d : ℕ) → IsFlatPair p eps s e c d → IsUnder p eps c d e → ⊥)
+CutsAt p eps s e Under a b =
+    IsFlatPair p eps s e a b × IsUnder p eps a b e × ((c d : ℕ) → IsSteepPair p eps s e c d → IsOver p eps c d e → ⊥)
 
 -- the witness is that of the run s..e and the place after it
 pub record IsCutOf (p : Points) (eps s e : ℕ) (w : Witness) : Type 0 where

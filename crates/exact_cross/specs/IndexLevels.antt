@@ -1,6 +1,7 @@
 -- The one index over a list of points: levels of segments, each over the first x of the runs below it.
 -- Source: P. Ferragina and G. Vinciguerra, The PGM-index, PVLDB 13(8), 2020, section 2.
-use Rattle.std.specs.Prelude.{◌≡◌, ◌≢◌, ◌==◌, if◌then◌else◌, ℕ, zero, suc, ◌+◌, ◌<◌, List, [], length, map, slice_index, slice_index_or}
+use Rattle.std.specs.Prelude.{◌≡◌, ◌≢◌, ◌==◌, if◌then◌else◌, ℕ, zero, suc, ◌+◌, ◌<◌}
+use Rattle.std.specs.Prelude.{List, [], length, map, slice_index, slice_index_or}
 use Rattle.exact_cross.specs.declared.segment.Segment.{Segment}
 use Rattle.exact_cross.specs.Points.{Points, points_of, places}
 use Rattle.exact_cross.specs.Segmentation.{IsSegmentation}
@@ -34,9 +35,11 @@ eps_at eps eps_rec i = if i == 0 then eps else eps_rec
 -- the segments of level i are the segmentation of its points
 abbrev pub IsLevelOver : (xs ys : List ℕ) (eps eps_rec : ℕ) (levels : List (List Segment)) (i : ℕ) → Type 0
 IsLevelOver xs ys eps eps_rec levels i =
-    IsSegmentation (level_points xs ys levels i) (eps_at eps eps_rec i) 0 (length (level_xs xs levels i)) (level_at levels i)
+    IsSegmentation
+    (level_points xs ys levels i) (eps_at eps eps_rec i) 0 (length (level_xs xs levels i)) (level_at levels i)
 
--- over so many points, levels each of which is so, by its number, and the last one is the first of one run; no point, no level
+-- over so many points, levels each of which is so, by its number,
+-- and the last one is the first of one run; no point, no level
 pub record AreLevelled (IsSo : ℕ → Type 0) (points : ℕ) (levels : List (List Segment)) : Type 0 where
   pub none : points ≡ 0 → length levels ≡ 0
   pub some : 0 < points → 0 < length levels

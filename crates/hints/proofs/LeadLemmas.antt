@@ -1,5 +1,6 @@
 -- The lines of a cover tell nearly the place.
-use Rattle.std.proofs.Common.{◌≡◌, ◌⊎◌, inl, inr, ℕ, zero, suc, ◌+◌, ◌-◌, ◌*◌, ◌/◌, ◌%◌, ◌^◌, ◌<◌, ◌≤◌, List, length, slice_index, sym, ap, ◌∙◌, subst, arith}
+use Rattle.std.proofs.Common.{◌≡◌, ◌⊎◌, inl, inr, ℕ, zero, suc, ◌+◌, ◌-◌, ◌*◌, ◌/◌, ◌%◌, ◌^◌}
+use Rattle.std.proofs.Common.{◌<◌, ◌≤◌, List, length, slice_index, sym, ap, ◌∙◌, subst, arith}
 use Rattle.std.specs.Prelude.{min}
 use Rattle.std.proofs.lemmas.Bool.{cases_lt}
 use Rattle.std.proofs.Math.Nat.{mul-le-mul_right}
@@ -18,18 +19,23 @@ height_rises lines line a b less =
     omega (arith, shr_mono (slice_index lines (3 * line + 2) % 128) scaled)
 
 -- at its first x, and before it, a line is as high as it says
-height-first : (lines : List ℕ) (line q : ℕ) → q ≤ slice_index lines (3 * line) → height_at lines line q ≡ first_height lines line
+height-first : (lines : List ℕ) (line q : ℕ) →
+    q ≤ slice_index lines (3 * line) → height_at lines line q ≡ first_height lines line
 height-first lines line q before =
     let none : q - slice_index lines (3 * line) ≡ 0 = omega arith in
-    let climb : (q - slice_index lines (3 * line)) * slice_index lines (3 * line + 1) ≡ 0 = ap (λ (n : ℕ). n * slice_index lines (3 * line + 1)) none ∙ omega arith in
-    let shifted : (q - slice_index lines (3 * line)) * slice_index lines (3 * line + 1) / 2 ^ (slice_index lines (3 * line + 2) % 128) ≡ 0 =
-    ap (λ (n : ℕ). n / 2 ^ (slice_index lines (3 * line + 2) % 128)) climb ∙ none_of (2 ^ (slice_index lines (3 * line + 2) % 128)) in
+    let climb : (q - slice_index lines (3 * line)) * slice_index lines (3 * line + 1)
+    ≡ 0 = ap (λ (n : ℕ). n * slice_index lines (3 * line + 1)) none ∙ omega arith in
+    let shifted : (q - slice_index lines (3 * line)) * slice_index lines
+    (3 * line + 1) / 2 ^ (slice_index lines (3 * line + 2) % 128) ≡ 0 =
+    ap (λ (n : ℕ). n / 2 ^ (slice_index lines (3 * line + 2) % 128)) climb
+    ∙ none_of (2 ^ (slice_index lines (3 * line + 2) % 128)) in
     omega (arith, shifted)
   where
     none_of : (d : ℕ) → 0 / d ≡ 0
     none_of d = grind arith
 
-module _ (p : Points) (eps n : ℕ) (start : ℕ → ℕ) (count : ℕ) (lines : List ℕ) (ascends : IsAscending p) (are : AreLinesOf p eps start count lines) where
+module _ (p : Points) (eps n : ℕ) (start : ℕ → ℕ)
+    (count : ℕ) (lines : List ℕ) (ascends : IsAscending p) (are : AreLinesOf p eps start count lines) where
   many : length lines / 3 ≡ count
   many = omega (arith, are.holds.long)
 
@@ -85,7 +91,12 @@ module _ (p : Points) (eps n : ℕ) (start : ℕ → ℕ) (count : ℕ) (lines :
         begins = omega (arith, here, bracket.before some);
         behind = λ more.
             let same : i - 1 + 1 ≡ i = omega arith in
-            omega (arith, first_xs-at lines i (omega (arith, many, more)), bracket.at (omega (arith, first, many, more)), ap (λ (k : ℕ). slice_index lines (3 * k)) same);
+            omega (
+              arith,
+              first_xs-at lines i (omega (arith, many, more)),
+              bracket.at (omega (arith, first, many, more)),
+              ap (λ (k : ℕ). slice_index lines (3 * k)) same,
+            );
       }
 
   -- where no line begins at or before the question, it is before the first point
@@ -110,7 +121,8 @@ module _ (p : Points) (eps n : ℕ) (start : ℕ → ℕ) (count : ℕ) (lines :
   tells_place q i place some told =
       let same : i - 1 + 1 ≡ i = omega arith in
       record {
-        next = λ more. told.between some (omega (arith, many, more)) ∙ ap (λ (k : ℕ). min n (min (height_at lines (i - 1) q) (first_height lines k) - eps)) (sym same);
+        next = λ more. told.between some (omega (arith, many, more))
+            ∙ ap (λ (k : ℕ). min n (min (height_at lines (i - 1) q) (first_height lines k) - eps)) (sym same);
         last = λ end. told.last some (omega (arith, many, end));
       }
 
@@ -136,7 +148,13 @@ module _ (p : Points) (eps n : ℕ) (start : ℕ → ℕ) (count : ℕ) (lines :
         | inl before ↦
             let rises = are.rise line found.inside in
             let tells = are.holds.each line found.inside in
-            absurd (omega (arith, found.begins, tells.begins, here.last (omega (arith, before, rises, rest)), x_at_most (i + 1) (start line) (omega arith) (omega (arith, rises, rest))))
+            absurd (omega (
+              arith,
+              found.begins,
+              tells.begins,
+              here.last (omega (arith, before, rises, rest)),
+              x_at_most (i + 1) (start line) (omega arith) (omega (arith, rises, rest)),
+            ))
         | inr later ↦ later
       ]
 
@@ -146,9 +164,16 @@ module _ (p : Points) (eps n : ℕ) (start : ℕ → ℕ) (count : ℕ) (lines :
           | inl before ↦ before
           | inr past ↦
               let tells = are.holds.each (line + 1) more in
-              absurd (omega (arith, found.behind more, tells.begins, here.at_most, x_at_most (start (line + 1)) i past here.inside))
+              absurd (omega (
+                arith,
+                found.behind more,
+                tells.begins,
+                here.at_most,
+                x_at_most (start (line + 1)) i past here.inside,
+              ))
         ]
-        | inr last ↦ let end : line + 1 ≡ count = omega (arith, found.inside) in omega (arith, ap start end, are.ends, here.inside)
+        | inr last ↦ let end : line + 1 ≡ count = omega (arith, found.inside) in
+            omega (arith, ap start end, are.ends, here.inside)
       ]
 
   -- between q and its last point is no gap
@@ -156,7 +181,8 @@ module _ (p : Points) (eps n : ℕ) (start : ℕ → ℕ) (count : ℕ) (lines :
   IsClosed q i = (q ≡ p.x i) ⊎ ((i + 1 < p.count → p.y (i + 1) ≤ p.y i + 1) × (i + 1 ≡ p.count → n ≤ p.y i + 1))
 
   -- the place is near the height of the last point at or before q
-  line_above : (q i line place : ℕ) → IsLastPoint q i → IsLineFor q line → TellsPlace q line place → p.y i ≤ n → p.y i ≤ place + eps + 1
+  line_above : (q i line place : ℕ) →
+      IsLastPoint q i → IsLineFor q line → TellsPlace q line place → p.y i ≤ n → p.y i ≤ place + eps + 1
   line_above q i line place here found told few =
       let stands = stands_in q i line here found in
       let tells = are.holds.each line found.inside in
@@ -167,16 +193,27 @@ module _ (p : Points) (eps n : ℕ) (start : ℕ → ℕ) (count : ℕ) (lines :
             let near = begins_near (line + 1) more in
             let inside = run_within (line + 1) more in
             let rise = are.rise (line + 1) more in
-            omega (arith, told.next more, near.from, own, rises, few, ascends.y_never_falls i (start (line + 1)) (omega (arith, stands.to)) (omega (arith, inside, rise)))
+            omega (
+              arith,
+              told.next more,
+              near.from,
+              own,
+              rises,
+              few,
+              ascends.y_never_falls i (start (line + 1)) (omega (arith, stands.to)) (omega (arith, inside, rise)),
+            )
         | inr last ↦ omega (arith, told.last last, own, rises, few)
       ]
 
-  line_below : (q i line place : ℕ) → IsLastPoint q i → IsLineFor q line → TellsPlace q line place → IsClosed q i → place ≤ p.y i + eps + 2
+  line_below : (q i line place : ℕ) →
+      IsLastPoint q i → IsLineFor q line → TellsPlace q line place → IsClosed q i → place ≤ p.y i + eps + 2
   line_below q i line place here found told closed =
       let stands = stands_in q i line here found in
       let tells = are.holds.each line found.inside in
-      let low : place ≤ height_at lines line q - eps = elim (cases_lt (line + 1) count) [ inl more ↦ omega (arith, told.next more) | inr last ↦ omega (arith, told.last last) ] in
-      let most : place ≤ n = elim (cases_lt (line + 1) count) [ inl more ↦ omega (arith, told.next more) | inr last ↦ omega (arith, told.last last) ] in
+      let low : place ≤ height_at lines line q - eps = elim (cases_lt (line + 1) count)
+      [ inl more ↦ omega (arith, told.next more) | inr last ↦ omega (arith, told.last last) ] in
+      let most : place ≤ n = elim (cases_lt (line + 1) count)
+      [ inl more ↦ omega (arith, told.next more) | inr last ↦ omega (arith, told.last last) ] in
       elim closed [
         | inl same ↦ omega (arith, low, ap (height_at lines line) same, tells.not_above i stands.from stands.to)
         | inr gap ↦ elim (cases_lt (i + 1) p.count) [
@@ -193,8 +230,10 @@ module _ (p : Points) (eps n : ℕ) (start : ℕ → ℕ) (count : ℕ) (lines :
             | inr last ↦
                 let next : start (line + 1) ≡ i + 1 = omega (arith, stands.to) in
                 elim (cases_lt (line + 1) count) [
-                  | inl later ↦ omega (arith, told.next later, (begins_near (line + 1) later).to, ap p.y next, gap.0 more)
-                  | inr final ↦ let all : line + 1 ≡ count = omega (arith, found.inside) in absurd (omega (arith, ap start all, are.ends, next, more))
+                  | inl later ↦
+                      omega (arith, told.next later, (begins_near (line + 1) later).to, ap p.y next, gap.0 more)
+                  | inr final ↦ let all : line + 1 ≡ count = omega (arith, found.inside) in
+                      absurd (omega (arith, ap start all, are.ends, next, more))
                 ]
           ]
           | inr last ↦ omega (arith, most, gap.1 (omega (arith, here.inside)))
@@ -202,7 +241,8 @@ module _ (p : Points) (eps n : ℕ) (start : ℕ → ℕ) (count : ℕ) (lines :
       ]
 
   -- what is told of a question at or behind the point i
-  pub place_near : (q i k place : ℕ) → IsLastPoint q i → IsBracket (first_xs lines) (q + 1) k → IsToldBy lines eps n q k place → p.y i ≤ n → IsClosed q i → (p.y i ≤ place + eps + 1) × (place ≤ p.y i + eps + 2)
+  pub place_near : (q i k place : ℕ) → IsLastPoint q i → IsBracket (first_xs lines) (q + 1) k →
+      IsToldBy lines eps n q k place → p.y i ≤ n → IsClosed q i → (p.y i ≤ place + eps + 1) × (place ≤ p.y i + eps + 2)
   place_near q i k place here bracket told few closed = elim (cases_lt 0 k) [
     | inl some ↦
         let found = line_for q k bracket some in
@@ -219,20 +259,28 @@ module _ (p : Points) (eps n : ℕ) (start : ℕ → ℕ) (count : ℕ) (lines :
   ]
 
   -- what is told of a question before the first point
-  pub place_before : (q k place : ℕ) → 0 < p.count → q < p.x 0 → IsBracket (first_xs lines) (q + 1) k → IsToldBy lines eps n q k place → place ≡ 0
+  pub place_before : (q k place : ℕ) →
+      0 < p.count → q < p.x 0 → IsBracket (first_xs lines) (q + 1) k → IsToldBy lines eps n q k place → place ≡ 0
   place_before q k place some before bracket told = elim (cases_lt 0 k) [
     | inl more ↦
         let found = line_for q k bracket more in
         let tells = are.holds.each (k - 1) found.inside in
         let rest = run_within (k - 1) found.inside in
         let rises = are.rise (k - 1) found.inside in
-        absurd (omega (arith, found.begins, tells.begins, before, x_at_most 0 (start (k - 1)) (omega arith) (omega (arith, rest, rises))))
+        absurd (omega (
+          arith,
+          found.begins,
+          tells.begins,
+          before,
+          x_at_most 0 (start (k - 1)) (omega arith) (omega (arith, rest, rises)),
+        ))
     | inr none ↦ told.front (omega arith)
   ]
 
   -- no more is told than there are keys
   pub place_within : (q k place : ℕ) → IsToldBy lines eps n q k place → place ≤ n
   place_within q k place told = elim (cases_lt 0 k) [
-    | inl some ↦ elim (cases_lt k (length lines / 3)) [ inl more ↦ omega (arith, told.between some more) | inr last ↦ omega (arith, told.last some last) ]
+    | inl some ↦ elim (cases_lt k (length lines / 3))
+        [ inl more ↦ omega (arith, told.between some more) | inr last ↦ omega (arith, told.last some last) ]
     | inr none ↦ omega (arith, told.front (omega arith))
   ]

@@ -11,7 +11,8 @@ pub record HaveLeastLines (keys : List ℕ) (eps : ℕ) (hints : List ℕ) : Typ
   pub cover : IsLeastCover (points_of (xs_of keys) (ys_of keys)) eps 0 (length (xs_of keys)) starts
   pub count : slice_index hints 2 ≡ length starts
 
--- the hints are in the format, with this error bound: the head's six, as many of the table as number 3 says, and three for each of the lines that number 2 counts
+-- the hints are in the format, with this error bound: the head's six, as many of
+-- the table as number 3 says, and three for each of the lines that number 2 counts
 pub record AreInFormat (eps : ℕ) (hints : List ℕ) : Type 0 where
   pub known : slice_index hints 0 ≡ FORMAT
   pub bound : slice_index hints 1 ≡ eps

@@ -6,9 +6,11 @@ use Rattle.window_search.specs.Brackets.{IsBracket}
 use Rattle.window_search.specs.Searches.{lb}
 use Rattle.hints.specs.Told.{IsTold}
 
--- the hints lead to within `off` in the keys: what they tell for a question is at most so far from how many keys are below it
+-- the hints lead to within `off` in the keys: what they tell for
+-- a question is at most so far from how many keys are below it
 abbrev pub LeadsWithin : List ℕ → List ℕ → ℕ → Type 0
-LeadsWithin hints keys off = (q place : ℕ) → q < 2 ^ 64 → IsTold hints (length keys) q place → abs_diff place (lb keys q) ≤ off
+LeadsWithin hints keys off =
+    (q place : ℕ) → q < 2 ^ 64 → IsTold hints (length keys) q place → abs_diff place (lb keys q) ≤ off
 
 -- the place brackets q, and is its lower bound where the keys never fall
 pub record IsPosition (keys : List ℕ) (q place : ℕ) : Type 0 where
@@ -17,7 +19,8 @@ pub record IsPosition (keys : List ℕ) (q place : ℕ) : Type 0 where
 
 -- the places of the first `count` questions
 abbrev pub ArePositions : List ℕ → List ℕ → List ℕ → ℕ → Type 0
-ArePositions keys questions places count = (k : ℕ) → k < count → IsPosition keys (slice_index questions k) (slice_index places k)
+ArePositions keys questions places count =
+    (k : ℕ) → k < count → IsPosition keys (slice_index questions k) (slice_index places k)
 
 -- only places from `first` on and before `end` are other than they were
 abbrev pub IsSameOutside : ℕ → ℕ → List ℕ → List ℕ → Type 0

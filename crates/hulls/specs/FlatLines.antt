@@ -21,12 +21,14 @@ pub record IsFlatInRange (line : FlatLine) : Type 0 where
   pub not_too_flat : negsuc 2097151 ≤ℤ line.rise
   pub not_too_steep : line.rise <ℤ pos (2 ^ 32)
 
--- of the lines within eps at every place of s..e the one that rises least; for one place the level line through its point
+-- of the lines within eps at every place of s..e the one that
+-- rises least; for one place the level line through its point
 pub record IsFlatLine (p : Points) (eps s e : ℕ) (line : FlatLine) : Type 0 where
   pub in_range : IsFlatInRange line
   pub fits : FitsRun p eps (rational_flat line in_range.positive) s e
   pub alone : e ≡ s + 1 → line ≡ record { x0 = p.x s; y0 = p.y s; rise = pos 0; run = 1 }
-  pub flattest : s + 1 < e → (other : RationalLine) → FitsRun p eps other s e → (line.rise *ℤ pos other.den) ≤ℤ (other.num *ℤ pos line.run)
+  pub flattest : s + 1 < e →
+      (other : RationalLine) → FitsRun p eps other s e → (line.rise *ℤ pos other.den) ≤ℤ (other.num *ℤ pos line.run)
 
 -- the mean of both lines doesn't fall
 pub record MeanRises (line : Line) (flat : FlatLine) : Type 0 where

@@ -18,11 +18,13 @@ abbrev pub IsUnderHull : Points → (ℕ → ℕ) → ℕ → ℕ → ℕ → Ty
 IsUnderHull q v t last j =
     (j ≡ v last) ⊎ ((k : ℕ) × (t ≤ k) × (k < last) × (v k ≤ j) × (j < v (k + 1)) × IsUnderChord q (v k) j (v (k + 1)))
 
--- a point that can't be the lower place of a pair with a later one: a pair of places before it has a flat slope that is no less than that to it, and so the upper place of these has the lesser slope
+-- a point that can't be the lower place of a pair with a later one: a pair of places before it has a
+-- flat slope that is no less than that to it, and so the upper place of these has the lesser slope
 abbrev pub IsShadowed : Points → ℕ → ℕ → ℕ → Type 0
 IsShadowed q eps s j = (c : ℕ) × (d : ℕ) × IsPair s j c d × IsAtMost (flat_slope q eps c j) (flat_slope q eps c d)
 
--- the places v t, .., v last are the upper hull of the points from the first of them on, before e, but for those that are shadowed
+-- the places v t, .., v last are the upper hull of the points from
+-- the first of them on, before e, but for those that are shadowed
 pub record IsUpperHull (q : Points) (eps s : ℕ) (v : ℕ → ℕ) (t last e : ℕ) : Type 0 where
   pub some : t ≤ last
   pub rise : (k : ℕ) → t ≤ k → k < last → v k < v (k + 1)
@@ -32,7 +34,8 @@ pub record IsUpperHull (q : Points) (eps s : ℕ) (v : ℕ → ℕ) (t last e : 
 
 -- the point c lies on the line through the point a with this slope, or under it
 pub record IsUnderLine (q : Points) (a : ℕ) (slope : Slope) (c : ℕ) : Type 0 where
-  pub under : (pos (q.y c * slope.run) +ℤ slope.rise *ℤ pos (q.x a)) ≤ℤ (pos (q.y a * slope.run) +ℤ slope.rise *ℤ pos (q.x c))
+  pub under :
+      (pos (q.y c * slope.run) +ℤ slope.rise *ℤ pos (q.x a)) ≤ℤ (pos (q.y a * slope.run) +ℤ slope.rise *ℤ pos (q.x c))
 
 -- the x of the points rise
 pub record RiseRight (q : Points) : Type 0 where
@@ -44,7 +47,8 @@ pub record IsVertexOf (q : Points) (vertex : Vertex) : Type 0 where
   pub x : vertex.x ≡ q.x vertex.place
   pub height : vertex.height ≡ q.y vertex.place
 
--- the pair of the run s..e with its slope, and all points of the run under its line; a run of one point has the steepest slope
+-- the pair of the run s..e with its slope, and all points of the
+-- run under its line; a run of one point has the steepest slope
 pub record IsPairOf (q : Points) (eps s e a b : ℕ) (slope : Slope) : Type 0 where
   pub some : s < e
   pub pair : IsSteepOf q eps s e a b
@@ -53,7 +57,8 @@ pub record IsPairOf (q : Points) (eps s e a b : ℕ) (slope : Slope) : Type 0 wh
   pub under : (c : ℕ) → s ≤ c → c < e → IsUnderLine q a slope c
 
 -- the hull of the points before `hulled`, on which the pair of the run s..paired begins
-pub record IsHullOn (q : Points) (eps s hulled paired : ℕ) (vertices : List Vertex) (tangent upper : ℕ) (slope : Slope) : Type 0 where
+pub record IsHullOn
+    (q : Points) (eps s hulled paired : ℕ) (vertices : List Vertex) (tangent upper : ℕ) (slope : Slope) : Type 0 where
   pub inside : tangent < length vertices
   pub few : s + length vertices ≤ hulled
   pub are_points : (k : ℕ) → tangent ≤ k → k < length vertices → IsVertexOf q (vertex_at vertices k)
@@ -73,7 +78,8 @@ abbrev pub spare_of : Hull → ℕ
 spare_of hull = length hull.vertices.items - 1 - hull.tangent
 
 abbrev pub IsHullUpTo : Points → ℕ → ℕ → ℕ → ℕ → Hull → Type 0
-IsHullUpTo q eps s hulled paired hull = IsHullOn q eps s hulled paired hull.vertices.items hull.tangent hull.upper hull.slope.slope
+IsHullUpTo q eps s hulled paired hull =
+    IsHullOn q eps s hulled paired hull.vertices.items hull.tangent hull.upper hull.slope.slope
 
 -- the hull and the pair of the run s..e
 abbrev pub IsHullOf : Points → ℕ → ℕ → ℕ → Hull → Type 0
@@ -90,13 +96,17 @@ pub record IsNextVertex (q : Points) (e : ℕ) (vertex : Vertex) : Type 0 where
 pub record IsFittable (q : Points) (eps s e m : ℕ) : Type 0 where
   pub not_under : (c d : ℕ) → IsPair s e c d → IsAtMost (flat_slope q eps c d) (steep_slope q eps d m)
 
--- what the places e - 1 and m ask of a line or of a slope, those between them ask as well, so that the run s..e may go on to the place m past them
+-- what the places e - 1 and m ask of a line or of a slope, those between
+-- them ask as well, so that the run s..e may go on to the place m past them
 pub record IsPassed (q : Points) (eps s e m : ℕ) : Type 0 where
   pub order : e ≤ m
-  pub under : (a : ℕ) (slope : Slope) → IsUnderLine q a slope (e - 1) → IsUnderLine q a slope m → (c : ℕ) → e ≤ c → c < m → IsUnderLine q a slope c
-  pub least : (slope : Slope) → ((c d : ℕ) → IsPair s e c d → IsAtMost slope (steep_slope q eps c d)) → ((c : ℕ) → s ≤ c → c < e → IsAtMost slope (steep_slope q eps c m)) →
+  pub under : (a : ℕ) (slope : Slope) →
+      IsUnderLine q a slope (e - 1) → IsUnderLine q a slope m → (c : ℕ) → e ≤ c → c < m → IsUnderLine q a slope c
+  pub least : (slope : Slope) → ((c d : ℕ) → IsPair s e c d → IsAtMost slope (steep_slope q eps c d)) →
+      ((c : ℕ) → s ≤ c → c < e → IsAtMost slope (steep_slope q eps c m)) →
       (c d : ℕ) → IsPair s (m + 1) c d → e ≤ d → (d ≡ m → e ≤ c) → IsAtMost slope (steep_slope q eps c d)
-  pub less : (slope : Slope) → ((c d : ℕ) → IsPair s e c d → IsAtMost (steep_slope q eps c d) slope → ⊥) → ((c : ℕ) → s ≤ c → c < e → IsAtMost slope (steep_slope q eps c m)) →
+  pub less : (slope : Slope) → ((c d : ℕ) → IsPair s e c d → IsAtMost (steep_slope q eps c d) slope → ⊥) →
+      ((c : ℕ) → s ≤ c → c < e → IsAtMost slope (steep_slope q eps c m)) →
       (c d : ℕ) → IsPair s (m + 1) c d → e ≤ d → (d ≡ m → e ≤ c) → IsAtMost (steep_slope q eps c d) slope → ⊥
 
 -- the places e..m - 1 lie under the chord from the hull's last vertex to the place m

@@ -30,7 +30,8 @@ spare hulls = spare_of hulls.steep + spare_of hulls.flat
 abbrev pub bound_of : Hulls → ℕ
 bound_of hulls = hulls.eps
 
--- the hulls were given the run s..e of ascending points, each place after the one before it, and some line is within eps at all of them
+-- the hulls were given the run s..e of ascending points, each place
+-- after the one before it, and some line is within eps at all of them
 pub record StandsFor (hulls : Hulls) (p : Points) (eps s e : ℕ) : Type 0 where
   pub ascends : IsAscending p
   pub inside : e ≤ p.count
@@ -42,7 +43,8 @@ pub record StandsFor (hulls : Hulls) (p : Points) (eps s e : ℕ) : Type 0 where
   pub steep : IsHullOf p eps s e hulls.steep
   pub flat : IsHullOf (mirrored p) eps s e hulls.flat
 
--- the places i..j are at even steps: from each to the next x rises by the same, and y climbs by the same and falls by the same
+-- the places i..j are at even steps: from each to the next x rises
+-- by the same, and y climbs by the same and falls by the same
 pub record AreEven (p : Points) (i j : ℕ) : Type 0 where
   pub step : ℕ
   pub climb : ℕ
@@ -55,7 +57,8 @@ pub record EndOn (hulls : Hulls) : Type 0 where
   pub steep : last_of hulls.steep ≡ hulls.last
   pub flat : last_of hulls.flat ≡ hulls.last
 
--- the hulls stand for the run s..e, and the place m of the points, its next one or a later one that lies at even steps with all between and the run's last two, is (x, y)
+-- the hulls stand for the run s..e, and the place m of the points, its next one or a
+-- later one that lies at even steps with all between and the run's last two, is (x, y)
 pub record IsAhead (hulls : Hulls) (p : Points) (eps s e m x y : ℕ) : Type 0 where
   pub stands : StandsFor hulls p eps s e
   pub order : e ≤ m

@@ -13,8 +13,10 @@ pub level-of : (n : ℕ) (runs : List SavedRun) → length runs ≡ n → number
 unfolding level_bytes
 level-of n runs long = ap (λ (k : ℕ). number k ++ flat_map run_bytes runs) (sym long)
 
-pub length-level : (n : ℕ) (runs : List SavedRun) → length runs ≡ n → length (level_bytes runs) ≡ 4 + length (flat_map run_bytes runs)
-length-level n runs long = sym (ap length (level-of n runs long)) ∙ length-append (number n) (flat_map run_bytes runs) ∙ ap (λ (k : ℕ). k + length (flat_map run_bytes runs)) (length-number n)
+pub length-level : (n : ℕ) (runs : List SavedRun) →
+    length runs ≡ n → length (level_bytes runs) ≡ 4 + length (flat_map run_bytes runs)
+length-level n runs long = sym (ap length (level-of n runs long)) ∙ length-append (number n) (flat_map run_bytes runs)
+    ∙ ap (λ (k : ℕ). k + length (flat_map run_bytes runs)) (length-number n)
 
 -- a run whose numbers are all 0
 pub no_run : SavedRun
@@ -38,7 +40,8 @@ number-goes bytes of =
     )
 
 -- and so do the runs behind it
-pub runs-go : (n : ℕ) → n < 2 ^ 32 → (bytes : List ℕ) → AreRuns n bytes → (tail : List ℕ) × IsLevel (number n ++ (bytes ++ tail))
+pub runs-go : (n : ℕ) →
+    n < 2 ^ 32 → (bytes : List ℕ) → AreRuns n bytes → (tail : List ℕ) × IsLevel (number n ++ (bytes ++ tail))
 runs-go n small bytes of = (
   [],
   (

@@ -1,5 +1,6 @@
 -- A part of a list goes on to a whole list, by items like it.
-use Rattle.std.proofs.Common.{◌≡◌, ℕ, zero, suc, ◌-◌, ◌<◌, List, [], ◌∷◌, ◌++◌, length, refl, sym, ap, ◌∙◌, length-append, arith, All}
+use Rattle.std.proofs.Common.{◌≡◌, ℕ, zero, suc, ◌-◌, ◌<◌, List, [], ◌∷◌, ◌++◌}
+use Rattle.std.proofs.Common.{length, refl, sym, ap, ◌∙◌, length-append, arith, All}
 use Rattle.std.specs.List.{flat_map}
 use Rattle.std.proofs.lemmas.List.{append-nil}
 use Rattle.std.proofs.lemmas.Grind.{flat_map-append}
@@ -26,12 +27,14 @@ module _ {T : Type 0} (f : T → List ℕ) (P : T → Type 0) where
   IsList n bytes = (items : List T) × (length items ≡ n) × All P items × (bytes ≡ flat_map f items)
 
   -- behind the items so far and the bytes of one more
-  pub list-goes : (done : List T) (n : ℕ) (item : T) (bytes : List ℕ) → All P done → P item → length done < n → bytes ≡ f item →
+  pub list-goes : (done : List T) (n : ℕ) (item : T) (bytes : List ℕ) →
+      All P done → P item → length done < n → bytes ≡ f item →
       (tail : List ℕ) × IsList n (flat_map f done ++ (bytes ++ tail))
   list-goes done n item bytes fit fits less is =
       let more = many item (n - length done - 1) in
       let whole : flat_map f done ++ (bytes ++ flat_map f more) ≡ flat_map f (done ++ item ∷ more) =
-      ap (λ (w : List ℕ). flat_map f done ++ (w ++ flat_map f more)) is ∙ sym (flat_map-append f done (item ∷ more)) in (
+      ap (λ (w : List ℕ). flat_map f done ++ (w ++ flat_map f more)) is
+      ∙ sym (flat_map-append f done (item ∷ more)) in (
         flat_map f more,
         (
           done ++ item ∷ more,
@@ -42,4 +45,5 @@ module _ {T : Type 0} (f : T → List ℕ) (P : T → Type 0) where
       )
 
   pub list-push : (done : List T) (item : T) → flat_map f done ++ f item ≡ flat_map f (done ++ item ∷ [])
-  list-push done item = ap (λ (w : List ℕ). flat_map f done ++ w) (sym (append-nil (f item))) ∙ sym (flat_map-append f done (item ∷ []))
+  list-push done item =
+      ap (λ (w : List ℕ). flat_map f done ++ w) (sym (append-nil (f item))) ∙ sym (flat_map-append f done (item ∷ []))

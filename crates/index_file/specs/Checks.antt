@@ -26,7 +26,8 @@ pub record IsFirstDifference (one two : List (List SavedRun)) (i : ℕ) : Type 0
 -- level i is the least one that isn't that of the index of the points for the saved error bounds
 abbrev pub IsWrongAt : List ℕ → List ℕ → SavedIndex → ℕ → Type 0
 IsWrongAt xs ys saved i =
-    (levels : List (List Segment)) → IsIndexOver xs ys saved.eps saved.eps_rec levels → IsFirstDifference saved.levels (saved_levels levels) i
+    (levels : List (List Segment)) →
+    IsIndexOver xs ys saved.eps saved.eps_rec levels → IsFirstDifference saved.levels (saved_levels levels) i
 
 -- why a saved index wasn't found right
 abbrev pub HasCheckCause : List ℕ → List ℕ → SavedIndex → CheckFault → Type 0

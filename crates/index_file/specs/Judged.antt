@@ -22,11 +22,13 @@ abbrev pub first_start : List SavedRun → ℕ → ℕ
 first_start [] to = to
 first_start (run ∷ later) to = run.start
 
--- the run s..e ends with the point e over the pair (a, b), its steep one, or under the one that is told, which is its flat one
+-- the run s..e ends with the point e over the pair (a, b), its
+-- steep one, or under the one that is told, which is its flat one
 abbrev pub EndsBy : Points → ℕ → ℕ → ℕ → ℕ → ℕ → SavedCut → Type 0
 EndsBy p eps s e a b Last = ⊥
 EndsBy p eps s e a b Over = IsWitness p eps (record { p = a; q = b; r = e; side = OverSide })
-EndsBy p eps s e a b (Under c d) = (s + 1 < e) × HasFlatPair p eps s e c d × IsWitness p eps (record { p = c; q = d; r = e; side = UnderSide })
+EndsBy p eps s e a b (Under c d) =
+    (s + 1 < e) × HasFlatPair p eps s e c d × IsWitness p eps (record { p = c; q = d; r = e; side = UnderSide })
 
 -- the last run is told to be the last, and each other one ends as is told
 pub record HasSavedCut (p : Points) (eps : ℕ) (run : SavedRun) (e : ℕ) : Type 0 where

@@ -1,8 +1,10 @@
 -- Keys that don't repeat are their distinct ones and the x of their points.
 --
--- Main results: `distinct_of-alone`, since a list that loses no key to its repeats has none, and `xs_of-alone`, since a key that
+-- Main results: `distinct_of-alone`, since a list that loses no
+-- key to its repeats has none, and `xs_of-alone`, since a key that
 -- stands once isn't closed.
-use Rattle.std.proofs.Common.{◌≡◌, ℕ, suc, ◌+◌, ◌<◌, ◌≤◌, List, [], ◌∷◌, ◌++◌, length, slice_index, false, eqb, ltb, refl, ap, ◌∙◌, subst, arith, inl, inr}
+use Rattle.std.proofs.Common.{◌≡◌, ℕ, suc, ◌+◌, ◌<◌, ◌≤◌, List, [], ◌∷◌, ◌++◌, length}
+use Rattle.std.proofs.Common.{slice_index, false, eqb, ltb, refl, ap, ◌∙◌, subst, arith, inl, inr}
 use Rattle.std.proofs.lemmas.Bool.{cases_lt, cond-true, cond-false, lt-ltb, le-ltb}
 use Rattle.std.proofs.lemmas.Bool.Decides.{nat_tests}
 use Rattle.std.specs.List.{dedup_from, flat_map}
@@ -51,13 +53,15 @@ not_less : (a b : ℕ) → a ≤ b → is_lt (nat_cmp b a) ≡ false
 not_less a b le = grind (arith, nat_tests)
 
 sorted : (xs : List ℕ) → IsNonDecreasing xs → IsSorted nat_cmp xs
-sorted xs never_falls k d low high = not_less (get_or xs k d) (get_or xs (k + 1) d) (never_falls k (k + 1) d (omega arith) high)
+sorted xs never_falls k d low high =
+    not_less (get_or xs k d) (get_or xs (k + 1) d) (never_falls k (k + 1) d (omega arith) high)
 
 pub IsStrictlyIncreasing-distinct_of : (keys : List ℕ) → IsNonDecreasing keys → IsStrictlyIncreasing (distinct_of keys)
 IsStrictlyIncreasing-distinct_of keys order = IsStrictlyIncreasing-dedup keys (sorted keys order)
 
 -- points without a closing one
-singles : (keys xs : List ℕ) → ((j : ℕ) → j < length xs → is_closed keys (slice_index xs j) ≡ false) → flat_map (with_closing keys) xs ≡ xs
+singles : (keys xs : List ℕ) →
+    ((j : ℕ) → j < length xs → is_closed keys (slice_index xs j) ≡ false) → flat_map (with_closing keys) xs ≡ xs
 singles keys [] none = refl
 singles keys (x ∷ xs) none =
     let first : with_closing keys x ≡ x ∷ [] = rw (none 0 (omega arith)) refl in
@@ -67,7 +71,8 @@ singles keys (x ∷ xs) none =
 -- of rising keys as many are below one as stand before it
 module _ (keys : List ℕ) (rises : IsStrictlyIncreasing keys) (j : ℕ) (inside : j < length keys) where
   pub lb-rising : lb keys (slice_index keys j) ≡ j
-  lb-rising = lb-is keys (slice_index keys j) j (omega (arith, inside)) (λ k low. slice_index-rises keys k j rises low inside) from
+  lb-rising = lb-is keys
+      (slice_index keys j) j (omega (arith, inside)) (λ k low. slice_index-rises keys k j rises low inside) from
     where
       from : (k : ℕ) → j ≤ k → k < length keys → slice_index keys j ≤ slice_index keys k
       from k low within = elim (cases_lt j k) [
@@ -87,7 +92,8 @@ module _ (keys : List ℕ) (rises : IsStrictlyIncreasing keys) (j : ℕ) (inside
 
   -- a rising key stands once
   once_closed : is_closed keys (slice_index keys j) ≡ false
-  once_closed = first_fails (times keys (slice_index keys j)) (slice_index keys j) _ (omega (arith, times-lb keys (slice_index keys j), lb-rising, lb-rising_next))
+  once_closed = first_fails (times keys (slice_index keys j))
+      (slice_index keys j) _ (omega (arith, times-lb keys (slice_index keys j), lb-rising, lb-rising_next))
 
 pub xs_of-alone : (keys : List ℕ) → IsNonDecreasing keys → distinct_of keys ≡ keys → xs_of keys ≡ keys
 xs_of-alone keys order alone =
@@ -95,16 +101,22 @@ xs_of-alone keys order alone =
     ap (flat_map (with_closing keys)) alone ∙ singles keys keys (once_closed keys rises)
 
 -- the first position of the j-th distinct key
-pub first_of-inner : (keys : List ℕ) (j : ℕ) → j < length (distinct_of keys) → first_of keys j ≡ lb keys (slice_index (distinct_of keys) j)
-first_of-inner keys j inside = cond-true (ltb j (length (distinct_of keys))) _ _ (lt-ltb j (length (distinct_of keys)) inside)
+pub first_of-inner : (keys : List ℕ) (j : ℕ) →
+    j < length (distinct_of keys) → first_of keys j ≡ lb keys (slice_index (distinct_of keys) j)
+first_of-inner keys j inside =
+    cond-true (ltb j (length (distinct_of keys))) _ _ (lt-ltb j (length (distinct_of keys)) inside)
 
 pub first_of-last : (keys : List ℕ) (j : ℕ) → length (distinct_of keys) ≤ j → first_of keys j ≡ length keys
-first_of-last keys j past = cond-false (ltb j (length (distinct_of keys))) _ _ (le-ltb j (length (distinct_of keys)) past)
+first_of-last keys j past =
+    cond-false (ltb j (length (distinct_of keys))) _ _ (le-ltb j (length (distinct_of keys)) past)
 
-pub first_of-alone : (keys : List ℕ) (j : ℕ) → IsNonDecreasing keys → distinct_of keys ≡ keys → j ≤ length keys → first_of keys j ≡ j
+pub first_of-alone : (keys : List ℕ) (j : ℕ) →
+    IsNonDecreasing keys → distinct_of keys ≡ keys → j ≤ length keys → first_of keys j ≡ j
 first_of-alone keys j order alone within = elim (cases_lt j (length keys)) [
   | inl inside ↦
-      let rises = subst (λ (xs : List ℕ). IsStrictlyIncreasing xs) alone (IsStrictlyIncreasing-distinct_of keys order) in
-      first_of-inner keys j (omega (arith, ap length alone)) ∙ ap (λ (xs : List ℕ). lb keys (slice_index xs j)) alone ∙ lb-rising keys rises j inside
+      let rises =
+      subst (λ (xs : List ℕ). IsStrictlyIncreasing xs) alone (IsStrictlyIncreasing-distinct_of keys order) in
+      first_of-inner keys j (omega (arith, ap length alone))
+      ∙ ap (λ (xs : List ℕ). lb keys (slice_index xs j)) alone ∙ lb-rising keys rises j inside
   | inr last ↦ first_of-last keys j (omega (arith, ap length alone)) ∙ omega arith
 ]

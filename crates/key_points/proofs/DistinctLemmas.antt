@@ -1,6 +1,7 @@
 -- What a list without repeats gains by one key more, and how often a key stands.
 --
--- Main results: a key like the one before it adds nothing (`distinct_of-same`), another one adds itself (`distinct_of-new`); and
+-- Main results: a key like the one before it adds nothing
+-- (`distinct_of-same`), another one adds itself (`distinct_of-new`); and
 -- a key stands as often as the keys below the next number outnumber those below it (`times-lb`).
 use Rattle.std.proofs.Common.{◌≡◌, ◌≢◌, ℕ, ◌+◌, List, [], ◌∷◌, ◌++◌, cond, eqb, ltb, refl, arith}
 use Rattle.std.proofs.lemmas.Bool.Decides.{nat_tests}
@@ -9,11 +10,13 @@ use Rattle.std.specs.List.{dedup_from}
 use Rattle.window_search.specs.Searches.{lb}
 use Rattle.key_points.specs.KeyPoints.{distinct_of, times}
 
-from-same : (k : ℕ) (xs : List ℕ) (y : ℕ) → dedup_from eqb k ((xs ++ y ∷ []) ++ y ∷ []) ≡ dedup_from eqb k (xs ++ y ∷ [])
+from-same : (k : ℕ) (xs : List ℕ) (y : ℕ) →
+    dedup_from eqb k ((xs ++ y ∷ []) ++ y ∷ []) ≡ dedup_from eqb k (xs ++ y ∷ [])
 from-same k [] y = grind (arith, nat_tests)
 from-same k (x ∷ xs) y = grind (arith, nat_tests, from-same k xs y, from-same x xs y)
 
-from-new : (k : ℕ) (xs : List ℕ) (y z : ℕ) → y ≢ z → dedup_from eqb k ((xs ++ y ∷ []) ++ z ∷ []) ≡ dedup_from eqb k (xs ++ y ∷ []) ++ z ∷ []
+from-new : (k : ℕ) (xs : List ℕ) (y z : ℕ) →
+    y ≢ z → dedup_from eqb k ((xs ++ y ∷ []) ++ z ∷ []) ≡ dedup_from eqb k (xs ++ y ∷ []) ++ z ∷ []
 from-new k [] y z differ = grind (arith, nat_tests)
 from-new k (x ∷ xs) y z differ = grind (arith, nat_tests, from-new k xs y z differ, from-new x xs y z differ)
 
@@ -21,7 +24,8 @@ pub distinct_of-same : (xs : List ℕ) (y : ℕ) → distinct_of ((xs ++ y ∷ [
 distinct_of-same [] y = grind (arith, nat_tests)
 distinct_of-same (x ∷ xs) y = from-same x xs y
 
-pub distinct_of-new : (xs : List ℕ) (y z : ℕ) → y ≢ z → distinct_of ((xs ++ y ∷ []) ++ z ∷ []) ≡ distinct_of (xs ++ y ∷ []) ++ z ∷ []
+pub distinct_of-new : (xs : List ℕ) (y z : ℕ) →
+    y ≢ z → distinct_of ((xs ++ y ∷ []) ++ z ∷ []) ≡ distinct_of (xs ++ y ∷ []) ++ z ∷ []
 distinct_of-new [] y z differ = grind (arith, nat_tests)
 distinct_of-new (x ∷ xs) y z differ = from-new x xs y z differ
 

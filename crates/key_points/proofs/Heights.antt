@@ -1,5 +1,6 @@
 -- What one key more adds to the number of distinct keys, and to the heights of keys that stand once.
-use Rattle.std.proofs.Common.{◌≡◌, ◌≢◌, ℕ, ◌+◌, ◌-◌, ◌<◌, ◌≤◌, min, List, [], ◌∷◌, ◌++◌, length, take, slice_index, refl, sym, ap, ◌∙◌, subst, arith, length-append, zero, suc, inl, inr}
+use Rattle.std.proofs.Common.{◌≡◌, ◌≢◌, ℕ, ◌+◌, ◌-◌, ◌<◌, ◌≤◌, min, List, [], ◌∷◌, ◌++◌, length, take}
+use Rattle.std.proofs.Common.{slice_index, refl, sym, ap, ◌∙◌, subst, arith, length-append, zero, suc, inl, inr}
 use Rattle.std.proofs.lemmas.List.{take_more, take_all, get_or_append_left, ext_get_or}
 use Rattle.std.proofs.Math.Seq.{get_or-append_seam}
 use Rattle.std.specs.List.Sorted.{IsNonDecreasing, IsStrictlyIncreasing}
@@ -20,21 +21,27 @@ count-first [] = refl
 count-first (key ∷ keys) = omega arith
 
 -- the keys up to this one end with the two
-last-two : (keys : List ℕ) (i : ℕ) → 1 ≤ i → i < length keys → take (i + 1) keys ≡ (take (i - 1) keys ++ slice_index keys (i - 1) ∷ []) ++ slice_index keys i ∷ []
+last-two : (keys : List ℕ) (i : ℕ) → 1 ≤ i → i < length keys →
+    take (i + 1) keys ≡ (take (i - 1) keys ++ slice_index keys (i - 1) ∷ []) ++ slice_index keys i ∷ []
 last-two keys i some inside =
     let before : i ≡ i - 1 + 1 = omega arith in
     take_more keys i 0 inside
-    ∙ ap (λ (l : List ℕ). l ++ slice_index keys i ∷ []) (ap (λ (k : ℕ). take k keys) before ∙ take_more keys (i - 1) 0 (omega (arith, inside)))
+    ∙ ap (λ (l : List ℕ). l ++ slice_index keys i ∷ [])
+    (ap (λ (k : ℕ). take k keys) before ∙ take_more keys (i - 1) 0 (omega (arith, inside)))
 
-last-one : (keys : List ℕ) (i : ℕ) → 1 ≤ i → i < length keys → take i keys ≡ take (i - 1) keys ++ slice_index keys (i - 1) ∷ []
+last-one : (keys : List ℕ) (i : ℕ) →
+    1 ≤ i → i < length keys → take i keys ≡ take (i - 1) keys ++ slice_index keys (i - 1) ∷ []
 last-one keys i some inside =
-    let before : i ≡ i - 1 + 1 = omega arith in ap (λ (k : ℕ). take k keys) before ∙ take_more keys (i - 1) 0 (omega (arith, inside))
+    let before : i ≡ i - 1 + 1 = omega arith in
+    ap (λ (k : ℕ). take k keys) before ∙ take_more keys (i - 1) 0 (omega (arith, inside))
 
-list-same : (keys : List ℕ) (i : ℕ) → 1 ≤ i → i < length keys → slice_index keys i ≡ slice_index keys (i - 1) → distinct_of (take (i + 1) keys) ≡ distinct_of (take i keys)
+list-same : (keys : List ℕ) (i : ℕ) → 1 ≤ i → i < length keys →
+    slice_index keys i ≡ slice_index keys (i - 1) → distinct_of (take (i + 1) keys) ≡ distinct_of (take i keys)
 list-same keys i some inside same =
     let front = take (i - 1) keys in
     let key = slice_index keys (i - 1) in
-    ap distinct_of (last-two keys i some inside ∙ ap (λ (k : ℕ). (front ++ key ∷ []) ++ k ∷ []) same) ∙ distinct_of-same front key ∙ ap distinct_of (sym (last-one keys i some inside))
+    ap distinct_of (last-two keys i some inside ∙ ap (λ (k : ℕ). (front ++ key ∷ []) ++ k ∷ []) same)
+    ∙ distinct_of-same front key ∙ ap distinct_of (sym (last-one keys i some inside))
 
 list-new : (keys : List ℕ) (i : ℕ) → 1 ≤ i → i < length keys → slice_index keys i ≢ slice_index keys (i - 1) →
     distinct_of (take (i + 1) keys) ≡ distinct_of (take i keys) ++ slice_index keys i ∷ []
@@ -51,13 +58,16 @@ count-same keys i some inside same = ap length (list-same keys i some inside sam
 
 pub count-new : (keys : List ℕ) (i : ℕ) → 1 ≤ i → i < length keys → slice_index keys i ≢ slice_index keys (i - 1) →
     length (distinct_of (take (i + 1) keys)) ≡ length (distinct_of (take i keys)) + 1
-count-new keys i some inside differ = ap length (list-new keys i some inside differ) ∙ length-append (distinct_of (take i keys)) (slice_index keys i ∷ [])
+count-new keys i some inside differ =
+    ap length (list-new keys i some inside differ) ∙ length-append (distinct_of (take i keys)) (slice_index keys i ∷ [])
 
-pub count-all : (keys : List ℕ) (i : ℕ) → length keys ≤ i → length (distinct_of (take i keys)) ≡ length (distinct_of keys)
+pub count-all : (keys : List ℕ) (i : ℕ) →
+    length keys ≤ i → length (distinct_of (take i keys)) ≡ length (distinct_of keys)
 count-all keys i past = ap (λ (l : List ℕ). length (distinct_of l)) (take_all i keys past)
 
 -- a key more takes none away
-counts-step : (keys : List ℕ) (i : ℕ) → 1 ≤ i → i < length keys → length (distinct_of (take i keys)) ≤ length (distinct_of (take (i + 1) keys))
+counts-step : (keys : List ℕ) (i : ℕ) →
+    1 ≤ i → i < length keys → length (distinct_of (take i keys)) ≤ length (distinct_of (take (i + 1) keys))
 counts-step keys i some inside = elim (cases_lt (slice_index keys i) (slice_index keys (i - 1))) [
   | inl less ↦ omega (arith, count-new keys i some inside (λ same. omega (arith, same, less)))
   | inr rest ↦ elim (cases_lt (slice_index keys (i - 1)) (slice_index keys i)) [
@@ -66,7 +76,8 @@ counts-step keys i some inside = elim (cases_lt (slice_index keys i) (slice_inde
   ]
 ]
 
-counts-grow : (keys : List ℕ) (k m : ℕ) → 1 ≤ k → k + m ≤ length keys → length (distinct_of (take k keys)) ≤ length (distinct_of (take (k + m) keys))
+counts-grow : (keys : List ℕ) (k m : ℕ) →
+    1 ≤ k → k + m ≤ length keys → length (distinct_of (take k keys)) ≤ length (distinct_of (take (k + m) keys))
 counts-grow keys k zero some within =
     let same : k ≡ k + 0 = omega arith in omega (arith, ap (λ (n : ℕ). length (distinct_of (take n keys))) same)
 counts-grow keys k (suc m) some within =
@@ -79,7 +90,8 @@ counts-grow keys k (suc m) some within =
     )
 
 -- before a group there are fewer distinct keys than in all
-pub group-more : (keys : List ℕ) (at end : ℕ) → IsNonDecreasing keys → IsGroupStart keys at → IsGroupEnd keys at end → length (distinct_of (take at keys)) + 1 ≤ length (distinct_of keys)
+pub group-more : (keys : List ℕ) (at end : ℕ) → IsNonDecreasing keys →
+    IsGroupStart keys at → IsGroupEnd keys at end → length (distinct_of (take at keys)) + 1 ≤ length (distinct_of keys)
 group-more keys at end order start group =
     let all : end + (length keys - end) ≡ length keys = omega (arith, group.within) in
     omega (
@@ -95,7 +107,8 @@ kept-step : (keys : List ℕ) (i j : ℕ) → 1 ≤ i → i < length keys → j 
     slice_index (distinct_of (take (i + 1) keys)) j ≡ slice_index (distinct_of (take i keys)) j
 kept-step keys i j some inside below = elim (cases_eq (slice_index keys i) (slice_index keys (i - 1))) [
   | inl same ↦ ap (λ (l : List ℕ). slice_index l j) (list-same keys i some inside same)
-  | inr differ ↦ ap (λ (l : List ℕ). slice_index l j) (list-new keys i some inside differ) ∙ get_or_append_left (distinct_of (take i keys)) (slice_index keys i ∷ []) 0 j below
+  | inr differ ↦ ap (λ (l : List ℕ). slice_index l j) (list-new keys i some inside differ)
+      ∙ get_or_append_left (distinct_of (take i keys)) (slice_index keys i ∷ []) 0 j below
 ]
 
 kept : (keys : List ℕ) (k m j : ℕ) → 1 ≤ k → k + m ≤ length keys → j < length (distinct_of (take k keys)) →
@@ -103,7 +116,8 @@ kept : (keys : List ℕ) (k m j : ℕ) → 1 ≤ k → k + m ≤ length keys →
 kept keys k zero j some within below = ap (λ (n : ℕ). slice_index (distinct_of (take n keys)) j) (omega arith)
 kept keys k (suc m) j some within below =
     ap (λ (n : ℕ). slice_index (distinct_of (take n keys)) j) (omega arith)
-    ∙ kept-step keys (k + m) j (omega (arith, some)) (omega (arith, within)) (omega (arith, below, counts-grow keys k m some (omega (arith, within))))
+    ∙ kept-step keys (k + m) j (omega (arith, some))
+    (omega (arith, within)) (omega (arith, below, counts-grow keys k m some (omega (arith, within))))
     ∙ kept keys k m j some (omega (arith, within)) below
 
 -- the key of a group is the distinct one of its number
@@ -112,7 +126,8 @@ pub group-key : (keys : List ℕ) (at end : ℕ) → IsNonDecreasing keys → Is
 group-key keys at end order start group =
     let j = length (distinct_of (take at keys)) in
     let here = distinct_of-group keys at end order start group in
-    let inside : j < length (distinct_of (take end keys)) = omega (arith, ap length here, length-append (distinct_of (take at keys)) (slice_index keys at ∷ [])) in
+    let inside : j < length (distinct_of (take end keys)) =
+    omega (arith, ap length here, length-append (distinct_of (take at keys)) (slice_index keys at ∷ [])) in
     let all : length keys ≤ end + (length keys - end) = omega arith in
     ap (λ (l : List ℕ). slice_index (distinct_of l) j) (sym (take_all (end + (length keys - end)) keys all))
     ∙ kept keys end (length keys - end) j (omega (arith, group.some)) (omega (arith, group.within)) inside
@@ -120,13 +135,15 @@ group-key keys at end order start group =
     ∙ get_or-append_seam (distinct_of (take at keys)) (slice_index keys at) [] 0
 
 -- where a group begins, its key stands first
-pub first_of-group : (keys : List ℕ) (at end : ℕ) → IsNonDecreasing keys → IsGroupStart keys at → IsGroupEnd keys at end → first_of keys (length (distinct_of (take at keys))) ≡ at
+pub first_of-group : (keys : List ℕ) (at end : ℕ) → IsNonDecreasing keys →
+    IsGroupStart keys at → IsGroupEnd keys at end → first_of keys (length (distinct_of (take at keys))) ≡ at
 first_of-group keys at end order start group =
     first_of-inner keys (length (distinct_of (take at keys))) (omega (arith, group-more keys at end order start group))
     ∙ ap (lb keys) (group-key keys at end order start group) ∙ lb-start keys at end order start group
 
 -- a group has an end
-pub group-end : (keys : List ℕ) (at : ℕ) → IsNonDecreasing keys → at < length keys → IsGroupEnd keys at (lb keys (slice_index keys at + 1))
+pub group-end : (keys : List ℕ) (at : ℕ) →
+    IsNonDecreasing keys → at < length keys → IsGroupEnd keys at (lb keys (slice_index keys at + 1))
 group-end keys at order inside =
     let end = lb keys (slice_index keys at + 1) in
     let bound = IsLowerBound-lb keys (slice_index keys at + 1) order in
@@ -138,7 +155,8 @@ group-end keys at order inside =
     }
 
 -- behind a group the next one begins
-pub next-group : (keys : List ℕ) (at end : ℕ) → IsGroupStart keys at → IsGroupEnd keys at end → end < length keys → IsGroupStart keys end
+pub next-group : (keys : List ℕ) (at end : ℕ) →
+    IsGroupStart keys at → IsGroupEnd keys at end → end < length keys → IsGroupStart keys end
 next-group keys at end start group inside = record {
   inside = inside;
   before = λ k less. elim (cases_lt k at) [
@@ -154,5 +172,7 @@ ys_of-alone keys order alone =
     let points = xs_of-alone keys order alone in
     let count : length (ys_of keys) ≡ length keys = ys-length keys ∙ ap length points in
     ext_get_or 0 (ys_of keys) (places (length keys)) (count ∙ sym (length-places (length keys))) (λ j inside.
-    ys-at keys j (omega (arith, ap length points, count, inside)) ∙ ap (λ (xs : List ℕ). lb keys (slice_index xs j)) points ∙ lb-rising keys rises j (omega (arith, count, inside))
+    ys-at keys j (omega (arith, ap length points, count, inside))
+    ∙ ap (λ (xs : List ℕ). lb keys (slice_index xs j)) points
+    ∙ lb-rising keys rises j (omega (arith, count, inside))
     ∙ sym (slice_index-places (length keys) j (omega (arith, count, inside))))

@@ -1,5 +1,7 @@
--- Lists by their first element: numbers that are in a list, that never fall or that rise from a bound on, and the same by places.
-use Rattle.std.proofs.Common.{◌≡◌, ◌⊎◌, inl, inr, ℕ, zero, suc, ◌+◌, ◌<◌, ◌≤◌, List, [], ◌∷◌, ◌++◌, length, get_or, slice_index, sym, arith, add-one}
+-- Lists by their first element: numbers that are in a list, that
+-- never fall or that rise from a bound on, and the same by places.
+use Rattle.std.proofs.Common.{◌≡◌, ◌⊎◌, inl, inr, ℕ, zero, suc, ◌+◌, ◌<◌, ◌≤◌, List, []}
+use Rattle.std.proofs.Common.{◌∷◌, ◌++◌, length, get_or, slice_index, sym, arith, add-one}
 use Rattle.std.specs.List.Sorted.{IsNonDecreasing, IsStrictlyIncreasing}
 
 -- the number stands in the list
@@ -17,16 +19,21 @@ abbrev pub RisesFrom : ℕ → List ℕ → Type 0
 RisesFrom low [] = Unit {0}
 RisesFrom low (x ∷ xs) = (low ≤ x) × RisesFrom (x + 1) xs
 
-pub NeverFallsFrom-in : (low : ℕ) (xs : List ℕ) → IsNonDecreasing xs → (0 < length xs → low ≤ slice_index xs 0) → NeverFallsFrom low xs
+pub NeverFallsFrom-in : (low : ℕ) (xs : List ℕ) →
+    IsNonDecreasing xs → (0 < length xs → low ≤ slice_index xs 0) → NeverFallsFrom low xs
 NeverFallsFrom-in low [] order first = tt
-NeverFallsFrom-in low (x ∷ xs) order first =
-    (first (omega arith), NeverFallsFrom-in x xs (λ i j d below inside. order (suc i) (suc j) d (omega arith) (omega arith)) (λ some. order 0 1 0 (omega arith) (omega arith)))
+NeverFallsFrom-in low (x ∷ xs) order first = (
+  first (omega arith),
+  NeverFallsFrom-in x xs (λ i j d below inside. order (suc i) (suc j) d (omega arith) (omega arith))
+      (λ some. order 0 1 0 (omega arith) (omega arith)),
+)
 
 pub RisesFrom-first : (low : ℕ) (xs : List ℕ) → RisesFrom low xs → 0 < length xs → low ≤ slice_index xs 0
 RisesFrom-first low [] rise some = absurd (omega arith)
 RisesFrom-first low (x ∷ xs) rise some = rise.0
 
-rises_at : (low : ℕ) (xs : List ℕ) → RisesFrom low xs → (k : ℕ) → suc k < length xs → get_or xs k 0 < get_or xs (suc k) 0
+rises_at : (low : ℕ) (xs : List ℕ) →
+    RisesFrom low xs → (k : ℕ) → suc k < length xs → get_or xs k 0 < get_or xs (suc k) 0
 rises_at low [] rise k inside = absurd (omega arith)
 rises_at low (x ∷ xs) rise zero inside = let first = RisesFrom-first (x + 1) xs rise.1 (omega arith) in omega arith
 rises_at low (x ∷ xs) rise (suc k) inside = rises_at (x + 1) xs rise.1 k (omega arith)
@@ -51,4 +58,5 @@ IsIn-right x (y ∷ xs) ys inside = inr (IsIn-right x xs ys inside)
 pub IsIn-append : (x : ℕ) (xs ys : List ℕ) → IsIn x (xs ++ ys) → IsIn x xs ⊎ IsIn x ys
 IsIn-append x [] ys inside = inr inside
 IsIn-append x (y ∷ xs) ys (inl same) = inl (inl same)
-IsIn-append x (y ∷ xs) ys (inr later) = elim (IsIn-append x xs ys later) [ inl left ↦ inl (inr left) | inr right ↦ inr right ]
+IsIn-append x (y ∷ xs) ys (inr later) =
+    elim (IsIn-append x xs ys later) [ inl left ↦ inl (inr left) | inr right ↦ inr right ]

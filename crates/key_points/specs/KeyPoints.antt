@@ -1,5 +1,7 @@
--- The points that level 0 stands on: each distinct key of a file with its first position, and a closing point past equal keys.
-use Rattle.std.specs.Prelude.{ℕ, ◌+◌, List, [], ◌∷◌, length, slice_index, map, Bool, nat_eq, nat_lt, count_by, if◌then◌else◌, ◌&&◌}
+-- The points that level 0 stands on: each distinct key of a file
+-- with its first position, and a closing point past equal keys.
+use Rattle.std.specs.Prelude.{ℕ, ◌+◌, List, [], ◌∷◌, length, slice_index, map}
+use Rattle.std.specs.Prelude.{Bool, nat_eq, nat_lt, count_by, if◌then◌else◌, ◌&&◌}
 use Rattle.std.specs.List.{dedup, flat_map}
 use Rattle.window_search.specs.Searches.{lb}
 
@@ -9,7 +11,8 @@ distinct_of keys = dedup nat_eq keys
 
 -- how many keys are below the j-th distinct one, counted from 0, and all of them where j is the number of distinct ones
 abbrev pub first_of : List ℕ → ℕ → ℕ
-first_of keys j = if nat_lt j (length (distinct_of keys)) then lb keys (slice_index (distinct_of keys) j) else length keys
+first_of keys j =
+    if nat_lt j (length (distinct_of keys)) then lb keys (slice_index (distinct_of keys) j) else length keys
 
 -- how many keys are equal to this one
 abbrev pub times : List ℕ → ℕ → ℕ

@@ -12,10 +12,16 @@ use Rattle.kuldebiq.specs.Changes.{fault_as}
 use Rattle.kuldebiq.specs.Updates.{update_of, IsTooMuchFor}
 
 -- by the fault
-pub refused_by : (held : Held) (parts : List UpdateParts) (updates : List Update) (fault : MapFault) (answer : Answer) → updates ≡ map update_of parts → answer ≡ fault_as fault
-    → ((accepted : ℕ) → fault ≡ Full accepted → (accepted ≡ held.accepted) × ((before : List Update) → StandsFor held before → capacity_of held < length (entries_of (before ++ updates))))
+pub refused_by : (held : Held) (parts : List UpdateParts) (updates : List Update) (fault : MapFault) (answer : Answer) →
+    updates ≡ map update_of parts → answer ≡ fault_as fault
+    → ((accepted : ℕ) → fault ≡ Full accepted → (accepted ≡ held.accepted)
+    × ((before : List Update) → StandsFor held before → capacity_of held < length (entries_of (before ++ updates))))
     → ((answer ≡ refuses 11 held.accepted) × IsTooMuchFor held parts) ⊎ (answer ≡ refuses 1 0)
 refused_by held parts updates (Full accepted) answer same is full =
     let only = full accepted (λ i. Full accepted) in
-    inl (is ∙ ap (refuses 11) only.0, λ before stands. subst (λ (list : List Update). capacity_of held < length (entries_of (before ++ list))) same (only.1 before stands))
+    inl (
+      is ∙ ap (refuses 11) only.0,
+      λ before stands. subst
+          (λ (list : List Update). capacity_of held < length (entries_of (before ++ list))) same (only.1 before stands),
+    )
 refused_by held parts updates NoMemory answer same is full = inr is

@@ -24,12 +24,14 @@ RefusesOrder keys answer = (place : ℕ) × (answer ≡ refuses UNSORTED place) 
 
 -- too many keys, with their number, or else keys that fall
 abbrev pub RefusesKeys : List ℕ → Answer → Type 0
-RefusesKeys keys answer = ((answer ≡ refuses TOO_MANY_KEYS (length keys)) × (2 ^ 32 ≤ length keys)) ⊎ ((length keys < 2 ^ 32) × RefusesOrder keys answer)
+RefusesKeys keys answer = ((answer ≡ refuses TOO_MANY_KEYS (length keys)) × (2 ^ 32 ≤ length keys))
+    ⊎ ((length keys < 2 ^ 32) × RefusesOrder keys answer)
 
 -- an error bound that is too great, with the greater of the two, or else keys that are refused
 abbrev pub IsRefusal : List ℕ → ℕ → ℕ → Answer → Type 0
 IsRefusal keys eps eps_rec answer =
-    ((answer ≡ refuses EPSILON_TOO_GREAT (max eps eps_rec)) × (MAX_EPSILON < max eps eps_rec)) ⊎ ((max eps eps_rec ≤ MAX_EPSILON) × RefusesKeys keys answer)
+    ((answer ≡ refuses EPSILON_TOO_GREAT (max eps eps_rec)) × (MAX_EPSILON < max eps eps_rec))
+    ⊎ ((max eps eps_rec ≤ MAX_EPSILON) × RefusesKeys keys answer)
 
 -- a fault of keys as an answer
 abbrev pub refused_as : KeysFault → Answer

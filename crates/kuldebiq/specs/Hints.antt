@@ -18,9 +18,11 @@ pub record CanHaveHints (keys : List ℕ) (eps : ℕ) : Type 0 where
 
 -- an error bound that is too great, or else keys that are refused
 abbrev pub IsHintsRefusal : List ℕ → ℕ → Answer → Type 0
-IsHintsRefusal keys eps answer = ((answer ≡ refuses EPSILON_TOO_GREAT eps) × (MAX_EPSILON < eps)) ⊎ ((eps ≤ MAX_EPSILON) × RefusesKeys keys answer)
+IsHintsRefusal keys eps answer =
+    ((answer ≡ refuses EPSILON_TOO_GREAT eps) × (MAX_EPSILON < eps)) ⊎ ((eps ≤ MAX_EPSILON) × RefusesKeys keys answer)
 
--- the hints lead to within ε + 2 in the keys, have as many lines as the least cover of the keys' points within ε has runs, and are in the format, at most 6 and five for each line
+-- the hints lead to within ε + 2 in the keys, have as many lines as the least cover of the
+-- keys' points within ε has runs, and are in the format, at most 6 and five for each line
 pub record AreHintsOf (keys : List ℕ) (eps : ℕ) (hints : List ℕ) : Type 0 where
   pub lead : LeadsWithin hints keys (eps + 2)
   pub least : HaveLeastLines keys eps hints

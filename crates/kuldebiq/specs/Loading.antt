@@ -32,7 +32,8 @@ RefusesPairs levels pairs answer =
 
 -- a number of levels that no map has, or else pairs that are refused
 abbrev pub IsLoadRefusal : ℕ → List (ℕ × ℕ) → Answer → Type 0
-IsLoadRefusal levels pairs answer = RefusesLevels levels answer ⊎ (IsLevelCount levels × RefusesPairs levels pairs answer)
+IsLoadRefusal levels pairs answer =
+    RefusesLevels levels answer ⊎ (IsLevelCount levels × RefusesPairs levels pairs answer)
 
 -- the handle holds the map of these pairs
 abbrev pub HoldsMapOf : ℕ → List (ℕ × ℕ) → Option Held → Type 0
@@ -40,10 +41,14 @@ HoldsMapOf levels pairs held = MatchOption held ⊥ (IsMapOf levels pairs)
 
 -- the handle holds the map of the pairs that the one has that it held
 abbrev pub HasCompacted : ℕ → Option Held → Option Held → Type 0
-HasCompacted levels was now = MatchOption was ⊥ (λ map. (updates : List Update) → StandsFor map updates → HoldsMapOf levels (map_after updates) now)
+HasCompacted levels was now = MatchOption
+    was ⊥ (λ map. (updates : List Update) → StandsFor map updates → HoldsMapOf levels (map_after updates) now)
 
 -- why a map isn't compacted: no map has so many levels, or else it has more pairs than fit, or memory isn't found
 abbrev pub RefusesCompact : ℕ → Held → Answer → Type 0
 RefusesCompact levels map answer =
     RefusesLevels levels answer
-    ⊎ (IsLevelCount levels × (((answer ≡ refuses FULL (capacity_with levels)) × ((updates : List Update) → StandsFor map updates → capacity_with levels < length (map_after updates))) ⊎ (answer ≡ refuses NO_MEMORY 0)))
+    ⊎ (IsLevelCount levels
+    × (((answer ≡ refuses FULL (capacity_with levels))
+    × ((updates : List Update) → StandsFor map updates → capacity_with levels < length (map_after updates)))
+    ⊎ (answer ≡ refuses NO_MEMORY 0)))

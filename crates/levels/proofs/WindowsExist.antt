@@ -1,8 +1,10 @@
 -- A question has windows: each run's line has a floor at it, so that each level has a window, from the last one down.
 --
--- Main results: `IsWindow-some`: a line with a positive run has a window; `IsWindowAt-some`: so has a level of which the level
+-- Main results: `IsWindow-some`: a line with a positive run has
+-- a window; `IsWindowAt-some`: so has a level of which the level
 -- above has the run; `AreWindows-some`: there is a list that is the windows of a question.
-use Rattle.std.proofs.Common.{◌≡◌, inl, inr, ℕ, zero, suc, ◌+◌, ◌-◌, ◌*◌, ◌/◌, ◌<◌, ◌≤◌, ℤ, pos, ◌-ℤ◌, min, max, List, [], ◌∷◌, length, slice_index, slice_index_or, refl, sym, ap, subst, arith, add-one, All}
+use Rattle.std.proofs.Common.{◌≡◌, inl, inr, ℕ, zero, suc, ◌+◌, ◌-◌, ◌*◌, ◌/◌, ◌<◌, ◌≤◌, ℤ, pos, ◌-ℤ◌, min, max, List}
+use Rattle.std.proofs.Common.{[], ◌∷◌, length, slice_index, slice_index_or, refl, sym, ap, subst, arith, add-one, All}
 use Rattle.std.proofs.lemmas.Bool.{cases_lt}
 use Rattle.std.proofs.lemmas.Int.{ints, clamps}
 use Rattle.std.proofs.lemmas.List.Elements.{All-nil, All-cons}
@@ -54,7 +56,8 @@ quotient_of plus minus run positive = elim (cases_lt plus minus) [
 -- a line with a positive run has a floor at each key
 IsFloorAt-some : (line : Line) (q : ℕ) → 0 < line.run → (floor : ℤ) × IsFloorAt line q floor
 IsFloorAt-some line q positive =
-    let at = quotient_of (up line.y0 * line.run + line.rise * q) (down line.y0 * line.run + line.rise * line.x0) line.run positive in
+    let at = quotient_of
+    (up line.y0 * line.run + line.rise * q) (down line.y0 * line.run + line.rise * line.x0) line.run positive in
     (at.quotient, IsFloorAt-in line q at.quotient at.not_above at.greatest)
 
 -- and predicts a place there
@@ -65,12 +68,14 @@ IsPredicted-some line low high q positive =
     let p : ℕ = max low (min (up floor - down floor) high) in
     (p, record { floor = floor; exact = at.1; clamped = omega (arith, ints, clamps) })
 
-IsWindow-some : (line : Line) (low high eps q len : ℕ) → 0 < line.run → (from : ℕ) × (to : ℕ) × IsWindow line low high eps q len from to
+IsWindow-some : (line : Line) (low high eps q len : ℕ) →
+    0 < line.run → (from : ℕ) × (to : ℕ) × IsWindow line low high eps q len from to
 IsWindow-some line low high eps q len positive =
     let at = IsPredicted-some line low high q positive in
     (at.0 - (eps + 1), min (at.0 + (eps + 1)) len, record { p = at.0; predicted = at.1; starts = refl; ends = refl })
 
-module _ (keys : List ℕ) (eps eps_rec : ℕ) (levels : List (List Segment)) (order : IsNonDecreasing keys) (index : IsLaidIndex keys eps eps_rec levels) (q : ℕ) where
+module _ (keys : List ℕ) (eps eps_rec : ℕ) (levels : List (List Segment))
+    (order : IsNonDecreasing keys) (index : IsLaidIndex keys eps eps_rec levels) (q : ℕ) where
   -- where a run has the last first x at or before the question, its level has a window
   IsWindowAt-some : (i run : ℕ) → i < length levels → IsPredecessor (xs_at keys levels (i + 1)) q run →
       (low : ℕ) × (high : ℕ) × IsWindowAt keys eps eps_rec levels i q low high
@@ -84,13 +89,18 @@ module _ (keys : List ℕ) (eps eps_rec : ℕ) (levels : List (List Segment)) (o
       let run_inside : run < length segments = omega (arith, xs_at-length keys levels i, found.inside) in
       let segment = slice_index_or segments run no_segment in
       let e = end_at segments run (length xs) in
-      let at = run_at (IsSteepSegment p bound) (SomeLineFits p bound) 0 (length xs) segments run no_segment run_inside level.cover level.steep in
+      let at = run_at (IsSteepSegment p bound)
+      (SomeLineFits p bound) 0 (length xs) segments run no_segment run_inside level.cover level.steep in
       let predecessor = has_predecessor keys eps eps_rec levels order index no_segment i run q inside found in
-      let above : IsPredecessor (first_xs xs segments) q run = subst (λ (l : List ℕ). IsPredecessor l q run) (xs_at-above keys levels i) found in
-      let has = predecessor_in_run (IsSteepSegment p bound) xs segments run no_segment segment e q predecessor.0 here.rises refl at above predecessor.1 in
-      let rising = line_of_pair-positive p bound segment.start e segment.a segment.b here.ascends at.some at.within at.holds.pair in
+      let above : IsPredecessor (first_xs xs segments) q run =
+      subst (λ (l : List ℕ). IsPredecessor l q run) (xs_at-above keys levels i) found in
+      let has = predecessor_in_run (IsSteepSegment p bound)
+      xs segments run no_segment segment e q predecessor.0 here.rises refl at above predecessor.1 in
+      let rising = line_of_pair-positive
+      p bound segment.start e segment.a segment.b here.ascends at.some at.within at.holds.pair in
       let positive : 0 < segment.line.run = omega (arith, rising, ap (λ (l : Line). l.run) at.holds.line) in
-      let window = IsWindow-some segment.line (slice_index (ys_at keys levels i) segment.start) (slice_index (ys_at keys levels i) (e - 1)) bound q (extent_at keys levels i) positive in (
+      let window = IsWindow-some segment.line (slice_index (ys_at keys levels i) segment.start)
+      (slice_index (ys_at keys levels i) (e - 1)) bound q (extent_at keys levels i) positive in (
         window.0,
         window.1,
         record {
@@ -111,11 +121,20 @@ module _ (keys : List ℕ) (eps eps_rec : ℕ) (levels : List (List Segment)) (o
     descends : (k : ℕ) (d : LevelWindow) → k < length windows → (slice_index_or windows k d).level + (k + 1) ≡ n
     each : All (λ window. IsWindowAt keys eps eps_rec levels window.level q window.low window.high) windows
 
-  windows_below : (n run : ℕ) → n ≤ length levels → IsPredecessor (xs_at keys levels n) q run → (windows : List LevelWindow) × AreWindowsBelow n windows
-  windows_below zero run within found =
-      ([], record { count = refl; descends = λ k d inside. absurd (omega arith); each = All-nil (λ (window : LevelWindow). IsWindowAt keys eps eps_rec levels window.level q window.low window.high) })
+  windows_below : (n run : ℕ) → n ≤ length levels →
+      IsPredecessor (xs_at keys levels n) q run → (windows : List LevelWindow) × AreWindowsBelow n windows
+  windows_below zero run within found = (
+    [],
+    record {
+      count = refl;
+      descends = λ k d inside. absurd (omega arith);
+      each = All-nil
+          (λ (window : LevelWindow). IsWindowAt keys eps eps_rec levels window.level q window.low window.high);
+    },
+  )
   windows_below (suc n) run within found =
-      let above : IsPredecessor (xs_at keys levels (n + 1)) q run = subst (λ (k : ℕ). IsPredecessor (xs_at keys levels k) q run) (sym (add-one n)) found in
+      let above : IsPredecessor (xs_at keys levels (n + 1)) q run =
+      subst (λ (k : ℕ). IsPredecessor (xs_at keys levels k) q run) (sym (add-one n)) found in
       let here = IsWindowAt-some n run (omega arith) above in
       let next = has_predecessor keys eps eps_rec levels order index no_segment n run q (omega arith) above in
       let rest = windows_below n next.0 (omega arith) next.1 in
@@ -124,12 +143,16 @@ module _ (keys : List ℕ) (eps eps_rec : ℕ) (levels : List (List Segment)) (o
         record {
           count = omega (arith, rest.1.count);
           descends = placed n window rest.0 refl rest.1.descends;
-          each = All-cons (λ (window : LevelWindow). IsWindowAt keys eps eps_rec levels window.level q window.low window.high) window rest.0 here.2 rest.1.each;
+          each = All-cons
+              (λ (window : LevelWindow). IsWindowAt keys eps eps_rec levels window.level q window.low window.high)
+              window rest.0 here.2 rest.1.each;
         },
       )
     where
-      placed : (n : ℕ) (window : LevelWindow) (rest : List LevelWindow) → window.level ≡ n → ((k : ℕ) (d : LevelWindow) → k < length rest → (slice_index_or rest k d).level + (k + 1) ≡ n) →
-          (k : ℕ) (d : LevelWindow) → k < length (window ∷ rest) → (slice_index_or (window ∷ rest) k d).level + (k + 1) ≡ suc n
+      placed : (n : ℕ) (window : LevelWindow) (rest : List LevelWindow) → window.level ≡ n →
+          ((k : ℕ) (d : LevelWindow) → k < length rest → (slice_index_or rest k d).level + (k + 1) ≡ n) →
+          (k : ℕ) (d : LevelWindow) →
+          k < length (window ∷ rest) → (slice_index_or (window ∷ rest) k d).level + (k + 1) ≡ suc n
       placed n window rest top behind zero d inside = omega arith
       placed n window rest top behind (suc k) d inside = omega (arith, behind k d (omega arith))
 
@@ -140,7 +163,8 @@ module _ (keys : List ℕ) (eps eps_rec : ℕ) (levels : List (List Segment)) (o
       | inl below ↦ no_window (inr below)
       | inr from ↦
           let last : length levels - 1 + 1 ≡ length levels = omega (arith, index.some some) in
-          let top : IsPredecessor (xs_at keys levels (length levels)) q 0 = subst (λ (k : ℕ). IsPredecessor (xs_at keys levels k) q 0) last
+          let top : IsPredecessor (xs_at keys levels (length levels)) q 0 =
+          subst (λ (k : ℕ). IsPredecessor (xs_at keys levels k) q 0) last
           (top_run keys eps eps_rec levels order index no_segment (length levels - 1) q last some from) in
           let all = windows_below (length levels) 0 (omega arith) top in (
             all.0,
@@ -161,6 +185,7 @@ module _ (keys : List ℕ) (eps eps_rec : ℕ) (levels : List (List Segment)) (o
           none = λ below. refl;
           some = λ some from. absurd (elim below [ inl empty ↦ omega arith | inr less ↦ omega arith ]);
           order = λ k d inside. absurd (omega arith);
-          each = All-nil (λ (window : LevelWindow). IsWindowAt keys eps eps_rec levels window.level q window.low window.high);
+          each = All-nil
+              (λ (window : LevelWindow). IsWindowAt keys eps eps_rec levels window.level q window.low window.high);
         },
       )

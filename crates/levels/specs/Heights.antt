@@ -9,7 +9,8 @@ least_places eps_rec i = if i == 0 then 2 else 2 * eps_rec + 2
 -- each run but the last one has at least so many places
 abbrev pub HasLongRuns : ℕ → List Segment → Type 0
 HasLongRuns least segments =
-    (k : ℕ) (d : Segment) → k + 1 < length segments → (slice_index_or segments k d).start + least ≤ (slice_index_or segments (k + 1) d).start
+    (k : ℕ) (d : Segment) → k + 1 < length segments →
+    (slice_index_or segments k d).start + least ≤ (slice_index_or segments (k + 1) d).start
 
 -- two levels or more stand on more than 2 * (2ε' + 2) ^ (levels - 2) points
 abbrev pub IsLow : ℕ → ℕ → ℕ → Type 0

@@ -1,4 +1,5 @@
--- The one index of a key list: levels of segments, each over the first x of the runs below it. And a relaxed one, whose level 0
+-- The one index of a key list: levels of segments, each over the
+-- first x of the runs below it. And a relaxed one, whose level 0
 -- is made in pieces that aren't joined.
 -- Source: P. Ferragina and G. Vinciguerra, The PGM-index, PVLDB 13(8), 2020, section 2.
 use Rattle.std.specs.Prelude.{◌≡◌, ℕ, zero, suc, ◌+◌, ◌<◌, ◌^◌, List, length}
@@ -12,7 +13,8 @@ use Rattle.piece_join.specs.Laid.{IsLaid}
 use Rattle.piece_join.specs.Relaxed.{IsRelaxed}
 use Rattle.key_points.specs.KeyPoints.{xs_of, ys_of}
 
--- an index: the keys of a file, the error bound of level 0, that of the levels above, and the segments of each level, the lowest first
+-- an index: the keys of a file, the error bound of level 0, that of
+-- the levels above, and the segments of each level, the lowest first
 pub record PgmIndex : Type 0 where
   pub keys : List ℕ
   pub eps : ℕ
@@ -42,7 +44,8 @@ IsIndex keys eps eps_rec levels = AreLevelled (λ i. IsLevel keys eps eps_rec le
 -- each level is a least cover of its points
 abbrev pub AreLeast : (keys : List ℕ) (eps eps_rec : ℕ) (levels : List (List Segment)) → Type 0
 AreLeast keys eps eps_rec levels = (i : ℕ) → i < length levels →
-    IsLeastCover (points_at keys levels i) (eps_at eps eps_rec i) 0 (length (xs_at keys levels i)) (starts_of (level_at levels i))
+    IsLeastCover (points_at keys levels i)
+    (eps_at eps eps_rec i) 0 (length (xs_at keys levels i)) (starts_of (level_at levels i))
 
 -- the index of a file's keys, with these error bounds
 pub record IsIndexOf (file : List ℕ) (eps eps_rec : ℕ) (index : PgmIndex) : Type 0 where
@@ -52,13 +55,16 @@ pub record IsIndexOf (file : List ℕ) (eps eps_rec : ℕ) (index : PgmIndex) : 
   pub levels : IsIndex file eps eps_rec index.levels
 
 -- level 0 is the segmentation of each piece between the cuts by itself, and a level above is that of its points
-pub record IsRelaxedLevel (keys : List ℕ) (eps eps_rec : ℕ) (cuts : List ℕ) (levels : List (List Segment)) (i : ℕ) : Type 0 where
-  pub base : i ≡ 0 → IsRelaxed (points_of (xs_of keys) (ys_of keys)) eps 0 (length (xs_of keys)) cuts (level_at levels 0)
+pub record IsRelaxedLevel (keys : List ℕ) (eps eps_rec : ℕ) (cuts : List ℕ) (levels : List (List Segment)) (i : ℕ) :
+    Type 0 where
+  pub base : i ≡ 0 →
+      IsRelaxed (points_of (xs_of keys) (ys_of keys)) eps 0 (length (xs_of keys)) cuts (level_at levels 0)
   pub above : 0 < i → IsLevel keys eps eps_rec levels i
 
 -- the relaxed index of cuts
 abbrev pub IsRelaxedIndex : (keys : List ℕ) (eps eps_rec : ℕ) (cuts : List ℕ) (levels : List (List Segment)) → Type 0
-IsRelaxedIndex keys eps eps_rec cuts levels = AreLevelled (λ i. IsRelaxedLevel keys eps eps_rec cuts levels i) (length keys) levels
+IsRelaxedIndex keys eps eps_rec cuts levels =
+    AreLevelled (λ i. IsRelaxedLevel keys eps eps_rec cuts levels i) (length keys) levels
 
 -- the relaxed index of a file's keys, with these error bounds and cuts
 pub record IsRelaxedIndexOf (file : List ℕ) (eps eps_rec : ℕ) (cuts : List ℕ) (index : PgmIndex) : Type 0 where
@@ -67,16 +73,19 @@ pub record IsRelaxedIndexOf (file : List ℕ) (eps eps_rec : ℕ) (cuts : List �
   pub of_eps_rec : index.eps_rec ≡ eps_rec
   pub levels : IsRelaxedIndex file eps eps_rec cuts index.levels
 
--- the segments of level i cover its points, each with the line of its run's steep pair, and above level 0 they are the segmentation
+-- the segments of level i cover its points, each with the line of
+-- its run's steep pair, and above level 0 they are the segmentation
 pub record IsLaidLevel (keys : List ℕ) (eps eps_rec : ℕ) (levels : List (List Segment)) (i : ℕ) : Type 0 where
-  pub laid : IsLaid (points_at keys levels i) (eps_at eps eps_rec i) 0 (length (xs_at keys levels i)) (level_at levels i)
+  pub laid :
+      IsLaid (points_at keys levels i) (eps_at eps eps_rec i) 0 (length (xs_at keys levels i)) (level_at levels i)
   pub above : 0 < i → IsLevel keys eps eps_rec levels i
 
 -- what a lookup needs of levels: an index has it, and a relaxed one too
 abbrev pub IsLaidIndex : (keys : List ℕ) (eps eps_rec : ℕ) (levels : List (List Segment)) → Type 0
 IsLaidIndex keys eps eps_rec levels = AreLevelled (λ i. IsLaidLevel keys eps eps_rec levels i) (length keys) levels
 
--- what is known of each index: sorted keys, fewer than 2^32, and what a lookup needs of levels. No public clause cites it
+-- what is known of each index: sorted keys, fewer than 2^32,
+-- and what a lookup needs of levels. No public clause cites it
 pub record IsLaidFile (file : PgmIndex) : Type 0 where
   pub never_falls : IsNonDecreasing file.keys
   pub few : length file.keys < 2 ^ 32

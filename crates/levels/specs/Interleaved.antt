@@ -7,11 +7,13 @@ pub record AreRuns (firsts qs runs : List ℕ) : Type 0 where
   pub lanes : length runs ≡ 16
   pub each : (k : ℕ) → k < 16 → IsPredecessor firsts (slice_index qs k) (slice_index runs k)
 
--- the predecessor of each question, if there is one, is one of `count` places from its low end on, and there are as many
+-- the predecessor of each question, if there is one, is one of
+-- `count` places from its low end on, and there are as many
 pub record AreNear (list qs lows : List ℕ) (count : ℕ) : Type 0 where
   pub some : 1 ≤ count
   pub most : count ≤ length list
-  pub each : (k : ℕ) → k < 16 → (place : ℕ) → IsPredecessor list (slice_index qs k) place → (slice_index lows k ≤ place) × (place < slice_index lows k + count)
+  pub each : (k : ℕ) → k < 16 → (place : ℕ) →
+      IsPredecessor list (slice_index qs k) place → (slice_index lows k ≤ place) × (place < slice_index lows k + count)
 
 -- no question is below the first key
 abbrev pub AreFromFirst : (keys qs : List ℕ) → Type 0

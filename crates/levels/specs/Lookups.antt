@@ -1,6 +1,7 @@
 -- The windows along a lookup.
 -- Source: P. Ferragina and G. Vinciguerra, The PGM-index, PVLDB 13(8), 2020, section 2.
-use Rattle.std.specs.Prelude.{◌≡◌, ◌⊎◌, ◌==◌, if◌then◌else◌, ℕ, ◌+◌, ◌-◌, ◌*◌, ◌<◌, ◌≤◌, List, [], ◌∷◌, ◌++◌, length, slice_index, slice_index_or, All}
+use Rattle.std.specs.Prelude.{◌≡◌, ◌⊎◌, ◌==◌, if◌then◌else◌, ℕ, ◌+◌, ◌-◌, ◌*◌, ◌<◌, ◌≤◌}
+use Rattle.std.specs.Prelude.{List, [], ◌∷◌, ◌++◌, length, slice_index, slice_index_or, All}
 use Rattle.exact_cross.specs.declared.segment.Segment.{Segment}
 use Rattle.levels.specs.declared.windows.LevelWindow.{LevelWindow}
 use Rattle.exact_cross.specs.Covers.{run_end}
@@ -10,7 +11,8 @@ use Rattle.window_search.specs.Windows.{IsWindow}
 use Rattle.exact_cross.specs.IndexLevels.{level_at, eps_at}
 use Rattle.levels.specs.Indexes.{PgmIndex, xs_at, ys_at}
 
--- the list of segments has this one, and its run goes up to e: to the next segment's start, the last one's to the end of all
+-- the list of segments has this one, and its run goes up to e:
+-- to the next segment's start, the last one's to the end of all
 pub record HasRun (segments : List Segment) (to : ℕ) (segment : Segment) (e : ℕ) : Type 0 where
   pub before : List Segment
   pub later : List Segment
@@ -30,20 +32,24 @@ pub record IsWindowAt (keys : List ℕ) (eps eps_rec : ℕ) (levels : List (List
   pub run : HasRun (level_at levels i) (length (xs_at keys levels i)) segment e
   pub from_start : segment.start ≤ place
   pub to_end : place < e
-  pub window : IsWindow segment.line (slice_index (ys_at keys levels i) segment.start) (slice_index (ys_at keys levels i) (e - 1)) (eps_at eps eps_rec i) q (extent_at keys levels i) low high
+  pub window : IsWindow segment.line (slice_index (ys_at keys levels i) segment.start)
+      (slice_index (ys_at keys levels i) (e - 1)) (eps_at eps eps_rec i) q (extent_at keys levels i) low high
 
 -- no window is formed: there is no key, or q is below the first one, which is the first x of all levels
 abbrev pub IsBelowAll : List ℕ → ℕ → Type 0
 IsBelowAll keys q = (length keys ≡ 0) ⊎ (q < slice_index keys 0)
 
 -- the windows of q, each with its level, from the last level down to level 0
-pub record AreWindows (keys : List ℕ) (eps eps_rec : ℕ) (levels : List (List Segment)) (q : ℕ) (windows : List LevelWindow) : Type 0 where
+pub record AreWindows
+    (keys : List ℕ) (eps eps_rec : ℕ) (levels : List (List Segment)) (q : ℕ) (windows : List LevelWindow) : Type 0 where
   pub none : IsBelowAll keys q → windows ≡ []
   pub some : 0 < length keys → slice_index keys 0 ≤ q → length windows ≡ length levels
-  pub order : (k : ℕ) (d : LevelWindow) → k < length windows → (slice_index_or windows k d).level + (k + 1) ≡ length levels
+  pub order : (k : ℕ) (d : LevelWindow) →
+      k < length windows → (slice_index_or windows k d).level + (k + 1) ≡ length levels
   pub each : All (λ window. IsWindowAt keys eps eps_rec levels window.level q window.low window.high) windows
 
--- low ..= high holds what is looked for at level i: at level 0 how many keys are below q, and above it the predecessor and the lower bound in the level's list
+-- low ..= high holds what is looked for at level i: at level 0 how many keys are
+-- below q, and above it the predecessor and the lower bound in the level's list
 pub record HoldsAnswers (keys : List ℕ) (levels : List (List Segment)) (i q low high : ℕ) : Type 0 where
   pub position : i ≡ 0 → (low ≤ lb keys q) × (lb keys q ≤ high)
   pub predecessor : (place : ℕ) → 0 < i → IsPredecessor (xs_at keys levels i) q place → (low ≤ place) × (place ≤ high)
@@ -61,6 +67,9 @@ pub record HoldsNarrowly (index : PgmIndex) (q : ℕ) (window : LevelWindow) : T
 -- the windows of q from the last level down to level n, with what they hold
 pub record HasWindowsTo (index : PgmIndex) (q n : ℕ) (windows : List LevelWindow) : Type 0 where
   pub count : length windows + n ≡ length index.levels
-  pub order : (k : ℕ) (d : LevelWindow) → k < length windows → (slice_index_or windows k d).level + (k + 1) ≡ length index.levels
-  pub each : All (λ window. IsWindowAt index.keys index.eps index.eps_rec index.levels window.level q window.low window.high) windows
+  pub order : (k : ℕ) (d : LevelWindow) →
+      k < length windows → (slice_index_or windows k d).level + (k + 1) ≡ length index.levels
+  pub each :
+      All (λ window. IsWindowAt index.keys index.eps index.eps_rec index.levels window.level q window.low window.high)
+      windows
   pub holds : All (HoldsNarrowly index q) windows

@@ -1,5 +1,6 @@
 -- Models of the runs, by which a lookup predicts places without a division.
-use Rattle.std.specs.Prelude.{◌≡◌, ℕ, ◌+◌, ◌-◌, ◌*◌, ◌/◌, ◌^◌, ◌<◌, ◌≤◌, min, ℤ, pos, ◌+ℤ◌, ◌≤ℤ◌, List, length, slice_index_or}
+use Rattle.std.specs.Prelude.{◌≡◌, ℕ, ◌+◌, ◌-◌, ◌*◌, ◌/◌, ◌^◌, ◌<◌, ◌≤◌, min}
+use Rattle.std.specs.Prelude.{ℤ, pos, ◌+ℤ◌, ◌≤ℤ◌, List, length, slice_index_or}
 use Rattle.exact_cross.specs.declared.line.Line.{Line}
 use Rattle.exact_cross.specs.declared.segment.Segment.{Segment}
 use Rattle.exact_cross.specs.Points.{Points}
@@ -31,4 +32,5 @@ pub record IsEndOf (segments : List Segment) (to k e : ℕ) : Type 0 where
 pub record AreModels (p : Points) (eps to : ℕ) (segments : List Segment) (models : List RunModel) : Type 0 where
   pub count : length models ≡ length segments
   pub each : (k e : ℕ) (d : Segment) (m : RunModel) → k < length segments → IsEndOf segments to k e →
-      IsModelOf (slice_index_or segments k d).line (p.x (slice_index_or segments k d).start) (p.y (e - 1)) eps (slice_index_or models k m)
+      IsModelOf (slice_index_or segments k d).line
+      (p.x (slice_index_or segments k d).start) (p.y (e - 1)) eps (slice_index_or models k m)

@@ -17,7 +17,8 @@ segments_of levels = map (λ level. level.segments.items) levels
 abbrev pub index_of : List ℕ → ℕ → ℕ → List Level → PgmIndex
 index_of keys eps eps_rec levels = record { keys = keys; eps = eps; eps_rec = eps_rec; levels = segments_of levels }
 
--- the first levels over sorted keys: each covers its points, those above level 0 by their segmentation, and those below the last have more runs than one; each run has its model, and above level 0 the list of x is kept
+-- the first levels over sorted keys: each covers its points, those above level 0 by their segmentation, and
+-- those below the last have more runs than one; each run has its model, and above level 0 the list of x is kept
 pub record AreLevels (keys : List ℕ) (eps eps_rec : ℕ) (levels : List Level) : Type 0 where
   pub never_falls : IsNonDecreasing keys
   pub few : length keys < 2 ^ 32
@@ -26,8 +27,11 @@ pub record AreLevels (keys : List ℕ) (eps eps_rec : ℕ) (levels : List Level)
   pub each : (i : ℕ) → i < length levels → IsLaidLevel keys eps eps_rec (segments_of levels) i
   pub others : (i : ℕ) → i + 1 < length levels → length (level_at (segments_of levels) i) ≢ 1
   pub models : (i : ℕ) (d : Level) → i < length levels →
-      AreModels (points_at keys (segments_of levels) i) (eps_at eps eps_rec i) (length (xs_at keys (segments_of levels) i)) (level_at (segments_of levels) i) (slice_index_or levels i d).models.items
-  pub kept : (i : ℕ) (d : Level) → 0 < i → i < length levels → (slice_index_or levels i d).xs.items ≡ xs_at keys (segments_of levels) i
+      AreModels
+      (points_at keys (segments_of levels) i) (eps_at eps eps_rec i) (length (xs_at keys (segments_of levels) i))
+      (level_at (segments_of levels) i) (slice_index_or levels i d).models.items
+  pub kept : (i : ℕ) (d : Level) →
+      0 < i → i < length levels → (slice_index_or levels i d).xs.items ≡ xs_at keys (segments_of levels) i
 
 -- all levels
 pub record AreStored (keys : List ℕ) (eps eps_rec : ℕ) (levels : List Level) : Type 0 where
@@ -36,6 +40,9 @@ pub record AreStored (keys : List ℕ) (eps eps_rec : ℕ) (levels : List Level)
 
 -- the level above those so far: the segmentation of the first x of the last one's runs, with its models and these x
 pub record IsNextLevel (keys : List ℕ) (eps eps_rec : ℕ) (levels : List Level) (level : Level) : Type 0 where
-  pub segments : IsSegmentation (points_at keys (segments_of levels) (length levels)) (eps_at eps eps_rec (length levels)) 0 (length (xs_at keys (segments_of levels) (length levels))) level.segments.items
-  pub models : AreModels (points_at keys (segments_of levels) (length levels)) (eps_at eps eps_rec (length levels)) (length (xs_at keys (segments_of levels) (length levels))) level.segments.items level.models.items
+  pub segments :
+      IsSegmentation (points_at keys (segments_of levels) (length levels)) (eps_at eps eps_rec (length levels)) 0
+      (length (xs_at keys (segments_of levels) (length levels))) level.segments.items
+  pub models : AreModels (points_at keys (segments_of levels) (length levels)) (eps_at eps eps_rec (length levels))
+      (length (xs_at keys (segments_of levels) (length levels))) level.segments.items level.models.items
   pub xs : level.xs.items ≡ xs_at keys (segments_of levels) (length levels)

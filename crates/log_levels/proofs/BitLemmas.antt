@@ -1,5 +1,6 @@
 -- A number without its lowest bits.
-use Rattle.std.proofs.Common.{◌≡◌, ℕ, zero, suc, ◌+◌, ◌-◌, ◌*◌, ◌/◌, ◌%◌, ◌^◌, ◌<◌, ◌≤◌, eqb, false, sym, ap, ◌∙◌, inl, inr, ◌⊎◌, arith, add-one, add-zero}
+use Rattle.std.proofs.Common.{◌≡◌, ℕ, zero, suc, ◌+◌, ◌-◌, ◌*◌, ◌/◌, ◌%◌, ◌^◌, ◌<◌, ◌≤◌, eqb}
+use Rattle.std.proofs.Common.{false, sym, ap, ◌∙◌, inl, inr, ◌⊎◌, arith, add-one, add-zero}
 use Rattle.std.proofs.Math.Nat.{div-div-eq-div-mul, pow-suc, mod-eq_of_lt}
 use Rattle.std.proofs.lemmas.Nat.{pow_pos, div-add-mod', div_below, shr-shr, mod_below}
 use Rattle.std.proofs.lemmas.Bool.{cases_lt, cases_eq, eq-eqb, ne_eqb}
@@ -47,7 +48,8 @@ bit-cases f i =
 pub same-above : (top f g j : ℕ) → f / 2 ^ top ≡ g / 2 ^ top → top ≤ j → f / 2 ^ j ≡ g / 2 ^ j
 same-above top f g j same above =
     let place : top + (j - top) ≡ j = omega arith in
-    ap (λ k. f / 2 ^ k) (sym place) ∙ sym (shr-shr f top (j - top)) ∙ ap (λ q. q / 2 ^ (j - top)) same ∙ shr-shr g top (j - top) ∙ ap (λ k. g / 2 ^ k) place
+    ap (λ k. f / 2 ^ k) (sym place) ∙ sym (shr-shr f top (j - top))
+    ∙ ap (λ q. q / 2 ^ (j - top)) same ∙ shr-shr g top (j - top) ∙ ap (λ k. g / 2 ^ k) place
 
 -- a number is less than one more at bit i
 pub from_bit-gt : (i f : ℕ) → f < from_bit i f + 2 ^ i
@@ -90,7 +92,8 @@ some-left-below i top f below set =
     let place : i + (top - i) ≡ top = omega arith in
     let at_top : f / 2 ^ i / 2 ^ (top - i) ≡ f / 2 ^ top = shr-shr f i (top - i) ∙ ap (λ k. f / 2 ^ k) place in
     ne_eqb _ 0 (λ none.
-    let zero_there : f / 2 ^ top ≡ 0 = sym at_top ∙ ap (λ q. q / 2 ^ (top - i)) none ∙ quotient-small (top - i) 0 (pow_pos (top - i)) in
+    let zero_there : f / 2 ^ top ≡ 0 = sym at_top
+    ∙ ap (λ q. q / 2 ^ (top - i)) none ∙ quotient-small (top - i) 0 (pow_pos (top - i)) in
     absurd (omega (arith, ap (λ q. q % 2) zero_there)))
 
 -- what the shifts of a number below 2 ^ 58 give

@@ -1,5 +1,6 @@
 -- Blocks of a list that is cut by the bits of a number, and what they become when entries are added behind.
-use Rattle.std.proofs.Common.{◌≡◌, ℕ, zero, suc, ◌+◌, ◌-◌, ◌*◌, ◌^◌, ◌≤◌, List, [], ◌∷◌, ◌++◌, length, take, drop, refl, sym, ap, ◌∙◌, arith, length-drop, zero-add, suc-add}
+use Rattle.std.proofs.Common.{◌≡◌, ℕ, zero, suc, ◌+◌, ◌-◌, ◌*◌, ◌^◌, ◌≤◌, List, [], ◌∷◌, ◌++◌, length}
+use Rattle.std.proofs.Common.{take, drop, refl, sym, ap, ◌∙◌, arith, length-drop, zero-add, suc-add}
 use Rattle.std.proofs.lemmas.List.{take-append-drop, drop-drop, take-append-le, drop-append-le}
 use Rattle.std.proofs.Math.Seq.{take-append-add, drop-append-add}
 use Rattle.std.specs.Int.{bit_at}
@@ -25,15 +26,18 @@ take-add {A} (suc m) n [] = take-nil {A = A} (suc m + n) ∙ sym (take-nil {A = 
 take-add (suc m) n (x ∷ xs) = ap (λ k. take k (x ∷ xs)) (suc-add m n) ∙ ap (λ rest. x ∷ rest) (take-add m n xs)
 
 -- the block of bit i is the first of what comes behind the higher bits
-pub behind-more : (entries : List Entry) (f i : ℕ) → behind entries f (i + 1) ≡ block_of entries f i ++ behind entries f i
+pub behind-more : (entries : List Entry) (f i : ℕ) →
+    behind entries f (i + 1) ≡ block_of entries f i ++ behind entries f i
 behind-more entries f i =
     let size = 64 * (bit_at f i * 2 ^ i) in
     let start = 64 * from_bit (i + 1) f in
     let ends : start + size ≡ 64 * from_bit i f = omega (arith, from_bit-more i f) in
-    sym (take-append-drop size (drop start entries)) ∙ ap (λ rest. block_of entries f i ++ rest) (drop-drop size start entries ∙ ap (λ k. drop k entries) ends)
+    sym (take-append-drop size (drop start entries))
+    ∙ ap (λ rest. block_of entries f i ++ rest) (drop-drop size start entries ∙ ap (λ k. drop k entries) ends)
 
 -- and the last of the blocks from bit i on
-pub before-more : (entries : List Entry) (f i : ℕ) → before entries f i ≡ before entries f (i + 1) ++ block_of entries f i
+pub before-more : (entries : List Entry) (f i : ℕ) →
+    before entries f i ≡ before entries f (i + 1) ++ block_of entries f i
 before-more entries f i =
     let size = 64 * (bit_at f i * 2 ^ i) in
     let start = 64 * from_bit (i + 1) f in
@@ -65,17 +69,21 @@ block-behind entries new f i behind set =
     ∙ ap (λ k. take k (drop (64 * from_bit (i + 1) f - length entries) new)) size
 
 -- a block before others
-pub block-before : (entries new : List Entry) (f i : ℕ) → 64 * from_bit i f ≤ length entries → block_of (entries ++ new) f i ≡ block_of entries f i
+pub block-before : (entries new : List Entry) (f i : ℕ) →
+    64 * from_bit i f ≤ length entries → block_of (entries ++ new) f i ≡ block_of entries f i
 block-before entries new f i fits =
     let size = 64 * (bit_at f i * 2 ^ i) in
     let start = 64 * from_bit (i + 1) f in
     let ends : 64 * from_bit i f ≡ start + size = omega (arith, from_bit-more i f) in
     let enough : size ≤ length (drop start entries) = omega (arith, length-drop start entries) in
-    ap (take size) (drop-append-le start entries new (omega arith)) ∙ take-append-le size (drop start entries) new enough
+    ap (take size) (drop-append-le start entries new (omega arith))
+    ∙ take-append-le size (drop start entries) new enough
 
 -- a block across the seam: what comes behind the blocks of the bits above it, and new entries
-pub block-across : (entries new : List Entry) (f i : ℕ) → 64 * from_bit (i + 1) f ≤ length entries → length entries ≤ 64 * from_bit i f → bit_at f i ≡ 1
-    → block_of (entries ++ new) f i ≡ drop (64 * from_bit (i + 1) f) entries ++ take (64 * from_bit i f - length entries) new
+pub block-across : (entries new : List Entry) (f i : ℕ) →
+    64 * from_bit (i + 1) f ≤ length entries → length entries ≤ 64 * from_bit i f → bit_at f i ≡ 1
+    → block_of (entries ++ new) f i ≡ drop (64 * from_bit (i + 1) f) entries
+    ++ take (64 * from_bit i f - length entries) new
 block-across entries new f i from to set =
     let size = 64 * (bit_at f i * 2 ^ i) in
     let start = 64 * from_bit (i + 1) f in

@@ -1,8 +1,10 @@
 -- The occupied levels, from the newest on: the bits of a number that are 1, from the lowest on.
-use Rattle.std.proofs.Common.{◌≡◌, ℕ, zero, suc, ◌+◌, ◌-◌, ◌*◌, ◌/◌, ◌%◌, ◌^◌, min, ◌<◌, ◌≤◌, List, length, take, Option, Some, None, IsSome, rules, refl, sym, ap, ◌∙◌, inl, inr, ◌⊎◌, arith, add-one}
+use Rattle.std.proofs.Common.{◌≡◌, ℕ, zero, suc, ◌+◌, ◌-◌, ◌*◌, ◌/◌, ◌%◌, ◌^◌, min, ◌<◌, ◌≤◌, List, length, take}
+use Rattle.std.proofs.Common.{Option, Some, None, IsSome, rules, refl, sym, ap, ◌∙◌, inl, inr, ◌⊎◌, arith, add-one}
 use Rattle.std.proofs.Math.Nat.{mul-div_cancel}
 use Rattle.std.proofs.lemmas.Nat.{pow_pos, shr-shr}
-use Rattle.std.proofs.lemmas.Nat.Bits.{bit_at-zero, bit_at_and, bit_at_above, bit_at_ones_above, bit_at_cat_low, bit_at_cat_high, bit_at-trailing_zeros, same_from_bits}
+use Rattle.std.proofs.lemmas.Nat.Bits.{bit_at-zero, bit_at_and, bit_at_above, bit_at_ones_above}
+use Rattle.std.proofs.lemmas.Nat.Bits.{bit_at_cat_low, bit_at_cat_high, bit_at-trailing_zeros, same_from_bits}
 use Rattle.std.proofs.lemmas.Bool.{cases_lt}
 use Rattle.std.specs.Int.{bit_at, trailing_zeros, w64}
 use Rattle.std.specs.Prelude.{bit_and}
@@ -17,7 +19,8 @@ use Rattle.log_levels.proofs.BitLemmas.{from_bit-zero, from_bit-le, from_bit-cle
 pub from_bit-all : (n t : ℕ) → ((i : ℕ) → i < t → bit_at n i ≡ 0) → from_bit t n ≡ n
 from_bit-all n zero clear = from_bit-zero n
 from_bit-all n (suc t) clear =
-    ap (λ k. from_bit k n) (sym (add-one t)) ∙ sym (from_bit-clear t n (clear t (omega arith))) ∙ from_bit-all n t (λ i less. clear i (omega arith))
+    ap (λ k. from_bit k n) (sym (add-one t))
+    ∙ sym (from_bit-clear t n (clear t (omega arith))) ∙ from_bit-all n t (λ i less. clear i (omega arith))
 
 -- the bits that are left out are 0, and the others stay
 pub bit-left_out : (j f i : ℕ) → i < j → bit_at (from_bit j f) i ≡ 0
@@ -63,17 +66,21 @@ and-less_one n t all set = same_from_bits (bit_and n (n - 1)) (from_bit (t + 1) 
       | inl under ↦ let clear = ap (λ k. bit_at k i) (sym all) ∙ bit-left_out t n i under in omega (arith, clear)
       | inr from ↦
           let at : i ≡ t = omega arith in
-          let gone : bit_at (n - 1) i ≡ 0 = ap (λ k. bit_at k i) less ∙ bit_at_cat_low (n / 2 ^ (t + 1)) (t + 1) (2 ^ t - 1) i below ∙ bit_at_ones_above t i from in
+          let gone : bit_at (n - 1) i ≡ 0 = ap (λ k. bit_at k i) less
+          ∙ bit_at_cat_low (n / 2 ^ (t + 1)) (t + 1) (2 ^ t - 1) i below ∙ bit_at_ones_above t i from in
           omega (arith, gone)
     ]
 
     upper : (i : ℕ) → t + 1 ≤ i → min (bit_at n i) (bit_at (n - 1) i) ≡ bit_at (from_bit (t + 1) n) i
     upper i from =
         let q = bit_at (n / 2 ^ (t + 1)) (i - (t + 1)) in
-        let one : bit_at n i ≡ q = ap (λ k. bit_at k i) is ∙ bit-stays (t + 1) n i (2 ^ t) (omega (arith, twice, pow_pos t)) from in
-        let two : bit_at (n - 1) i ≡ q = ap (λ k. bit_at k i) less ∙ bit-stays (t + 1) n i (2 ^ t - 1) (omega (arith, twice, pow_pos t)) from in
+        let one : bit_at n i ≡ q = ap (λ k. bit_at k i) is
+        ∙ bit-stays (t + 1) n i (2 ^ t) (omega (arith, twice, pow_pos t)) from in
+        let two : bit_at (n - 1) i ≡ q = ap (λ k. bit_at k i) less
+        ∙ bit-stays (t + 1) n i (2 ^ t - 1) (omega (arith, twice, pow_pos t)) from in
         let whole : from_bit (t + 1) n + 0 ≡ from_bit (t + 1) n = omega arith in
-        let three : bit_at (from_bit (t + 1) n) i ≡ q = ap (λ k. bit_at k i) (sym whole) ∙ bit-stays (t + 1) n i 0 (pow_pos (t + 1)) from in
+        let three : bit_at (from_bit (t + 1) n) i ≡ q = ap (λ k. bit_at k i) (sym whole)
+        ∙ bit-stays (t + 1) n i 0 (pow_pos (t + 1)) from in
         omega (arith, one, two, three)
 
     each : (i : ℕ) → bit_at (bit_and n (n - 1)) i ≡ bit_at (from_bit (t + 1) n) i
@@ -118,7 +125,8 @@ bit-still n t i set = elim (cases_lt i (t + 1)) [
 ]
 
 -- a level is free where its bit is 0
-pub level-free : (held : Held) (entries : List Entry) (i : ℕ) → IsCutOf held entries → i < length held.levels → bit_at (held.accepted / 64) i ≡ 0 → level_of held i ≡ None
+pub level-free : (held : Held) (entries : List Entry) (i : ℕ) →
+    IsCutOf held entries → i < length held.levels → bit_at (held.accepted / 64) i ≡ 0 → level_of held i ≡ None
 level-free held entries i cut inside clear = go (level_of held i) (cut.levels i inside)
   where
     go : (level : Option (List Entry)) → IsLevelFor entries (length entries / 64) i level → level ≡ None
@@ -126,11 +134,13 @@ level-free held entries i cut inside clear = go (level_of held i) (cut.levels i 
     go (Some level) (set, last) = absurd (omega (arith, set, clear, ap (λ n. bit_at (n / 64) i) cut.accepted))
 
 -- and is taken where it is 1
-pub level-taken : (held : Held) (entries : List Entry) (i : ℕ) → IsCutOf held entries → bit_at (held.accepted / 64) i ≡ 1 → IsSome (level_of held i)
+pub level-taken : (held : Held) (entries : List Entry) (i : ℕ) →
+    IsCutOf held entries → bit_at (held.accepted / 64) i ≡ 1 → IsSome (level_of held i)
 level-taken held entries i cut set = go (level_of held i) (cut.levels i inside)
   where
     inside : i < length held.levels
-    inside = bit-within (held.accepted / 64) (length held.levels) i (omega (arith, blocks-few held entries cut, ap (λ n. n / 64) cut.accepted)) set
+    inside = bit-within (held.accepted / 64)
+        (length held.levels) i (omega (arith, blocks-few held entries cut, ap (λ n. n / 64) cut.accepted)) set
 
     go : (level : Option (List Entry)) → IsLevelFor entries (length entries / 64) i level → IsSome level
     go None free = absurd (omega (arith, free, set, ap (λ n. bit_at (n / 64) i) cut.accepted))
@@ -141,17 +151,20 @@ pub record IsReached (entries : List Entry) (key rest : ℕ) : Type 0 where
   pub place : (j : ℕ) × (rest ≡ from_bit j (length entries / 64))
   pub value : value_of (last_at entries key) ≡ value_of (last_at (take (64 * rest) entries) key)
 
-pub reached-start : (held : Held) (entries : List Entry) (key : ℕ) → IsCutOf held entries → last_at held.buffer key ≡ None → IsReached entries key (held.accepted / 64)
+pub reached-start : (held : Held) (entries : List Entry) (key : ℕ) →
+    IsCutOf held entries → last_at held.buffer key ≡ None → IsReached entries key (held.accepted / 64)
 reached-start held entries key cut none =
     let f = length entries / 64 in
     let all : from_bit 0 f ≡ held.accepted / 64 = from_bit-zero f ∙ ap (λ n. n / 64) (sym cut.accepted) in
     record {
       place = (0, sym all);
-      value = ap value_of (search-none entries held.buffer f key cut.buffer none) ∙ ap (λ k. value_of (last_at (take (64 * k) entries) key)) all;
+      value = ap value_of (search-none entries held.buffer f key cut.buffer none)
+          ∙ ap (λ k. value_of (last_at (take (64 * k) entries) key)) all;
     }
 
 -- the lowest bit that is left is that of the next level
-reached-next : (entries : List Entry) (key rest i : ℕ) → IsReached entries key rest → bit_at rest i ≡ 1 → from_bit i rest ≡ rest
+reached-next : (entries : List Entry) (key rest i : ℕ) →
+    IsReached entries key rest → bit_at rest i ≡ 1 → from_bit i rest ≡ rest
     → (from_bit i (length entries / 64) ≡ rest) × (from_bit (i + 1) rest ≡ from_bit (i + 1) (length entries / 64))
 reached-next entries key rest i reached set lowest =
     let f = length entries / 64 in
@@ -164,20 +177,25 @@ reached-next entries key rest i reached set lowest =
       ap (λ n. from_bit (i + 1) n) is ∙ from_bit-twice j (i + 1) f (omega arith),
     )
 
-pub reached-within : (held : Held) (entries : List Entry) (key rest i : ℕ) → IsCutOf held entries → IsReached entries key rest → bit_at rest i ≡ 1 → i < length held.levels
+pub reached-within : (held : Held) (entries : List Entry) (key rest i : ℕ) →
+    IsCutOf held entries → IsReached entries key rest → bit_at rest i ≡ 1 → i < length held.levels
 reached-within held entries key rest i cut reached set =
     let (j, is) = reached.place in
-    bit-within rest (length held.levels) i (omega (arith, is, from_bit-le j (length entries / 64), blocks-few held entries cut)) set
+    bit-within rest
+    (length held.levels) i (omega (arith, is, from_bit-le j (length entries / 64), blocks-few held entries cut)) set
 
-pub reached-found : (held : Held) (entries : List Entry) (key rest i : ℕ) (entry : Entry) → IsCutOf held entries → IsReached entries key rest → bit_at rest i ≡ 1 → from_bit i rest ≡ rest
+pub reached-found : (held : Held) (entries : List Entry) (key rest i : ℕ) (entry : Entry) →
+    IsCutOf held entries → IsReached entries key rest → bit_at rest i ≡ 1 → from_bit i rest ≡ rest
     → Some entry ≡ entry_in (level_of held i) key → entry.value ≡ value_of (last_at entries key)
 reached-found held entries key rest i entry cut reached set lowest found =
     let f = length entries / 64 in
     let has = cut.levels i (reached-within held entries key rest i cut reached set) in
     let (same, behind) = reached-next entries key rest i reached set lowest in
-    sym (reached.value ∙ ap (λ k. value_of (last_at (take (64 * k) entries) key)) (sym same) ∙ ap value_of (search-in-found entries f i key (level_of held i) entry has found))
+    sym (reached.value ∙ ap (λ k. value_of (last_at (take (64 * k) entries) key)) (sym same)
+    ∙ ap value_of (search-in-found entries f i key (level_of held i) entry has found))
 
-pub reached-missed : (held : Held) (entries : List Entry) (key rest i : ℕ) → IsCutOf held entries → IsReached entries key rest → bit_at rest i ≡ 1 → from_bit i rest ≡ rest
+pub reached-missed : (held : Held) (entries : List Entry) (key rest i : ℕ) →
+    IsCutOf held entries → IsReached entries key rest → bit_at rest i ≡ 1 → from_bit i rest ≡ rest
     → None ≡ entry_in (level_of held i) key → IsReached entries key (from_bit (i + 1) rest)
 reached-missed held entries key rest i cut reached set lowest missed =
     let f = length entries / 64 in
@@ -186,5 +204,6 @@ reached-missed held entries key rest i cut reached set lowest missed =
     let value_in = λ (k : ℕ). value_of (last_at (take (64 * k) entries) key) in
     record {
       place = (i + 1, behind);
-      value = reached.value ∙ ap value_in (sym same) ∙ search-in-missed entries f i key (level_of held i) has missed ∙ ap value_in (sym behind);
+      value = reached.value ∙ ap value_in (sym same)
+          ∙ search-in-missed entries f i key (level_of held i) has missed ∙ ap value_in (sym behind);
     }

@@ -1,5 +1,6 @@
 -- How maps are kept. No public clause cites it.
-use Rattle.std.specs.Prelude.{◌≡◌, ℕ, ◌+◌, ◌-◌, ◌*◌, ◌/◌, ◌≤◌, ◌<◌, ◌^◌, ◌==◌, List, ◌++◌, length, map, drop, Option, Some, None, IsSome, IfSome, slice_index, slice_index_or, ⊤}
+use Rattle.std.specs.Prelude.{◌≡◌, ℕ, ◌+◌, ◌-◌, ◌*◌, ◌/◌, ◌≤◌, ◌<◌, ◌^◌, ◌==◌, List, ◌++◌, length, map}
+use Rattle.std.specs.Prelude.{drop, Option, Some, None, IsSome, IfSome, slice_index, slice_index_or, ⊤}
 use Rattle.window_search.specs.Searches.{lb}
 use Rattle.std.specs.List.{sum_by}
 use Rattle.std.specs.Int.{bit_at}
@@ -41,9 +42,11 @@ IsIn bare key = (bare.low ≤ key) × (key ≤ bare.high)
 
 -- a map has no key in a stretch
 abbrev pub IsBareIn : Held → Bare → Type 0
-IsBareIn held bare = (entries : List Entry) (key : ℕ) → IsCutOf held entries → IsIn bare key → value_of (last_at entries key) ≡ None
+IsBareIn held bare =
+    (entries : List Entry) (key : ℕ) → IsCutOf held entries → IsIn bare key → value_of (last_at entries key) ≡ None
 
--- a map that is kept so stands for some entries, its buffer has room for 64, and it has no key in the stretch that it remembers
+-- a map that is kept so stands for some entries, its buffer has
+-- room for 64, and it has no key in the stretch that it remembers
 pub record IsKept (held : Held) (room : ℕ) (stretch : Bare) : Type 0 where
   pub cut : (entries : List Entry) × IsCutOf held entries
   pub roomy : 64 ≤ room
@@ -51,10 +54,12 @@ pub record IsKept (held : Held) (room : ℕ) (stretch : Bare) : Type 0 where
   pub few : length held.levels ≤ MAX_LEVELS
   pub bare : IsBareIn held stretch
 
--- the levels below level i, the buffer and the new entries behind them, merged: what comes behind the blocks from bit i on. Where no bit from bit i on is left, deletions are left out
+-- the levels below level i, the buffer and the new entries behind them, merged: what comes
+-- behind the blocks from bit i on. Where no bit from bit i on is left, deletions are left out
 pub record IsMergedTo (entries : List Entry) (f i : ℕ) (new merged : List Entry) : Type 0 where
   pub ascending : IsAscending merged
-  pub lasts : (key : ℕ) → entry_at merged key ≡ kept (f / 2 ^ i == 0) (last_at (drop (64 * from_bit i f) entries ++ new) key)
+  pub lasts : (key : ℕ) →
+      entry_at merged key ≡ kept (f / 2 ^ i == 0) (last_at (drop (64 * from_bit i f) entries ++ new) key)
 
 -- in `count` more entries bit `top` is the highest one that the number of blocks changes
 pub record IsHighestChange (accepted count top : ℕ) : Type 0 where
@@ -70,7 +75,8 @@ pub record IsGrowth (held : Held) (count top : ℕ) : Type 0 where
 
 -- what level i is with new entries, whatever the entries are that are held
 abbrev pub IsGrownLevel : Held → List Entry → ℕ → Option (List Entry) → Type 0
-IsGrownLevel held new i level = (entries : List Entry) → IsCutOf held entries → IsLevelFor (entries ++ new) ((held.accepted + length new) / 64) i level
+IsGrownLevel held new i level = (entries : List Entry) →
+    IsCutOf held entries → IsLevelFor (entries ++ new) ((held.accepted + length new) / 64) i level
 
 -- the entries of a level, if there is one
 abbrev pub shared_of : {Z : Type 0} → Option (Arc (List Entry) Z) → Option (List Entry)
@@ -79,12 +85,14 @@ shared_of {Z} level = option_map (λ (level : Arc (List Entry) Z). arc_value lev
 -- no entry has the key
 pub record IsAbsent (held : Held) (key : ℕ) : Type 0 where
   pub buffer : last_at held.buffer key ≡ None
-  pub levels : (i : ℕ) (level : List Entry) → i < length held.levels → level_of held i ≡ Some level → entry_at level key ≡ None
+  pub levels : (i : ℕ) (level : List Entry) →
+      i < length held.levels → level_of held i ≡ Some level → entry_at level key ≡ None
 
 -- the places of a key in the levels: how many keys are below it
 pub record ArePlaces (held : Held) (places : List ℕ) (key : ℕ) : Type 0 where
   pub count : length places ≡ MAX_LEVELS
-  pub each : (i : ℕ) (level : List Entry) → i < length held.levels → level_of held i ≡ Some level → slice_index places i ≡ lb (level_keys level) key
+  pub each : (i : ℕ) (level : List Entry) →
+      i < length held.levels → level_of held i ≡ Some level → slice_index places i ≡ lb (level_keys level) key
 
 -- what a level has at a key, if it is occupied
 abbrev pub entry_in : Option (List Entry) → ℕ → Option Entry
@@ -94,7 +102,8 @@ entry_in (Some level) key = entry_at level key
 -- the first key from a bound on that has a value, if there is one
 abbrev pub IsNextLive : List Entry → ℕ → Option (ℕ × ℕ) → Type 0
 IsNextLive entries from None = (key : ℕ) → from ≤ key → value_of (last_at entries key) ≡ None
-IsNextLive entries from (Some (key, value)) = (from ≤ key) × (value_of (last_at entries key) ≡ Some value) × ((other : ℕ) → from ≤ other → other < key → value_of (last_at entries other) ≡ None)
+IsNextLive entries from (Some (key, value)) = (from ≤ key) × (value_of (last_at entries key) ≡ Some value)
+    × ((other : ℕ) → from ≤ other → other < key → value_of (last_at entries other) ≡ None)
 
 -- the entry of an update that is one
 abbrev pub plain_entry : Update → Entry
@@ -119,7 +128,8 @@ entries_put pairs = map (λ pair. put_entry pair.0 pair.1) pairs
 -- the first entry of a buffer from a bound on: of the least key there the last one
 abbrev pub IsFirstFrom : List Entry → ℕ → Option Entry → Type 0
 IsFirstFrom buffer low None = (key : ℕ) → low ≤ key → last_at buffer key ≡ None
-IsFirstFrom buffer low (Some entry) = (low ≤ entry.key) × (last_at buffer entry.key ≡ Some entry) × ((key : ℕ) → low ≤ key → key < entry.key → last_at buffer key ≡ None)
+IsFirstFrom buffer low (Some entry) = (low ≤ entry.key)
+    × (last_at buffer entry.key ≡ Some entry) × ((key : ℕ) → low ≤ key → key < entry.key → last_at buffer key ≡ None)
 
 -- the entry at a place of a buffer, and its key
 abbrev pub entry_of : List Entry → ℕ → Entry
@@ -132,10 +142,13 @@ key_of buffer place = (entry_of buffer place).key
 pub record IsOrder (buffer : List Entry) (start from : ℕ) (order : List ℕ) : Type 0 where
   pub few : length order + start ≤ length buffer
   pub inside : (k : ℕ) → k < length order → slice_index order k < length buffer
-  pub falls : (j k : ℕ) → j < k → k < length order → key_of buffer (slice_index order k) < key_of buffer (slice_index order j)
+  pub falls : (j k : ℕ) →
+      j < k → k < length order → key_of buffer (slice_index order k) < key_of buffer (slice_index order j)
   pub above : (k : ℕ) → k < length order → from ≤ key_of buffer (slice_index order k)
-  pub last : (k : ℕ) → k < length order → last_at (drop start buffer) (key_of buffer (slice_index order k)) ≡ Some (entry_of buffer (slice_index order k))
-  pub rest : (key : ℕ) → from ≤ key → ((k : ℕ) → k < length order → key_of buffer (slice_index order k) ≡ key → ⊥) → last_at (drop start buffer) key ≡ None
+  pub last : (k : ℕ) → k < length order →
+      last_at (drop start buffer) (key_of buffer (slice_index order k)) ≡ Some (entry_of buffer (slice_index order k))
+  pub rest : (key : ℕ) → from ≤ key → ((k : ℕ) → k < length order → key_of buffer (slice_index order k) ≡ key → ⊥) →
+      last_at (drop start buffer) key ≡ None
 
 -- if there are places, they are all of a buffer from a bound on
 abbrev pub AreLater : List Entry → ℕ → List ℕ → Type 0
@@ -149,13 +162,15 @@ pub record IsUpcoming (buffer : List Entry) (low : ℕ) (upcoming : Upcoming) : 
 -- each place is that of a key up to a bound, so what a level has from the bound on lies behind it
 pub record AreBehind (held : Held) (places : List ℕ) (low : ℕ) : Type 0 where
   pub count : length places ≡ MAX_LEVELS
-  pub each : (i : ℕ) (level : List Entry) → i < length held.levels → level_of held i ≡ Some level → (from : ℕ) × ((from ≤ low) × (slice_index places i ≡ lb (level_keys level) from))
+  pub each : (i : ℕ) (level : List Entry) → i < length held.levels →
+      level_of held i ≡ Some level → (from : ℕ) × ((from ≤ low) × (slice_index places i ≡ lb (level_keys level) from))
 
 -- a level has this key at its place
 pub record StandsAt (held : Held) (places : List ℕ) (key i : ℕ) : Type 0 where
   pub inside : i < length held.levels
   pub taken : IsSome (level_of held i)
-  pub stands : (level : List Entry) → level_of held i ≡ Some level → (slice_index places i < length level) × (slice_index (level_keys level) (slice_index places i) ≡ key)
+  pub stands : (level : List Entry) → level_of held i ≡ Some level →
+      (slice_index places i < length level) × (slice_index (level_keys level) (slice_index places i) ≡ key)
 
 -- a head comes first: its key is the least, and of that key its level the newest
 pub record IsFirst (heads : List (ℕ × ℕ)) (first : First) : Type 0 where
@@ -164,15 +179,20 @@ pub record IsFirst (heads : List (ℕ × ℕ)) (first : First) : Type 0 where
   pub least : (k : ℕ) (d : ℕ × ℕ) → k < length heads → first.key ≤ (slice_index_or heads k d).0
   pub newest : (k : ℕ) (d : ℕ × ℕ) → k < first.place → first.key < (slice_index_or heads k d).0
 
--- the heads of the levels whose bit in `rest` is 0, by rising level: the keys at their places. Up to the head of a level it has no key behind the place
+-- the heads of the levels whose bit in `rest` is 0, by rising level: the keys
+-- at their places. Up to the head of a level it has no key behind the place
 pub record AreHeads (held : Held) (places : List ℕ) (rest : ℕ) (heads : List (ℕ × ℕ)) : Type 0 where
   pub low : length held.levels ≤ MAX_LEVELS
   pub few : (j : ℕ) → bit_at rest j ≡ 1 → length heads ≤ j
   pub below : (k j : ℕ) (d : ℕ × ℕ) → k < length heads → bit_at rest j ≡ 1 → (slice_index_or heads k d).1 < j
-  pub rise : (j k : ℕ) (d : ℕ × ℕ) → j < k → k < length heads → (slice_index_or heads j d).1 < (slice_index_or heads k d).1
-  pub stand : (k : ℕ) (d : ℕ × ℕ) → k < length heads → StandsAt held places (slice_index_or heads k d).0 (slice_index_or heads k d).1
-  pub each : (j from key : ℕ) (level : List Entry) → bit_at rest j ≡ 0 → level_of held j ≡ Some level → slice_index places j ≡ lb (level_keys level) from → from ≤ key
-      → ((k : ℕ) (d : ℕ × ℕ) → k < length heads → (slice_index_or heads k d).1 ≡ j → key < (slice_index_or heads k d).0) → entry_at level key ≡ None
+  pub rise : (j k : ℕ) (d : ℕ × ℕ) →
+      j < k → k < length heads → (slice_index_or heads j d).1 < (slice_index_or heads k d).1
+  pub stand : (k : ℕ) (d : ℕ × ℕ) →
+      k < length heads → StandsAt held places (slice_index_or heads k d).0 (slice_index_or heads k d).1
+  pub each : (j from key : ℕ) (level : List Entry) →
+      bit_at rest j ≡ 0 → level_of held j ≡ Some level → slice_index places j ≡ lb (level_keys level) from → from ≤ key
+      → ((k : ℕ) (d : ℕ × ℕ) → k < length heads → (slice_index_or heads k d).1 ≡ j → key < (slice_index_or heads k d).0)
+      → entry_at level key ≡ None
 
 -- what is left of a map from a bound on
 pub record IsLeft (held : Held) (walk : Walk) (low : ℕ) : Type 0 where
@@ -186,11 +206,13 @@ first_key found = option_map (λ (first : First). first.key) found
 
 -- no level before this one has the key, unless it was passed
 abbrev pub AreNewer : Held → ℕ → ℕ → ℕ → Type 0
-AreNewer held low key i = (j : ℕ) (level : List Entry) → low ≤ key → j < i → level_of held j ≡ Some level → entry_at level key ≡ None
+AreNewer held low key i =
+    (j : ℕ) (level : List Entry) → low ≤ key → j < i → level_of held j ≡ Some level → entry_at level key ≡ None
 
 -- the least key that a level has behind its place, with the newest of the levels that have it there
 pub record IsLeastLeft (held : Held) (places : List ℕ) (low : ℕ) (found : Option First) : Type 0 where
-  pub before : (key j : ℕ) (level : List Entry) → low ≤ key → IsBelow key (first_key found) → j < length held.levels → level_of held j ≡ Some level → entry_at level key ≡ None
+  pub before : (key j : ℕ) (level : List Entry) → low ≤ key →
+      IsBelow key (first_key found) → j < length held.levels → level_of held j ≡ Some level → entry_at level key ≡ None
   pub newer : IfSome found (λ first. AreNewer held low first.key first.level)
   pub at : IfSome found (λ first. StandsAt held places first.key first.level)
 

@@ -1,5 +1,6 @@
 -- The ordered map after updates, as the pairs of key and value by rising key, and its answers.
-use Rattle.std.specs.Prelude.{ℕ, ◌-◌, ◌<◌, ◌≤◌, List, [], length, slice_index_or, filter, find, reverse, count_by, Option, Bool, not, nat_le, ◌&&◌}
+use Rattle.std.specs.Prelude.{ℕ, ◌-◌, ◌<◌, ◌≤◌, List, [], length, slice_index_or, filter}
+use Rattle.std.specs.Prelude.{find, reverse, count_by, Option, Bool, not, nat_le, ◌&&◌}
 use Rattle.std.specs.List.{fold}
 use Rattle.std.specs.Ordering.{nat_cmp}
 use Rattle.std.specs.Map.{lookup, remove_entry}
@@ -62,4 +63,5 @@ pub record IsFirstStall (pairs : List (ℕ × ℕ)) (place : ℕ) : Type 0 where
 
 -- each key is above the one before it
 abbrev pub AreRising : List (ℕ × ℕ) → Type 0
-AreRising pairs = (k : ℕ) → 1 ≤ k → k < length pairs → (slice_index_or pairs (k - 1) (0, 0)).0 < (slice_index_or pairs k (0, 0)).0
+AreRising pairs =
+    (k : ℕ) → 1 ≤ k → k < length pairs → (slice_index_or pairs (k - 1) (0, 0)).0 < (slice_index_or pairs k (0, 0)).0

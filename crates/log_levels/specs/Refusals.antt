@@ -6,11 +6,16 @@ use Rattle.log_levels.specs.declared.fault.MapFault.TheVariants.{Full, NoMemory}
 use Rattle.log_levels.specs.Accepted.{IsPlain, entries_of}
 use Rattle.log_levels.specs.Shapes.{Held, StandsFor, capacity_of}
 
--- where so many entries of the updates before were accepted, of so many at most: updates whose entries would be too many are refused as `Full`, with how many were accepted, but that want of memory may come first where one of them is a sweep; and `Full` comes only then
-pub record RefusesTooMany {X : Type 0} (IsBefore : List Update → Type 0) (accepted capacity : ℕ) (updates : List Update) (result : Result X MapFault) : Type 0 where
-  pub full : (before : List Update) → IsBefore before → capacity < length (entries_of (before ++ updates)) → (result ≡ Err (Full accepted)) ⊎ (result ≡ Err NoMemory)
+-- where so many entries of the updates before were accepted, of so many at most: updates
+-- whose entries would be too many are refused as `Full`, with how many were accepted, but
+-- that want of memory may come first where one of them is a sweep; and `Full` comes only then
+pub record RefusesTooMany {X : Type 0} (IsBefore : List Update → Type 0)
+    (accepted capacity : ℕ) (updates : List Update) (result : Result X MapFault) : Type 0 where
+  pub full : (before : List Update) → IsBefore before →
+      capacity < length (entries_of (before ++ updates)) → (result ≡ Err (Full accepted)) ⊎ (result ≡ Err NoMemory)
   pub full_first : All IsPlain updates → capacity < accepted + length updates → result ≡ Err (Full accepted)
-  pub full_only : (count : ℕ) → result ≡ Err (Full count) → (count ≡ accepted) × ((before : List Update) → IsBefore before → capacity < length (entries_of (before ++ updates)))
+  pub full_only : (count : ℕ) → result ≡ Err (Full count) → (count ≡ accepted)
+      × ((before : List Update) → IsBefore before → capacity < length (entries_of (before ++ updates)))
   pub plain_only : All IsPlain updates → (count : ℕ) → result ≡ Err (Full count) → capacity < accepted + length updates
 
 -- a map refuses these updates where their entries would be too many

@@ -20,8 +20,11 @@ pub record IsTold (updates : List Update) (questions : List Question) (reading :
 
 -- what readers were answered, and what comes behind
 abbrev pub told_lines : List Update → List Question → List Reading → List (List ℕ)
-told_lines updates questions readings = read_lines updates questions 0 readings ++ closing_lines updates questions (length readings)
+told_lines updates questions readings =
+    read_lines updates questions 0 readings ++ closing_lines updates questions (length readings)
 
--- the whole text: how many updates there are, which sender sent each of them, if senders did, and what is told of readers and of the map
+-- the whole text: how many updates there are, which sender sent each
+-- of them, if senders did, and what is told of readers and of the map
 abbrev pub all_lines : (numbers : List ℕ) → List Update → List Question → List Reading → List (List ℕ)
-all_lines numbers updates questions readings = updates_line (length updates) ∷ (map from_line numbers ++ told_lines updates questions readings)
+all_lines numbers updates questions readings =
+    updates_line (length updates) ∷ (map from_line numbers ++ told_lines updates questions readings)

@@ -16,12 +16,15 @@ from_line number = text_line (codes "from" ∷ decimal number ∷ [])
 abbrev pub IsAmong : (count length : ℕ) → Type 0
 IsAmong count length = length ≤ count
 
--- how many updates there are, which sender sent each of them in the order in which they came, what each reader was answered after some of them in that order, and
+-- how many updates there are, which sender sent each of them in the order in which
+-- they came, what each reader was answered after some of them in that order, and
 -- what the map after all of them answers
-pub record IsMixedText (updates : List Update) (questions : List Question) (readers senders : ℕ) (pieces : List (List ℕ)) : Type 0 where
+pub record IsMixedText
+    (updates : List Update) (questions : List Question) (readers senders : ℕ) (pieces : List (List ℕ)) : Type 0 where
   pub numbers : List ℕ
   pub mixed : List Update
   pub order : IsMix senders updates numbers mixed
   pub read : List (List ℕ)
   pub each : TellsEach (IsReadOf (IsAmong (length mixed)) mixed questions) (range_with_len 0 readers) read
-  pub lines : pieces ≡ updates_line (length updates) ∷ (map from_line numbers ++ (read ++ closing_lines mixed questions readers))
+  pub lines : pieces ≡ updates_line (length updates)
+      ∷ (map from_line numbers ++ (read ++ closing_lines mixed questions readers))

@@ -37,7 +37,8 @@ updates_line count = text_line (codes "updates" ∷ decimal count ∷ [])
 -- `reader R K ANSWER`: the answer of the map after the first K updates
 abbrev pub reader_line : List Update → (reader : ℕ) → Question → (length : ℕ) → List ℕ
 reader_line updates reader question length =
-    text_line (codes "reader" ∷ decimal reader ∷ decimal length ∷ answer_words (map_after (take length updates)) question)
+    text_line
+    (codes "reader" ∷ decimal reader ∷ decimal length ∷ answer_words (map_after (take length updates)) question)
 
 -- for each question in turn
 abbrev pub reader_lines : List Update → ℕ → List Question → List Sighting → List (List ℕ)
@@ -45,10 +46,12 @@ reader_lines updates reader (question ∷ questions) (sighting ∷ sightings) =
     reader_line updates reader question sighting.length ∷ reader_lines updates reader questions sightings
 reader_lines updates reader questions sightings = []
 
--- the lines of reader R, where such are the numbers of updates that it may see: each answer is after so many, and after no fewer than the one before
+-- the lines of reader R, where such are the numbers of updates that it may
+-- see: each answer is after so many, and after no fewer than the one before
 abbrev pub IsReadOf : (IsLength : ℕ → Type 0) → List Update → List Question → (reader : ℕ) → List (List ℕ) → Type 0
 IsReadOf IsLength updates questions reader pieces =
-    (sightings : List Sighting) × IsReadingOf IsLength updates questions sightings × (pieces ≡ reader_lines updates reader questions sightings)
+    (sightings : List Sighting)
+    × IsReadingOf IsLength updates questions sightings × (pieces ≡ reader_lines updates reader questions sightings)
 
 -- after published updates
 abbrev pub IsRead : List Update → List Question → (batch reader : ℕ) → List (List ℕ) → Type 0
@@ -76,7 +79,8 @@ closing_lines updates questions readers =
     map (last_line (length updates)) (range_with_len 0 readers) ++ end_lines (map_after updates) questions
 
 -- how many updates there are, what each reader was answered beside them, and what the map after all of them answers
-pub record IsReplayed (updates : List Update) (questions : List Question) (batch readers : ℕ) (pieces : List (List ℕ)) : Type 0 where
+pub record IsReplayed (updates : List Update) (questions : List Question) (batch readers : ℕ) (pieces : List (List ℕ)) :
+    Type 0 where
   pub read : List (List ℕ)
   pub each : TellsEach (IsRead updates questions batch) (range_with_len 0 readers) read
   pub lines : pieces ≡ updates_line (length updates) ∷ (read ++ closing_lines updates questions readers)

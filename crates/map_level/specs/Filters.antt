@@ -1,5 +1,6 @@
 -- The filters of levels: a few bits of one word for each key, set. No public clause cites it.
--- Sources: B. H. Bloom, Space/time trade-offs in hash coding with allowable errors, CACM 13(7), 1970; F. Putze, P. Sanders and J. Singler, Cache-, hash- and space-efficient Bloom filters, WEA 2007 (all bits of a key in one block).
+-- Sources: B. H. Bloom, Space/time trade-offs in hash coding with allowable errors, CACM 13(7), 1970; F. Putze, P.
+-- Sanders and J. Singler, Cache-, hash- and space-efficient Bloom filters, WEA 2007 (all bits of a key in one block).
 use Rattle.std.specs.Prelude.{◌≡◌, ℕ, ◌*◌, ◌/◌, ◌%◌, ◌^◌, List, length, slice_index, bit_and, bit_or, bit_xor, All}
 
 -- both halves of the product of a key with 2^64 by the golden ratio, folded into one word
@@ -12,7 +13,8 @@ slot_of hash count = hash / 2 ^ 32 * count / 2 ^ 32
 
 -- the bits of a hash, four or fewer, by its low half
 unfoldable pub bits_of : ℕ → ℕ
-bits_of hash = bit_or (bit_or (2 ^ (hash % 64)) (2 ^ (hash / 64 % 64))) (bit_or (2 ^ (hash / 4096 % 64)) (2 ^ (hash / 262144 % 64)))
+bits_of hash = bit_or
+    (bit_or (2 ^ (hash % 64)) (2 ^ (hash / 64 % 64))) (bit_or (2 ^ (hash / 4096 % 64)) (2 ^ (hash / 262144 % 64)))
 
 -- the bits of the hash are set
 abbrev pub Passes : List ℕ → ℕ → Type 0

@@ -3,7 +3,8 @@ use Rattle.std.specs.Prelude.{◌≡◌, ℕ, ◌+◌, ◌%◌, List, [], ◌∷
 use Rattle.log_levels.specs.declared.update.Update.{Update}
 use Rattle.senders.specs.Senders.{of_sender}
 
--- the updates from this place on, each behind the number of the sender that it is dealt to: its place modulo the senders
+-- the updates from this place on, each behind the number of
+-- the sender that it is dealt to: its place modulo the senders
 abbrev pub dealt_from : (senders place : ℕ) → List Update → List (ℕ × Update)
 dealt_from senders place [] = []
 dealt_from senders place (update ∷ updates) = (place % senders, update) ∷ dealt_from senders (place + 1) updates

@@ -38,7 +38,8 @@ abbrev pub HasRoom : {M : Type 0} {name : Ghosts M} → ℕ → WaitingReader M 
 HasRoom count reader = count ≤ vec_capacity reader.sightings
 
 -- so many readers, and room for all that they leave
-pub record ArePrepared {M : Type 0} {name : Ghosts M} (questions readers : ℕ) (prepared : PreparedReaders M name) : Type 0 where
+pub record ArePrepared {M : Type 0} {name : Ghosts M} (questions readers : ℕ) (prepared : PreparedReaders M name) :
+    Type 0 where
   pub some : 1 ≤ readers
   pub waiting : vec_len prepared.waiting ≡ readers
   pub room : All (HasRoom questions) prepared.waiting.items
@@ -54,7 +55,8 @@ pub record HasSeen (history : List (List Update)) (questions : List Question) (r
   pub last : reading.last ≡ count_of history
 
 -- each reader was asked all questions and saw all that is published
-pub record AreFinal (history : List (List Update)) (questions : List Question) (readers : ℕ) (finals : FinalReadings) : Type 0 where
+pub record AreFinal (history : List (List Update)) (questions : List Question) (readers : ℕ) (finals : FinalReadings) :
+    Type 0 where
   pub shown : IsPrefix history finals.look.batches
   pub whole : count_of finals.look.batches ≡ count_of history
   pub count : length finals.readings.items ≡ readers
@@ -70,10 +72,13 @@ pub record CanPublish (origin : Book) (workload : Workload) (writer : Written) :
   pub empty : IsEmptyWriter origin (length (entries_of workload.updates.now)) writer
   pub plain : AreForSource workload.source workload.updates.now
 
--- the updates are published: in turn, in batches of this size, of which the last may be shorter; or as they came of senders, in batches of no more
-abbrev pub ArePublishedFrom : Source → (size : ℕ) → List Update → (numbers : List ℕ) (mixed : List Update) → List (List Update) → Type 0
+-- the updates are published: in turn, in batches of this size, of which the
+-- last may be shorter; or as they came of senders, in batches of no more
+abbrev pub ArePublishedFrom : Source →
+    (size : ℕ) → List Update → (numbers : List ℕ) (mixed : List Update) → List (List Update) → Type 0
 ArePublishedFrom InTurn size updates numbers mixed history = (updates_of history ≡ updates) × AreBatches size history
-ArePublishedFrom (Assigned dealing) size updates numbers mixed history = AreCut size mixed history × IsMix dealing.senders.count updates numbers mixed
+ArePublishedFrom (Assigned dealing) size updates numbers mixed history =
+    AreCut size mixed history × IsMix dealing.senders.count updates numbers mixed
 
 -- the workload's updates are published, these of them as they came of senders
 abbrev pub ArePublished : Workload → (numbers : List ℕ) (mixed : List Update) → List (List Update) → Type 0

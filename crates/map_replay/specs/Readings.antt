@@ -21,23 +21,28 @@ EndsBatch batches length = (first : List (List Update)) × IsPrefix first batche
 abbrev pub AreAnswers : List Update → List Question → List Sighting → Type 0
 AreAnswers updates [] [] = ⊤
 AreAnswers updates (question ∷ questions) (sighting ∷ sightings) =
-    (sighting.answer ≡ answer_of (map_after (take sighting.length updates)) question) × AreAnswers updates questions sightings
+    (sighting.answer ≡ answer_of (map_after (take sighting.length updates)) question)
+    × AreAnswers updates questions sightings
 AreAnswers updates questions sightings = ⊥
 
 -- when it looked, a reader knew of no fewer updates than it saw before, and it saw no fewer than it knew of
 abbrev pub NeverForgets : (before : ℕ) → List Sighting → Type 0
 NeverForgets before [] = ⊤
-NeverForgets before (sighting ∷ sightings) = (before ≤ sighting.known) × (sighting.known ≤ sighting.length) × NeverForgets sighting.length sightings
+NeverForgets before (sighting ∷ sightings) =
+    (before ≤ sighting.known) × (sighting.known ≤ sighting.length) × NeverForgets sighting.length sightings
 
--- what a reader may see, where such are the numbers of updates that it may know of and see: answers after so many updates, and none of what it saw or knew is lost
-pub record IsReadingOf (IsLength : ℕ → Type 0) (updates : List Update) (questions : List Question) (sightings : List Sighting) : Type 0 where
+-- what a reader may see, where such are the numbers of updates that it may know of
+-- and see: answers after so many updates, and none of what it saw or knew is lost
+pub record IsReadingOf (IsLength : ℕ → Type 0)
+    (updates : List Update) (questions : List Question) (sightings : List Sighting) : Type 0 where
   pub answers : AreAnswers updates questions sightings
   pub knew : All (λ (sighting : Sighting). IsLength sighting.known) sightings
   pub published : All (λ (sighting : Sighting). IsLength sighting.length) sightings
   pub never_forgets : NeverForgets 0 sightings
 
 -- and at the end it saw all updates
-pub record IsWholeReadingOf (IsLength : ℕ → Type 0) (updates : List Update) (questions : List Question) (reading : Reading) : Type 0 where
+pub record IsWholeReadingOf
+    (IsLength : ℕ → Type 0) (updates : List Update) (questions : List Question) (reading : Reading) : Type 0 where
   pub beside : IsReadingOf IsLength updates questions reading.sightings.items
   pub last : reading.last ≡ length updates
 
@@ -54,7 +59,8 @@ pub record AreCut (most : ℕ) (updates : List Update) (batches : List (List Upd
   pub whole : updates_of batches ≡ updates
   pub few : All (λ (batch : List Update). length batch ≤ most) batches
 
--- what a replay leaves: the batches that were published, and the updates after which it answers; where senders sent them, their senders' numbers and the updates in
+-- what a replay leaves: the batches that were published, and the updates after which
+-- it answers; where senders sent them, their senders' numbers and the updates in
 -- the order in which they came; and what each reader saw
 pub record Outcome : Type 0 where
   pub batches : List (List Update)

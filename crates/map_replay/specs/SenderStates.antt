@@ -1,5 +1,7 @@
--- A sender on its way through the updates that are dealt to it, and the writer's end of the queue. No public clause cites it.
-use Rattle.std.specs.Prelude.{◌≡◌, ◌≤◌, ◌<◌, ◌-◌, ◌+◌, ◌%◌, ◌++◌, [], ℕ, List, All, length, take, drop, map, vec_capacity, vec_len, get_or, ◌∷◌}
+-- A sender on its way through the updates that are dealt to it,
+-- and the writer's end of the queue. No public clause cites it.
+use Rattle.std.specs.Prelude.{◌≡◌, ◌≤◌, ◌<◌, ◌-◌, ◌+◌, ◌%◌, ◌++◌, [], ℕ, List, All}
+use Rattle.std.specs.Prelude.{length, take, drop, map, vec_capacity, vec_len, get_or, ◌∷◌}
 use Rattle.log_levels.specs.declared.update.Update.{Update}
 use Rattle.log_levels.specs.Accepted.{IsPlain}
 use Rattle.senders.specs.Senders.{Origin, Sending, of_sender}
@@ -10,23 +12,29 @@ use Rattle.map_replay.specs.declared.intake.Intake.{Intake}
 use Rattle.map_replay.specs.declared.workload.Assignment.{Assignment}
 use Rattle.map_replay.specs.Mixes.{dealt, dealt_from}
 
--- the sender of this number, of this inbox: what it sent, followed by what is dealt to it from its place on, is all that is dealt to it
-pub record IsOnItsWay (origin : Origin) (senders : ℕ) (updates : List Update) (number : ℕ) (progress : SenderProgress) : Type 0 where
+-- the sender of this number, of this inbox: what it sent, followed by
+-- what is dealt to it from its place on, is all that is dealt to it
+pub record IsOnItsWay (origin : Origin) (senders : ℕ) (updates : List Update) (number : ℕ) (progress : SenderProgress) :
+    Type 0 where
   pub own : progress.sender.origin ≡ origin
   pub numbered : progress.sender.number ≡ number
   pub place : progress.place % senders ≡ number
-  pub share : progress.sender.sent ++ of_sender number (dealt_from senders progress.place (drop progress.place updates)) ≡ of_sender number (dealt senders updates)
+  pub share : progress.sender.sent ++ of_sender number (dealt_from senders progress.place (drop progress.place updates))
+      ≡ of_sender number (dealt senders updates)
 
 -- it stays such a sender
 abbrev pub Keeps : (senders : ℕ) → List Update → SenderProgress → SenderProgress → Type 0
-Keeps senders updates before after = (origin : Origin) (number : ℕ) → IsOnItsWay origin senders updates number before → IsOnItsWay origin senders updates number after
+Keeps senders updates before after = (origin : Origin) (number : ℕ) →
+    IsOnItsWay origin senders updates number before → IsOnItsWay origin senders updates number after
 
 -- a sender that was started as such a one
 abbrev pub IsStarted : Origin → Assignment → (number : ℕ) → StartedSender → Type 0
 IsStarted origin assignment number (Running handle) =
-    (handle.promise.assignment.dealing.senders.count ≡ assignment.dealing.senders.count) × (handle.promise.assignment.updates.now ≡ assignment.updates.now)
+    (handle.promise.assignment.dealing.senders.count ≡ assignment.dealing.senders.count)
+    × (handle.promise.assignment.updates.now ≡ assignment.updates.now)
     × IsOnItsWay origin assignment.dealing.senders.count assignment.updates.now number handle.promise.progress.value
-IsStarted origin assignment number (Served progress) = IsOnItsWay origin assignment.dealing.senders.count assignment.updates.now number progress
+IsStarted origin assignment number (Served progress) =
+    IsOnItsWay origin assignment.dealing.senders.count assignment.updates.now number progress
 
 -- each of these is what the one at its place has to be
 abbrev pub AreAt : {T : Type 0} → (ℕ → T → Type 0) → List T → Type 0

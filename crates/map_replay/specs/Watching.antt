@@ -18,11 +18,13 @@ IsSeen batches question sighting = EndsBatch batches sighting.known
 -- for each question in turn
 abbrev pub AreSeen : List (List Update) → List Question → List Sighting → Type 0
 AreSeen batches [] [] = ⊤
-AreSeen batches (question ∷ questions) (sighting ∷ sightings) = IsSeen batches question sighting × AreSeen batches questions sightings
+AreSeen batches (question ∷ questions) (sighting ∷ sightings) =
+    IsSeen batches question sighting × AreSeen batches questions sightings
 AreSeen batches questions sightings = ⊥
 
 -- these questions were asked in turn, by a reader that knows these batches
-pub record WasAsked (batches : List (List Update)) (questions : List Question) (sightings : List Sighting) : Type 0 where
+pub record WasAsked (batches : List (List Update)) (questions : List Question) (sightings : List Sighting) :
+    Type 0 where
   pub seen : AreSeen batches questions sightings
   pub never_forgets : NeverForgets 0 sightings
   pub known : All (λ (sighting : Sighting). sighting.length ≤ count_of batches) sightings

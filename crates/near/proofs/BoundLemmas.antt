@@ -10,12 +10,15 @@ use Rattle.near.specs.Kept.{rank}
 use Rattle.near.proofs.Distances.{box_is_region, inside_from_distance}
 use Rattle.near.proofs.Ranks.{rank_rises}
 
-pub outside_behind : (d : ℕ) (centre : List ℕ) (pair : ℕ × ℕ) (z : ℕ) (corners : Corners) → IsDimension d → IsInRange d centre → d ≤ length centre → pair.1 < 2 ^ 64
-    → IsCode d z → AreCorners (box_around d centre pair.0) corners → (z < corners.low) ⊎ (corners.high < z) → rank pair ≤ rank (distance d centre z, z)
+pub outside_behind : (d : ℕ) (centre : List ℕ) (pair : ℕ × ℕ) (z : ℕ) (corners : Corners) →
+    IsDimension d → IsInRange d centre → d ≤ length centre → pair.1 < 2 ^ 64
+    → IsCode d z → AreCorners (box_around d centre pair.0) corners →
+    (z < corners.low) ⊎ (corners.high < z) → rank pair ≤ rank (distance d centre z, z)
 outside_behind d centre pair z corners is range long small code are out = elim (cases_lt pair.0 (distance d centre z)) [
   | inl further ↦ rank_rises pair (distance d centre z, z) small further
   | inr near ↦
-      let between = inside_between (box_around d centre pair.0) z (box_is_region d centre pair.0 long is range) code (inside_from_distance d centre pair.0 long z is code near) in
+      let between = inside_between (box_around d centre pair.0) z (box_is_region d centre pair.0 long is range) code
+      (inside_from_distance d centre pair.0 long z is code near) in
       elim out [
         | inl below ↦ absurd (omega (arith, between.0, are.low))
         | inr above ↦ absurd (omega (arith, between.1, are.high))

@@ -1,5 +1,6 @@
 -- The places within a distance of a centre are those of a box about it.
-use Rattle.std.proofs.Common.{◌≡◌, ℕ, ◌+◌, ◌-◌, ◌*◌, ◌%◌, ◌^◌, ◌<◌, ◌≤◌, List, [], ◌∷◌, ◌++◌, length, get_or, slice_index, map, All, min, max, refl, sym, ap, ◌∙◌, arith}
+use Rattle.std.proofs.Common.{◌≡◌, ℕ, ◌+◌, ◌-◌, ◌*◌, ◌%◌, ◌^◌, ◌<◌, ◌≤◌, List, [], ◌∷◌, ◌++◌, length}
+use Rattle.std.proofs.Common.{get_or, slice_index, map, All, min, max, refl, sym, ap, ◌∙◌, arith}
 use Rattle.std.specs.List.{fold, range_with_len}
 use Rattle.std.proofs.lemmas.List.{ext_get_or, get_or-map, length-map}
 use Rattle.std.proofs.lemmas.List.Elements.{All-cons, All-head, All-tail}
@@ -20,7 +21,8 @@ greatest_not_below a (x ∷ xs) = omega (arith, greatest_not_below (max a x) xs)
 
 greatest_bounds : (a : ℕ) (xs : List ℕ) → All (λ x. x ≤ fold max a xs) xs
 greatest_bounds a [] = λ k d within. absurd (omega arith)
-greatest_bounds a (x ∷ xs) = All-cons (λ y. y ≤ fold max (max a x) xs) x xs (omega (arith, greatest_not_below (max a x) xs)) (greatest_bounds (max a x) xs)
+greatest_bounds a (x ∷ xs) = All-cons (λ y. y ≤ fold max (max a x) xs) x xs
+    (omega (arith, greatest_not_below (max a x) xs)) (greatest_bounds (max a x) xs)
 
 greatest_from : (a bound : ℕ) (xs : List ℕ) → a ≤ bound → All (λ x. x ≤ bound) xs → fold max a xs ≤ bound
 greatest_from a bound [] first all = first
@@ -52,7 +54,8 @@ apart_from_distance d centre z c within =
       greatest_bounds 0 all c 0 (omega (arith, length-map-range_with_len (apart d centre z) 0 d)),
     )
 
-pub distance_from_apart : (d : ℕ) (centre : List ℕ) (z bound : ℕ) → ((c : ℕ) → c < d → apart d centre z c ≤ bound) → distance d centre z ≤ bound
+pub distance_from_apart : (d : ℕ) (centre : List ℕ) (z bound : ℕ) →
+    ((c : ℕ) → c < d → apart d centre z c ≤ bound) → distance d centre z ≤ bound
 unfolding distance
 distance_from_apart d centre z bound each =
     greatest_from 0 bound (map (apart d centre z) (range_with_len 0 d)) (omega arith)
@@ -66,10 +69,12 @@ module _ (d : ℕ) (centre : List ℕ) (reach : ℕ) (long : d ≤ length centre
   low_at : (c : ℕ) → c < d → slice_index (box_around d centre reach).low c ≡ slice_index centre c - reach
   low_at c within = get_or-map (λ value. value - reach) centre c 0 0 (omega arith)
 
-  high_at : (c : ℕ) → c < d → slice_index (box_around d centre reach).high c ≡ min (slice_index centre c + reach) (2 ^ coordinate_bits d - 1)
+  high_at : (c : ℕ) → c < d →
+      slice_index (box_around d centre reach).high c ≡ min (slice_index centre c + reach) (2 ^ coordinate_bits d - 1)
   high_at c within = get_or-map (λ value. min (value + reach) (2 ^ coordinate_bits d - 1)) centre c 0 0 (omega arith)
 
-  pub inside_from_distance : (z : ℕ) → IsDimension d → IsCode d z → distance d centre z ≤ reach → IsInside (box_around d centre reach) z
+  pub inside_from_distance : (z : ℕ) →
+      IsDimension d → IsCode d z → distance d centre z ≤ reach → IsInside (box_around d centre reach) z
   inside_from_distance z is code near c within =
       let each = apart_from_distance d centre z c within in
       let below = coordinate_below d z is code c in (
@@ -96,13 +101,15 @@ shifted_one bits limit small within =
     let fits : 1 * 2 ^ bits < 2 ^ 64 = omega arith in
     mod-eq_of_lt fits ∙ one
 
-filled : (f : ℕ → ℕ) (xs ys : List ℕ) → length ys ≡ length xs → ((k : ℕ) → k < length xs → get_or ys k 0 ≡ f (get_or xs k 0)) → ys ≡ map f xs
+filled : (f : ℕ → ℕ) (xs ys : List ℕ) →
+    length ys ≡ length xs → ((k : ℕ) → k < length xs → get_or ys k 0 ≡ f (get_or xs k 0)) → ys ≡ map f xs
 filled f xs ys long each = ext_get_or 0 ys (map f xs) (long ∙ sym (length-map xs f)) (λ k within.
     let within' : k < length xs = omega arith in
     each k within' ∙ sym (get_or-map f xs k 0 0 within'))
 
 -- a region whose ends were set one by one
-pub same_box : (d : ℕ) (centre : List ℕ) (reach : ℕ) (low high : List ℕ) → length low ≡ length centre → length high ≡ length centre
+pub same_box : (d : ℕ) (centre : List ℕ) (reach : ℕ) (low high : List ℕ) →
+    length low ≡ length centre → length high ≡ length centre
     → ((k : ℕ) → k < length centre → get_or low k 0 ≡ get_or centre k 0 - reach)
     → ((k : ℕ) → k < length centre → get_or high k 0 ≡ min (get_or centre k 0 + reach) (2 ^ coordinate_bits d - 1))
     → record { d = d; low = low; high = high } ≡ box_around d centre reach

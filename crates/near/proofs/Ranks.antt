@@ -1,5 +1,6 @@
 -- Pairs of a distance and a code, in order by one number.
-use Rattle.std.proofs.Common.{◌≡◌, ⊎_elim, subst, ℕ, ◌+◌, ◌^◌, ◌<◌, ◌≤◌, Bool, true, false, List, length, get_or, map, All, refl, sym, ap, ◌∙◌, arith}
+use Rattle.std.proofs.Common.{◌≡◌, ⊎_elim, subst, ℕ, ◌+◌, ◌^◌, ◌<◌, ◌≤◌, Bool, true, false}
+use Rattle.std.proofs.Common.{List, length, get_or, map, All, refl, sym, ap, ◌∙◌, arith}
 use Rattle.std.specs.Ordering.{is_lt, nat_cmp, ordering_then}
 use Rattle.std.specs.Cmp.{nat_cmp_is}
 use Rattle.std.specs.declared.cmp.Ordering.{Ordering}
@@ -49,7 +50,8 @@ abbrev pub stands_before : ℕ × ℕ → ℕ × ℕ → Bool
 stands_before p q = is_lt (ordering_then (nat_cmp p.0 q.0) (nat_cmp p.1 q.1))
 
 before_nearer : (p q : ℕ × ℕ) → p.0 < q.0 → stands_before p q ≡ true
-before_nearer p q nearer = subst (λ (o : Ordering). is_lt (ordering_then o (nat_cmp p.1 q.1)) ≡ true) (nat_cmp_is p.0 q.0 Less nearer) refl
+before_nearer p q nearer =
+    subst (λ (o : Ordering). is_lt (ordering_then o (nat_cmp p.1 q.1)) ≡ true) (nat_cmp_is p.0 q.0 Less nearer) refl
 
 before_lesser : (p q : ℕ × ℕ) → p.0 ≡ q.0 → p.1 < q.1 → stands_before p q ≡ true
 before_lesser p q same less =
@@ -61,7 +63,8 @@ rank_from_test p q small test =
     ⊎_elim (λ nearer. absurd (neither (before_nearer q p nearer) test))
     (λ from. ⊎_elim (λ further. rank_rises p q small further)
     (λ to. let same : q.0 ≡ p.0 = omega arith in
-    ⊎_elim (λ less. absurd (neither (before_lesser q p same less) test)) (λ not_less. rank_by_code p q (sym same) not_less) (cases_lt q.1 p.1))
+    ⊎_elim (λ less. absurd (neither (before_lesser q p same less) test))
+    (λ not_less. rank_by_code p q (sym same) not_less) (cases_lt q.1 p.1))
     (cases_lt p.0 q.0)) (cases_lt q.0 p.0)
   where
     neither : {b : Bool} → b ≡ true → b ≡ false → ⊥
@@ -69,20 +72,25 @@ rank_from_test p q small test =
 
 -- ---- lists of pairs
 
-pub rank_from_sort : (pairs : List (ℕ × ℕ)) → HaveCodes pairs → IsSortedBy stands_before pairs → IsNonDecreasingBy rank pairs
+pub rank_from_sort : (pairs : List (ℕ × ℕ)) →
+    HaveCodes pairs → IsSortedBy stands_before pairs → IsNonDecreasingBy rank pairs
 rank_from_sort pairs small sorted = IsNonDecreasingBy-from_all_adjacent rank pairs
-    (λ k d within. rank_from_test (get_or pairs k d) (get_or pairs (k + 1) d) (small k d (omega arith)) (sorted k d (omega arith) within))
+    (λ k d within. rank_from_test
+    (get_or pairs k d) (get_or pairs (k + 1) d) (small k d (omega arith)) (sorted k d (omega arith) within))
 
 pub first_from_rank : (pairs : List (ℕ × ℕ)) → HaveCodes pairs → IsNonDecreasingBy rank pairs → AreNearestFirst pairs
 first_from_rank pairs small order = record {
-  distances = λ i j d before within. distance_by_rank (get_or pairs i d) (get_or pairs j d) (small j d within) (order i j d before within);
-  codes = λ i j d before within same. code_by_rank (get_or pairs i d) (get_or pairs j d) same (order i j d before within);
+  distances = λ i j d before within.
+      distance_by_rank (get_or pairs i d) (get_or pairs j d) (small j d within) (order i j d before within);
+  codes =
+      λ i j d before within same. code_by_rank (get_or pairs i d) (get_or pairs j d) same (order i j d before within);
 }
 
 pub rank_from_first : (pairs : List (ℕ × ℕ)) → HaveCodes pairs → AreNearestFirst pairs → IsNonDecreasingBy rank pairs
 rank_from_first pairs small first = λ i j d before within.
     ⊎_elim (λ nearer. rank_rises (get_or pairs i d) (get_or pairs j d) (small i d (omega arith)) nearer)
-    (λ from. let same : (get_or pairs i d).0 ≡ (get_or pairs j d).0 = omega (arith, first.distances i j d before within) in
+    (λ from. let same : (get_or pairs i d).0
+    ≡ (get_or pairs j d).0 = omega (arith, first.distances i j d before within) in
     rank_by_code (get_or pairs i d) (get_or pairs j d) same (first.codes i j d before within same))
     (cases_lt (get_or pairs i d).0 (get_or pairs j d).0)
 
@@ -90,7 +98,12 @@ pub ranks_in_order : (pairs : List (ℕ × ℕ)) → IsNonDecreasingBy rank pair
 ranks_in_order pairs order = λ i j d before within.
     let long = length-map pairs rank in
     let e = get_or pairs 0 (0, 0) in
-    omega (arith, get_or-map rank pairs i e d (omega arith), get_or-map rank pairs j e d (omega arith), order i j e before (omega arith))
+    omega (
+      arith,
+      get_or-map rank pairs i e d (omega arith),
+      get_or-map rank pairs j e d (omega arith),
+      order i j e before (omega arith),
+    )
 
 -- pairs in order are told by their numbers
 pub same_by_ranks : (one two : List (ℕ × ℕ)) → HaveCodes one → HaveCodes two → map rank one ≡ map rank two → one ≡ two
@@ -99,4 +112,5 @@ same_by_ranks one two small small' same =
     same_lists one two long (λ k d within.
     let within' : k < length two = omega arith in
     same_by_rank (get_or one k d) (get_or two k d) (small k d within) (small' k d within')
-    (sym (get_or-map rank one k d 0 within) ∙ ap (λ (xs : List ℕ). get_or xs k 0) same ∙ get_or-map rank two k d 0 within'))
+    (sym (get_or-map rank one k d 0 within)
+    ∙ ap (λ (xs : List ℕ). get_or xs k 0) same ∙ get_or-map rank two k d 0 within'))

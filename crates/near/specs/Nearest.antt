@@ -11,7 +11,8 @@ pairs_of d centre codes = map (λ z. (distance d centre z, z)) codes
 pub record AreNearestFirst (pairs : List (ℕ × ℕ)) : Type 0 where
   pub distances : IsNonDecreasingBy (λ pair. pair.0) pairs
   pub codes : (i j : ℕ) (e : ℕ × ℕ) → i ≤ j → j < length pairs
-      → (slice_index_or pairs i e).0 ≡ (slice_index_or pairs j e).0 → (slice_index_or pairs i e).1 ≤ (slice_index_or pairs j e).1
+      → (slice_index_or pairs i e).0 ≡ (slice_index_or pairs j e).0 →
+      (slice_index_or pairs i e).1 ≤ (slice_index_or pairs j e).1
 
 -- the pairs of all codes, nearest first, each as often as it is there
 pub record AreSortedPairs (d : ℕ) (centre codes : List ℕ) (pairs : List (ℕ × ℕ)) : Type 0 where
@@ -27,7 +28,8 @@ pub record IsLeastBox (d : ℕ) (centre codes : List ℕ) (found i : ℕ) : Type
   pub enough : found ≤ points_within d centre codes i
   pub least : (j : ℕ) → j < i → points_within d centre codes j < found
 
--- in how many boxes so many points are looked for: those up to the first that has them, and in none where there are none
+-- in how many boxes so many points are looked for: those up to
+-- the first that has them, and in none where there are none
 pub record AreBoxes (d : ℕ) (centre codes : List ℕ) (found boxes : ℕ) : Type 0 where
   pub none : found ≡ 0 → boxes ≡ 0
   pub some : 0 < found → (i : ℕ) × IsLeastBox d centre codes found i × (boxes ≡ 1 + i)

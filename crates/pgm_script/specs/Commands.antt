@@ -1,5 +1,6 @@
 -- The commands of scripts: one table for all kinds.
-use Rattle.std.specs.Prelude.{ℕ, Bool, true, false, if◌then◌else◌, ◌+◌, ◌-◌, ◌^◌, List, [], ◌∷◌, ◌++◌, take, drop, replicate, slice_index, codes}
+use Rattle.std.specs.Prelude.{ℕ, Bool, true, false, if◌then◌else◌, ◌+◌, ◌-◌, ◌^◌, List}
+use Rattle.std.specs.Prelude.{[], ◌∷◌, ◌++◌, take, drop, replicate, slice_index, codes}
 use Rattle.zorder.specs.declared.regions.Region.{Region}
 use Rattle.zorder.specs.Codes.{coordinate_bits}
 use Rattle.pgm_script.specs.declared.script.ScriptKind.{ScriptKind}
@@ -41,13 +42,28 @@ abbrev pub find_command : Command
 find_command = record { word = codes "find"; most = any ∷ []; line = λ numbers. ScriptLine.Find (first numbers) }
 
 abbrev pub box_command : ℕ → Command
-box_command d = record { word = codes "box"; most = replicate (d + d) (greatest d); line = λ numbers. ScriptLine.Region (region_of d numbers) }
+box_command d =
+    record {
+      word = codes "box";
+      most = replicate (d + d) (greatest d);
+      line = λ numbers. ScriptLine.Region (region_of d numbers);
+    }
 
 abbrev pub near_command : ℕ → Command
-near_command d = record { word = codes "near"; most = replicate d (greatest d) ++ most_points ∷ []; line = λ numbers. ScriptLine.Near (corner d numbers) (slice_index numbers d) }
+near_command d =
+    record {
+      word = codes "near";
+      most = replicate d (greatest d) ++ most_points ∷ [];
+      line = λ numbers. ScriptLine.Near (corner d numbers) (slice_index numbers d);
+    }
 
 abbrev pub put_command : Command
-put_command = record { word = codes "put"; most = any ∷ any ∷ []; line = λ numbers. ScriptLine.Put (first numbers) (second numbers) }
+put_command =
+    record {
+      word = codes "put";
+      most = any ∷ any ∷ [];
+      line = λ numbers. ScriptLine.Put (first numbers) (second numbers);
+    }
 
 abbrev pub del_command : Command
 del_command = record { word = codes "del"; most = any ∷ []; line = λ numbers. ScriptLine.Del (first numbers) }
@@ -59,14 +75,25 @@ abbrev pub next_command : Command
 next_command = record { word = codes "next"; most = any ∷ []; line = λ numbers. ScriptLine.Next (first numbers) }
 
 abbrev pub count_command : Command
-count_command = record { word = codes "count"; most = any ∷ any ∷ []; line = λ numbers. ScriptLine.Count (first numbers) (second numbers) }
+count_command =
+    record {
+      word = codes "count";
+      most = any ∷ any ∷ [];
+      line = λ numbers. ScriptLine.Count (first numbers) (second numbers);
+    }
 
 abbrev pub sweep_command : Command
-sweep_command = record { word = codes "sweep"; most = any ∷ any ∷ []; line = λ numbers. ScriptLine.Sweep (first numbers) (second numbers) }
+sweep_command =
+    record {
+      word = codes "sweep";
+      most = any ∷ any ∷ [];
+      line = λ numbers. ScriptLine.Sweep (first numbers) (second numbers);
+    }
 
 -- the commands on a map; `sweep` is one only where sweeps may stand
 abbrev pub map_commands : (sweeps : Bool) → List Command
-map_commands sweeps = put_command ∷ del_command ∷ get_command ∷ next_command ∷ count_command ∷ (if sweeps then sweep_command ∷ [] else [])
+map_commands sweeps =
+    put_command ∷ del_command ∷ get_command ∷ next_command ∷ count_command ∷ (if sweeps then sweep_command ∷ [] else [])
 
 -- the kind of a script of such commands
 abbrev pub map_kind : (sweeps : Bool) → ScriptKind

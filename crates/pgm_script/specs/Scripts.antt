@@ -1,5 +1,6 @@
 -- What a line is, and what a text is: a script, or one with a first line that is none.
-use Rattle.std.specs.Prelude.{◌≡◌, ℕ, ◌+◌, ◌==◌, if◌then◌else◌, List, [], ◌∷◌, ◌++◌, length, slice_index, bytes_eq, find, filter_map, All, Option, Some, None, Result, Ok, Err, IsOk, ⊤}
+use Rattle.std.specs.Prelude.{◌≡◌, ℕ, ◌+◌, ◌==◌, if◌then◌else◌, List, [], ◌∷◌, ◌++◌, length, slice_index}
+use Rattle.std.specs.Prelude.{bytes_eq, find, filter_map, All, Option, Some, None, Result, Ok, Err, IsOk, ⊤}
 use Rattle.std.specs.Str.{is_utf8}
 use Rattle.std.specs.Str.Lines.{strip_carriage_return}
 use Rattle.zorder.specs.Codes.{IsDimension, IsInRange}
@@ -39,11 +40,13 @@ command_reading (Some command) words = made command (numbers_of command.most wor
 abbrev pub words_reading : ScriptKind → List (List ℕ) → Result (Option ScriptLine) Why
 words_reading asked [] = Ok None
 words_reading asked (word ∷ words) =
-    if slice_index word 0 == 35 then Ok None else command_reading (find (λ command. bytes_eq word command.word) (commands_of asked)) words
+    if slice_index word 0 == 35 then Ok None else command_reading
+    (find (λ command. bytes_eq word command.word) (commands_of asked)) words
 
 -- what a line is: nothing, one line of the script, or what is wrong with it first
 abbrev pub line_reading : ScriptKind → List ℕ → Result (Option ScriptLine) Why
-line_reading asked line = if is_utf8 line then words_reading asked (words_of (strip_carriage_return line)) else Err NotUtf8
+line_reading asked line =
+    if is_utf8 line then words_reading asked (words_of (strip_carriage_return line)) else Err NotUtf8
 
 -- the line of the script, if it is one
 abbrev pub script_line : Result (Option ScriptLine) Why → Option ScriptLine

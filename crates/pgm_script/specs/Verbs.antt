@@ -2,7 +2,8 @@
 use Rattle.std.specs.Prelude.{ℕ, ◌<◌, ◌≤◌, List, length, slice_index, ⊤}
 use Rattle.zorder.specs.Codes.{IsDimension}
 use Rattle.pgm_script.specs.declared.verb.Verb.{Verb}
-use Rattle.pgm_script.specs.Commands.{Command, find_command, box_command, near_command, put_command, del_command, get_command, next_command, count_command, sweep_command}
+use Rattle.pgm_script.specs.Commands.{Command, find_command, box_command, near_command, put_command}
+use Rattle.pgm_script.specs.Commands.{del_command, get_command, next_command, count_command, sweep_command}
 
 abbrev pub command_of : Verb → Command
 command_of Verb.Find = find_command

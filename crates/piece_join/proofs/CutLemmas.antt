@@ -1,5 +1,6 @@
 -- Cuts, one value after another, and the edges of the pieces between them.
-use Rattle.std.proofs.Common.{◌≡◌, ◌⊎◌, ℕ, zero, suc, ◌+◌, ◌-◌, ◌*◌, ◌/◌, ◌<◌, ◌≤◌, List, [], ◌∷◌, ◌++◌, length, slice_index, Contains, refl, sym, ap, subst, inl, inr, arith, ◌∙◌, add-one}
+use Rattle.std.proofs.Common.{◌≡◌, ◌⊎◌, ℕ, zero, suc, ◌+◌, ◌-◌, ◌*◌, ◌/◌, ◌<◌, ◌≤◌, List, [], ◌∷◌, ◌++◌, length}
+use Rattle.std.proofs.Common.{slice_index, Contains, refl, sym, ap, subst, inl, inr, arith, ◌∙◌, add-one}
 use Rattle.std.specs.List.Sorted.{IsStrictlyIncreasing}
 use Rattle.std.proofs.Math.Nat.{div-mul-le_self, div-le_self, mul-le-mul_left, mul-le-mul_right}
 use Rattle.std.proofs.lemmas.Nat.{le-div, div_below}
@@ -13,7 +14,8 @@ use Rattle.piece_join.specs.Pieces.{edge_of}
 abbrev last_of : List ℕ → ℕ
 last_of cuts = slice_index cuts (length cuts - 1)
 
-rise-push : (cuts : List ℕ) (cut : ℕ) → IsStrictlyIncreasing cuts → last_of cuts < cut → IsStrictlyIncreasing (cuts ++ cut ∷ [])
+rise-push : (cuts : List ℕ) (cut : ℕ) →
+    IsStrictlyIncreasing cuts → last_of cuts < cut → IsStrictlyIncreasing (cuts ++ cut ∷ [])
 rise-push cuts cut rise above = λ k inside. elim (cases_lt (k + 1) (length cuts)) [
   | inl before ↦
       let here = get_or_append_left cuts (cut ∷ []) 0 k (omega arith) in
@@ -29,7 +31,11 @@ rise-push cuts cut rise above = λ k inside. elim (cases_lt (k + 1) (length cuts
 
 -- an old cut stays one, and the new one is one
 Contains-more : (cuts : List ℕ) (cut x : ℕ) → Contains cuts x → Contains (cuts ++ cut ∷ []) x
-Contains-more cuts cut x there = (there.0, omega (arith, length_push cuts cut, there.1), get_or_append_left cuts (cut ∷ []) x there.0 there.1 ∙ there.2)
+Contains-more cuts cut x there = (
+  there.0,
+  omega (arith, length_push cuts cut, there.1),
+  get_or_append_left cuts (cut ∷ []) x there.0 there.1 ∙ there.2,
+)
 
 Contains-new : (cuts : List ℕ) (cut : ℕ) → Contains (cuts ++ cut ∷ []) cut
 Contains-new cuts cut = (length cuts, omega (arith, length_push cuts cut), get_or_push cuts cut cut (length cuts) refl)
@@ -42,37 +48,44 @@ Contains-cases cuts cut x there = elim (cases_lt there.0 (length cuts)) [
 
 -- the last of some cuts is one of them
 Contains-last : (cuts : List ℕ) → 0 < length cuts → Contains cuts (last_of cuts)
-Contains-last cuts some = (length cuts - 1, omega arith, get_or_default cuts (length cuts - 1) (last_of cuts) 0 (omega arith))
+Contains-last cuts some =
+    (length cuts - 1, omega arith, get_or_default cuts (length cuts - 1) (last_of cuts) 0 (omega arith))
 
 no_last : (cuts : List ℕ) → length cuts ≡ 0 → last_of cuts ≡ 0
 no_last [] none = refl
 no_last (cut ∷ cuts) none = absurd (omega arith)
 
 -- a value that rises is one cut more
-AreCutsAt-more : (m n : ℕ) (place : ℕ → ℕ) (cuts : List ℕ) → 0 < n → (0 < place n → place n < m) → last_of cuts < place n → AreCutsAt m n place cuts →
+AreCutsAt-more : (m n : ℕ) (place : ℕ → ℕ) (cuts : List ℕ) →
+    0 < n → (0 < place n → place n < m) → last_of cuts < place n → AreCutsAt m n place cuts →
     AreCutsAt m (n + 1) place (cuts ++ place n ∷ [])
 AreCutsAt-more m n place cuts some within above so_far = record {
   are = record {
     rise = rise-push cuts (place n) so_far.are.rise above;
-    inside = All-push (λ cut. (0 < cut) × (cut < m)) cuts (place n) so_far.are.inside (omega arith, within (omega arith));
+    inside =
+        All-push (λ cut. (0 < cut) × (cut < m)) cuts (place n) so_far.are.inside (omega arith, within (omega arith));
   };
   each = λ x. (there x, back x);
 }
   where
-    there : (x : ℕ) → Contains (cuts ++ place n ∷ []) x → (0 < x) × (x < m) × ((k : ℕ) × (0 < k) × (k < n + 1) × (place k ≡ x))
+    there : (x : ℕ) →
+        Contains (cuts ++ place n ∷ []) x → (0 < x) × (x < m) × ((k : ℕ) × (0 < k) × (k < n + 1) × (place k ≡ x))
     there x found = elim (Contains-cases cuts (place n) x found) [
       | inl before ↦ let is = (so_far.each x).0 before in (is.0, is.1, (is.2.0, is.2.1, omega (arith, is.2.2), is.2.3))
       | inr here ↦ (omega (arith, here), omega (arith, here, within (omega arith)), (n, some, omega arith, sym here))
     ]
 
-    back : (x : ℕ) → (0 < x) × (x < m) × ((k : ℕ) × (0 < k) × (k < n + 1) × (place k ≡ x)) → Contains (cuts ++ place n ∷ []) x
+    back : (x : ℕ) →
+        (0 < x) × (x < m) × ((k : ℕ) × (0 < k) × (k < n + 1) × (place k ≡ x)) → Contains (cuts ++ place n ∷ []) x
     back x value = let k : ℕ = value.2.0 in let is : place k ≡ x = value.2.3 in elim (cases_lt k n) [
       | inl before ↦ Contains-more cuts (place n) x ((so_far.each x).1 (value.0, value.1, (k, value.2.1, before, is)))
-      | inr at_end ↦ let last : n ≡ k = omega (arith, value.2.2) in subst (Contains (cuts ++ place n ∷ [])) (ap place last ∙ is) (Contains-new cuts (place n))
+      | inr at_end ↦ let last : n ≡ k = omega (arith, value.2.2) in
+          subst (Contains (cuts ++ place n ∷ [])) (ap place last ∙ is) (Contains-new cuts (place n))
     ]
 
 -- one that doesn't is the last cut again, or 0
-AreCutsAt-same : (m n : ℕ) (place : ℕ → ℕ) (cuts : List ℕ) → ((k : ℕ) → k < n → place k ≤ place n) → place n ≤ last_of cuts → AreCutsAt m n place cuts →
+AreCutsAt-same : (m n : ℕ) (place : ℕ → ℕ) (cuts : List ℕ) →
+    ((k : ℕ) → k < n → place k ≤ place n) → place n ≤ last_of cuts → AreCutsAt m n place cuts →
     AreCutsAt m (n + 1) place cuts
 AreCutsAt-same m n place cuts rises below so_far = record { are = so_far.are; each = λ x. (there x, back x) }
   where
@@ -98,7 +111,8 @@ AreCutsAt-same m n place cuts rises below so_far = record { are = so_far.are; ea
     ]
 
 -- one value more
-pub AreCutsAt-with_cut : (m n : ℕ) (place : ℕ → ℕ) (cuts : List ℕ) → 0 < n → ((k : ℕ) → k < n → place k ≤ place n) → (0 < place n → place n < m) →
+pub AreCutsAt-with_cut : (m n : ℕ) (place : ℕ → ℕ) (cuts : List ℕ) →
+    0 < n → ((k : ℕ) → k < n → place k ≤ place n) → (0 < place n → place n < m) →
     AreCutsAt m n place cuts → AreCutsAt m (n + 1) place (with_cut cuts (place n))
 AreCutsAt-with_cut m n place cuts some rises within so_far = elim (cases_lt (last_of cuts) (place n)) [
   | inl above ↦ rw (lt-ltb (last_of cuts) (place n) above) (AreCutsAt-more m n place cuts some within above so_far)
@@ -136,7 +150,8 @@ pub even-below : (m pieces k : ℕ) → k < pieces → 0 < even_place m pieces k
 even-below m pieces k below some =
     let positive : 0 < m = elim (cases_lt 0 m) [
       | inl more ↦ more
-      | inr none ↦ let zero_m : m ≡ 0 = omega arith in absurd (omega (arith, some, div-le_self (k * m) pieces, ap (λ n. k * n) zero_m))
+      | inr none ↦ let zero_m : m ≡ 0 = omega arith in
+          absurd (omega (arith, some, div-le_self (k * m) pieces, ap (λ n. k * n) zero_m))
     ] in
     div_below (k * m) pieces m (omega arith) (omega (arith, mul-le-mul_right m (suc_below k pieces below)))
   where
@@ -148,10 +163,13 @@ uneven-below m pieces k below some =
     let positive : 0 < m = elim (cases_lt 0 m) [
       | inl more ↦ more
       | inr none ↦ let zero_m : m ≡ 0 = omega arith in
-          absurd (omega (arith, some, div-le_self (m * k * (k + 1)) (pieces * (pieces + 1)), ap (λ n. n * k * (k + 1)) zero_m))
+          absurd (omega
+          (arith, some, div-le_self (m * k * (k + 1)) (pieces * (pieces + 1)), ap (λ n. n * k * (k + 1)) zero_m))
     ] in
-    let squares : (k + 1) * (k + 1) ≤ pieces * (pieces + 1) = mul-rises (k + 1) pieces (k + 1) (pieces + 1) (omega arith) (omega arith) in
-    div_below (m * k * (k + 1)) (pieces * (pieces + 1)) m (pos_of pieces (omega arith)) (omega (arith, mul-le-mul_left m squares))
+    let squares : (k + 1) * (k + 1) ≤ pieces * (pieces + 1) =
+    mul-rises (k + 1) pieces (k + 1) (pieces + 1) (omega arith) (omega arith) in
+    div_below (m * k * (k + 1))
+    (pieces * (pieces + 1)) m (pos_of pieces (omega arith)) (omega (arith, mul-le-mul_left m squares))
 
 pub uneven-within : (m pieces k : ℕ) → k < pieces → uneven_place m pieces k ≤ m
 uneven-within m pieces k below = elim (cases_lt 0 (uneven_place m pieces k)) [
@@ -174,11 +192,24 @@ edge_within m j cuts are inside = elim (cases_lt j (length cuts)) [
 ]
 
 -- and each is at or after the one before it
-pub edges_rise : (m i : ℕ) (cuts : List ℕ) → AreCuts m cuts → i ≤ length cuts → edge_of m cuts i ≤ edge_of m cuts (suc i)
+pub edges_rise : (m i : ℕ) (cuts : List ℕ) →
+    AreCuts m cuts → i ≤ length cuts → edge_of m cuts i ≤ edge_of m cuts (suc i)
 edges_rise m zero cuts are inside = omega arith
 edges_rise m (suc j) cuts are inside = elim (cases_lt (suc j) (length cuts)) [
-  | inl before ↦ omega (arith, edge_at_cut m j cuts (omega arith), edge_at_cut m (suc j) cuts before, rw add-one at (are.rise j (omega arith)))
-  | inr at_end ↦ omega (arith, edge_at_cut m j cuts (omega arith), edge_at_end m (suc j) cuts (omega arith), (are.inside j 0 (omega arith)).1)
+  | inl before ↦
+      omega (
+        arith,
+        edge_at_cut m j cuts (omega arith),
+        edge_at_cut m (suc j) cuts before,
+        rw add-one at (are.rise j (omega arith)),
+      )
+  | inr at_end ↦
+      omega (
+        arith,
+        edge_at_cut m j cuts (omega arith),
+        edge_at_end m (suc j) cuts (omega arith),
+        (are.inside j 0 (omega arith)).1,
+      )
 ]
 
 -- past the last piece it is the end of all

@@ -1,5 +1,6 @@
 -- The pieces that were put at the places of their numbers.
-use Rattle.std.proofs.Common.{Bool, true, Ok, Some, min, ◌≡◌, ◌⊎◌, ◌==◌, ℕ, ◌+◌, ◌<◌, List, [], ◌∷◌, ◌++◌, length, set, All, Vec, Global, if◌then◌else◌, sum_by, inl, inr, refl, sym, ap, subst, arith, ◌∙◌}
+use Rattle.std.proofs.Common.{Bool, true, Ok, Some, min, ◌≡◌, ◌⊎◌, ◌==◌, ℕ, ◌+◌, ◌<◌, List, [], ◌∷◌, ◌++◌, length, set}
+use Rattle.std.proofs.Common.{All, Vec, Global, if◌then◌else◌, sum_by, inl, inr, refl, sym, ap, subst, arith, ◌∙◌}
 use Rattle.std.specs.Prelude.{slice_index_or, IfOk}
 use Rattle.std.proofs.lemmas.Bool.{cases_eq, cases_lt, ne_eqb}
 use Rattle.std.proofs.lemmas.List.{get_or-set_same, get_or-set_other, map-append}
@@ -14,35 +15,44 @@ use Rattle.piece_join.specs.Pieces.{Pieced, IsPart}
 use Rattle.piece_join.specs.Worked.{IsWorked, IsPlaced, ArePlaced, numbers_of}
 
 -- what is put at its place stands there, and the others stand where they did
-pub IsPlaced-here : (work : Work) (parts : List (Vec Segment Global)) (n i : ℕ) (part : Vec Segment Global) → n < length parts → i ≡ n → IsPart work n part.items →
+pub IsPlaced-here : (work : Work) (parts : List (Vec Segment Global)) (n i : ℕ) (part : Vec Segment Global) →
+    n < length parts → i ≡ n → IsPart work n part.items →
     IsPlaced work (set parts n part) i
 IsPlaced-here work parts n i part inside same is = λ d.
-    subst (λ (v : Vec Segment Global). IsPart work i v.items) (sym (ap (λ k. slice_index_or (set parts n part) k d) same ∙ get_or-set_same parts n part d inside))
+    subst (λ (v : Vec Segment Global). IsPart work i v.items)
+    (sym (ap (λ k. slice_index_or (set parts n part) k d) same ∙ get_or-set_same parts n part d inside))
     (subst (λ (k : ℕ). IsPart work k part.items) (sym same) is)
 
-pub IsPlaced-kept : (work : Work) (parts : List (Vec Segment Global)) (n i : ℕ) (part : Vec Segment Global) → n < length parts → IsPart work n part.items →
+pub IsPlaced-kept : (work : Work) (parts : List (Vec Segment Global)) (n i : ℕ) (part : Vec Segment Global) →
+    n < length parts → IsPart work n part.items →
     IsPlaced work parts i → IsPlaced work (set parts n part) i
 IsPlaced-kept work parts n i part inside is before = elim (cases_eq i n) [
   | inl same ↦ IsPlaced-here work parts n i part inside same is
-  | inr other ↦ λ d. subst (λ (v : Vec Segment Global). IsPart work i v.items) (sym (get_or-set_other parts n i part d other)) (before d)
+  | inr other ↦ λ d. subst
+      (λ (v : Vec Segment Global). IsPart work i v.items) (sym (get_or-set_other parts n i part d other)) (before d)
 ]
 
 -- the piece that is taken, and those left, are of the work that all are of
-pub of_taken : (work : Work) (left rest : List Pieced) (piece : Pieced) → left ≡ rest ++ piece ∷ [] → All (λ p. p.of ≡ work) left → All (λ p. p.of ≡ work) rest × (piece.of ≡ work)
+pub of_taken : (work : Work) (left rest : List Pieced) (piece : Pieced) →
+    left ≡ rest ++ piece ∷ [] → All (λ p. p.of ≡ work) left → All (λ p. p.of ≡ work) rest × (piece.of ≡ work)
 of_taken work left rest piece is all = All-pop (λ (p : Pieced). p.of ≡ work) left rest (Some piece) is all
 
-pub fits_taken : (count : ℕ) (left rest : List Pieced) (piece : Pieced) → left ≡ rest ++ piece ∷ [] → All (λ p. length p.of.cuts.now < count) left →
+pub fits_taken : (count : ℕ) (left rest : List Pieced) (piece : Pieced) →
+    left ≡ rest ++ piece ∷ [] → All (λ p. length p.of.cuts.now < count) left →
     All (λ p. length p.of.cuts.now < count) rest × (length piece.of.cuts.now < count)
-fits_taken count left rest piece is all = All-pop (λ (p : Pieced). length p.of.cuts.now < count) left rest (Some piece) is all
+fits_taken count left rest piece is all =
+    All-pop (λ (p : Pieced). length p.of.cuts.now < count) left rest (Some piece) is all
 
 -- once or never
 abbrev one_time : ℕ → ℕ → ℕ
 one_time i n = if n == i then 1 else 0
 
 -- how often a number stands among those of pieces, one of which is taken
-times-taken : (i : ℕ) (left rest : List Pieced) (piece : Pieced) → left ≡ rest ++ piece ∷ [] → times i (numbers_of left) ≡ times i (numbers_of rest) + one_time i piece.number
+times-taken : (i : ℕ) (left rest : List Pieced) (piece : Pieced) →
+    left ≡ rest ++ piece ∷ [] → times i (numbers_of left) ≡ times i (numbers_of rest) + one_time i piece.number
 times-taken i left rest piece is =
-    ap (λ (l : List Pieced). times i (numbers_of l)) is ∙ ap (times i) (map-append (λ (p : Pieced). p.number) rest (piece ∷ [])) ∙
+    ap (λ (l : List Pieced). times i (numbers_of l)) is
+    ∙ ap (times i) (map-append (λ (p : Pieced). p.number) rest (piece ∷ [])) ∙
     sum_by_push (one_time i) (numbers_of rest) piece.number
 
 pub times-none : (i : ℕ) (pieces : List Pieced) → length pieces ≡ 0 → times i (numbers_of pieces) ≡ 0
@@ -53,9 +63,11 @@ no_time : (i n : ℕ) → (n ≡ i → ⊥) → one_time i n ≡ 0
 no_time i n other = let zero_or_one : Bool → ℕ = λ b. if b then 1 else 0 in ap zero_or_one (ne_eqb n i other)
 
 -- of pieces that are left or placed one is placed more
-pub one_placed : (work : Work) (parts : List (Vec Segment Global)) (left rest : List Pieced) (piece : Pieced) (part : Vec Segment Global) (n i : ℕ) →
+pub one_placed : (work : Work) (parts : List (Vec Segment Global))
+    (left rest : List Pieced) (piece : Pieced) (part : Vec Segment Global) (n i : ℕ) →
     left ≡ rest ++ piece ∷ [] → n ≡ piece.number → n < length parts → IsPart work n part.items →
-    (0 < times i (numbers_of left)) ⊎ IsPlaced work parts i → (0 < times i (numbers_of rest)) ⊎ IsPlaced work (set parts n part) i
+    (0 < times i (numbers_of left))
+    ⊎ IsPlaced work parts i → (0 < times i (numbers_of rest)) ⊎ IsPlaced work (set parts n part) i
 one_placed work parts left rest piece part n i taken number inside is so_far = elim so_far [
   | inr before ↦ inr (IsPlaced-kept work parts n i part inside is before)
   | inl waits ↦ elim (cases_eq piece.number i) [
@@ -71,7 +83,8 @@ pub record IsDone (work : Work) (origin : Origin) (seat : Drawn) (pieces : List 
   pub drawn : numbers_of pieces ≡ seat.drawn
   pub same : All (λ piece. piece.of ≡ work) pieces
 
-pub IsDone-from_worked : (work : Work) (origin : Origin) (worked : Worked) (pieces : Vec Pieced Global) → worked.pieces ≡ Ok pieces → IsWorked work origin worked →
+pub IsDone-from_worked : (work : Work) (origin : Origin) (worked : Worked) (pieces : Vec Pieced Global) →
+    worked.pieces ≡ Ok pieces → IsWorked work origin worked →
     IsDone work origin worked.seat pieces.items
 IsDone-from_worked work origin worked pieces is left = record {
   own = left.own;
@@ -81,9 +94,12 @@ IsDone-from_worked work origin worked pieces is left = record {
 }
 
 -- with one seat more, the pieces of all numbers drawn are placed
-pub one_done : (work : Work) (origin : Origin) (before after : List (Vec Segment Global)) (seats : List Drawn) (seat : Drawn) (pieces : List Pieced) → IsDone work origin seat pieces →
-    ((i : ℕ) → IsPlaced work before i → IsPlaced work after i) → ((i : ℕ) → 0 < times i (numbers_of pieces) → IsPlaced work after i) →
-    ((i : ℕ) → 0 < sum_by (λ s. times i s.drawn) seats → IsPlaced work before i) → (i : ℕ) → 0 < sum_by (λ s. times i s.drawn) (seats ++ seat ∷ []) → IsPlaced work after i
+pub one_done : (work : Work) (origin : Origin) (before after : List (Vec Segment Global))
+    (seats : List Drawn) (seat : Drawn) (pieces : List Pieced) → IsDone work origin seat pieces →
+    ((i : ℕ) → IsPlaced work before i → IsPlaced work after i) →
+    ((i : ℕ) → 0 < times i (numbers_of pieces) → IsPlaced work after i) →
+    ((i : ℕ) → 0 < sum_by (λ s. times i s.drawn) seats → IsPlaced work before i) →
+    (i : ℕ) → 0 < sum_by (λ s. times i s.drawn) (seats ++ seat ∷ []) → IsPlaced work after i
 one_done work origin before after seats seat pieces done kept placed put i some =
     let count = sum_by_push (λ (s : Drawn). times i s.drawn) seats seat in
     let own = ap (times i) done.drawn in
@@ -93,15 +109,19 @@ one_done work origin before after seats seat pieces done kept placed put i some 
     ]
 
 -- a seat more that has ended
-pub ended_count-push : (seats : List Drawn) (seat : Drawn) → seat.ended ≡ true → ended_count (seats ++ seat ∷ []) ≡ ended_count seats + 1
+pub ended_count-push : (seats : List Drawn) (seat : Drawn) →
+    seat.ended ≡ true → ended_count (seats ++ seat ∷ []) ≡ ended_count seats + 1
 ended_count-push seats seat ended =
     let zero_or_one : Bool → ℕ = λ b. if b then 1 else 0 in
     omega (arith, sum_by_push (λ (s : Drawn). zero_or_one s.ended) seats seat, ap zero_or_one ended)
 
 -- once all seats have ended, each number was drawn, and so each piece is placed
-pub all_placed : (work : Work) (parts : List (Vec Segment Global)) (seats : List Drawn) (word pieces : ℕ) → 0 < length seats → pieces ≡ length work.cuts.now + 1 →
-    length parts ≡ length work.cuts.now + 1 → ended_count seats ≡ length seats → ((x : ℕ) → sum_by (λ seat. times x seat.drawn) seats ≡ once_below x (min word pieces)) →
-    word ≡ min word pieces + ended_count seats → ((i : ℕ) → 0 < sum_by (λ seat. times i seat.drawn) seats → IsPlaced work parts i) → ArePlaced work parts
+pub all_placed : (work : Work) (parts : List (Vec Segment Global)) (seats : List Drawn) (word pieces : ℕ) →
+    0 < length seats → pieces ≡ length work.cuts.now + 1 →
+    length parts ≡ length work.cuts.now + 1 → ended_count seats ≡ length seats →
+    ((x : ℕ) → sum_by (λ seat. times x seat.drawn) seats ≡ once_below x (min word pieces)) →
+    word ≡ min word pieces + ended_count seats →
+    ((i : ℕ) → 0 < sum_by (λ seat. times i seat.drawn) seats → IsPlaced work parts i) → ArePlaced work parts
 all_placed work parts seats word pieces some all count ended once closed put = record {
   count = count;
   each = λ i inside.

@@ -12,7 +12,8 @@ edge_of m cuts i = slice_index (0 ∷ cuts ++ m ∷ []) i
 -- the segments of piece i by itself
 abbrev pub IsPart : Work → ℕ → List Segment → Type 0
 IsPart work i segments =
-    IsSegmentation (points_in work.points) work.eps (edge_of (length work.points.xs.now) work.cuts.now i) (edge_of (length work.points.xs.now) work.cuts.now (i + 1)) segments
+    IsSegmentation (points_in work.points) work.eps (edge_of (length work.points.xs.now) work.cuts.now i)
+    (edge_of (length work.points.xs.now) work.cuts.now (i + 1)) segments
 
 -- a piece: of which work, its number, and its segments
 pub record Pieced : Type 0 where

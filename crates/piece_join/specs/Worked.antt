@@ -11,7 +11,8 @@ use Rattle.piece_join.specs.Pieces.{Pieced, IsPart}
 abbrev pub numbers_of : List Pieced → List ℕ
 numbers_of pieces = map (λ piece. piece.number) pieces
 
--- a worker's seat of these claims and, unless memory ran out, the pieces of all numbers that it drew, up to the first None
+-- a worker's seat of these claims and, unless memory ran out,
+-- the pieces of all numbers that it drew, up to the first None
 pub record IsWorked (work : Work) (origin : Origin) (worked : Worked) : Type 0 where
   pub own : worked.seat.origin ≡ origin
   pub ended : IfOk worked.pieces (λ pieces. worked.seat.ended ≡ true)

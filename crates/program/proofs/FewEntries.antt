@@ -1,8 +1,11 @@
 -- A script is too short to fill the greatest map.
 --
--- Main results: updates have at most two entries each (`few_entries`), since a sweep has one for each key that it takes away,
+-- Main results: updates have at most two entries each (`few_entries`),
+-- since a sweep has one for each key that it takes away,
 -- and each of those was put before; and a script has no more lines than its text has bytes (`few_lines`).
-use Rattle.std.proofs.Common.{◌≡◌, ℕ, ◌+◌, ◌*◌, ◌-◌, ◌≤◌, ◌==◌, Bool, true, false, not, cond, List, [], ◌∷◌, length, map, Option, Some, None, Ok, refl, sym, ap, subst, arith, nat_cmp, Less, Equal, Greater, length-append}
+use Rattle.std.proofs.Common.{◌≡◌, ℕ, ◌+◌, ◌*◌, ◌-◌, ◌≤◌, ◌==◌, Bool, true, false, not, cond}
+use Rattle.std.proofs.Common.{List, [], ◌∷◌, length, map, Option, Some, None, Ok, refl, sym}
+use Rattle.std.proofs.Common.{ap, subst, arith, nat_cmp, Less, Equal, Greater, length-append}
 use Rattle.std.proofs.lemmas.List.{length-map}
 use Rattle.std.proofs.lemmas.List.Filters.{length-filter_both}
 use Rattle.std.specs.List.{cons_option, filter_map, fold}
@@ -31,7 +34,8 @@ insert_more [] key value = omega arith
 insert_more (pair ∷ pairs) key value = by (nat_cmp key pair.0) (insert_more pairs key value)
   where
     by : (order : Ordering) → length (insert_entry nat_cmp pairs key value) ≤ length pairs + 1 →
-        length (match_ordering order ((key, value) ∷ pair ∷ pairs) ((pair.0, value) ∷ pairs) (pair ∷ insert_entry nat_cmp pairs key value))
+        length (match_ordering order
+        ((key, value) ∷ pair ∷ pairs) ((pair.0, value) ∷ pairs) (pair ∷ insert_entry nat_cmp pairs key value))
         ≤ length (pair ∷ pairs) + 1
     by Less few = omega arith
     by Equal few = omega arith
@@ -42,7 +46,8 @@ remove_less : (test : ℕ → Bool) (pairs : List (ℕ × ℕ)) → length (remo
 remove_less test [] = omega arith
 remove_less test (pair ∷ pairs) = by (test pair.0) (remove_less test pairs)
   where
-    by : (b : Bool) → length (remove_entry test pairs) ≤ length pairs → length (cond b pairs (pair ∷ remove_entry test pairs)) ≤ length (pair ∷ pairs)
+    by : (b : Bool) → length (remove_entry test pairs) ≤ length pairs →
+        length (cond b pairs (pair ∷ remove_entry test pairs)) ≤ length (pair ∷ pairs)
     by true few = omega arith
     by false few = omega arith
 
@@ -50,12 +55,14 @@ remove_less test (pair ∷ pairs) = by (test pair.0) (remove_less test pairs)
 swept_away : (pairs : List (ℕ × ℕ)) (low high : ℕ) →
     length (map del_entry (keys_between pairs low high)) + length (updated pairs (Sweep low high)) ≡ length pairs
 swept_away pairs low high =
-    let both = length-filter_both (λ (pair : ℕ × ℕ). is_between low high pair.0) (λ (pair : ℕ × ℕ). not (is_between low high pair.0)) (λ pair. refl) pairs in
+    let both = length-filter_both (λ (pair : ℕ × ℕ). is_between low high pair.0)
+    (λ (pair : ℕ × ℕ). not (is_between low high pair.0)) (λ pair. refl) pairs in
     let keys = length-map (pairs_between pairs low high) (λ (pair : ℕ × ℕ). pair.0) in
     let entries = length-map (keys_between pairs low high) del_entry in
     omega (arith, both, keys, entries)
 
-one_update : (pairs : List (ℕ × ℕ)) (update : Update) → length (entries_for pairs update) + length (updated pairs update) ≤ length pairs + 2
+one_update : (pairs : List (ℕ × ℕ)) (update : Update) →
+    length (entries_for pairs update) + length (updated pairs update) ≤ length pairs + 2
 one_update pairs (Put key value) = omega (arith, insert_more pairs key value)
 one_update pairs (Del key) = omega (arith, remove_less (is_at (nat_cmp key)) pairs)
 one_update pairs (Sweep low high) = omega (arith, swept_away pairs low high)
@@ -75,7 +82,8 @@ pub few_entries : (updates : List Update) → length (entries_of updates) ≤ 2 
 few_entries updates = omega (arith, entries_and_pairs [] updates)
 
 -- updates no more than a script's bytes have room in a map of as many levels as there can be
-pub room_for_all : (held : Held) (updates : List Update) → length held.levels ≡ MAX_LEVELS → length updates ≤ SCRIPT_LIMIT →
+pub room_for_all : (held : Held) (updates : List Update) →
+    length held.levels ≡ MAX_LEVELS → length updates ≤ SCRIPT_LIMIT →
     length (entries_of updates) ≤ capacity_of held
 room_for_all held updates levels few =
     subst (λ (n : ℕ). length (entries_of updates) ≤ capacity_with n) (sym levels) (omega (arith, few_entries updates))
@@ -86,7 +94,8 @@ filtered_less : {X Y : Type 0} (h : X → Option Y) (xs : List X) → length (fi
 filtered_less h [] = omega arith
 filtered_less {X} {Y} h (x ∷ xs) = by (h x) (filtered_less h xs)
   where
-    by : (o : Option Y) → length (filter_map h xs) ≤ length xs → length (cons_option o (filter_map h xs)) ≤ length (x ∷ xs)
+    by : (o : Option Y) →
+        length (filter_map h xs) ≤ length xs → length (cons_option o (filter_map h xs)) ≤ length (x ∷ xs)
     by None few = omega arith
     by (Some y) few = omega arith
 
@@ -103,11 +112,13 @@ cut_less : (text : List ℕ) → length (lines_of text) ≤ length text
 cut_less [] = omega arith
 cut_less (byte ∷ bytes) = by (byte == 10) (cut_less bytes)
   where
-    by : (b : Bool) → length (lines_of bytes) ≤ length bytes → length (cond b ([] ∷ lines_of bytes) (put_first byte (lines_of bytes))) ≤ length (byte ∷ bytes)
+    by : (b : Bool) → length (lines_of bytes) ≤ length bytes →
+        length (cond b ([] ∷ lines_of bytes) (put_first byte (lines_of bytes))) ≤ length (byte ∷ bytes)
     by true few = omega arith
     by false few = omega (arith, put_first_more byte (lines_of bytes))
 
-pub few_lines : (kind : ScriptKind) (text : List ℕ) (lines : List ScriptLine) → ReadsAs kind text (Ok lines) → length lines ≤ length text
+pub few_lines : (kind : ScriptKind) (text : List ℕ) (lines : List ScriptLine) →
+    ReadsAs kind text (Ok lines) → length lines ≤ length text
 few_lines kind text lines reads =
     let made = ap (λ (l : List ScriptLine). length l) reads.1 in
     let less = filtered_less (λ line. script_line (line_reading kind line)) (lines_of text) in

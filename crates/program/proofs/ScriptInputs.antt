@@ -1,7 +1,8 @@
 -- The script of a file as an input.
 --
 -- Main result: told files define one reading of it (`script_one`), since any text has one reading as a script.
-use Rattle.std.proofs.Common.{◌≡◌, ◌⊎◌, inl, inr, ℕ, ◌<◌, ◌≤◌, List, length, Option, None, Some, Result, Ok, Err, refl, sym, ap, subst, ◌∙◌, arith}
+use Rattle.std.proofs.Common.{◌≡◌, ◌⊎◌, inl, inr, ℕ, ◌<◌, ◌≤◌, List, length, Option, None}
+use Rattle.std.proofs.Common.{Some, Result, Ok, Err, refl, sym, ap, subst, ◌∙◌, arith}
 use Rattle.pgm_script.specs.declared.fault.ScriptFault.{ScriptFault}
 use Rattle.pgm_script.specs.declared.fault.ScriptFault.TheVariants as script
 use Rattle.pgm_script.specs.declared.script.ScriptKind.{ScriptKind}
@@ -23,7 +24,8 @@ module _ (kind : ScriptKind) (contents : List ℕ → Option (List ℕ)) (name :
   Tells bytes (Err refusal) = ⊥
 
   abbrev Rests : Result (List ScriptLine) Refusal → Type 0
-  Rests reading = ((contents name ≡ None) × (reading ≡ Err ReadFault)) ⊎ ((bytes : List ℕ) × (contents name ≡ Some bytes) × Tells bytes reading)
+  Rests reading = ((contents name ≡ None) × (reading ≡ Err ReadFault))
+      ⊎ ((bytes : List ℕ) × (contents name ≡ Some bytes) × Tells bytes reading)
 
   rests : (reading : Result (List ScriptLine) Refusal) → reads_script kind (Some contents) name reading → Rests reading
   rests (Ok lines) (each, holds) = inr (holds.0, holds.1, holds.2)
@@ -34,17 +36,22 @@ module _ (kind : ScriptKind) (contents : List ℕ → Option (List ℕ)) (name :
   rests (Err (Script line why)) holds = inr (holds.0, holds.1, holds.2)
   rests (Err refusal) wrong = absurd wrong
 
-  same_reading : (bytes : List ℕ) (one two : Result (List ScriptLine) ScriptFault) → ReadsAs kind bytes one → ReadsAs kind bytes two → one ≡ two
+  same_reading : (bytes : List ℕ) (one two : Result (List ScriptLine) ScriptFault) →
+      ReadsAs kind bytes one → ReadsAs kind bytes two → one ≡ two
   same_reading bytes one two is same = let only = (has-one-reading kind bytes).only in only one is ∙ sym (only two same)
 
-  tells_one : (bytes : List ℕ) (one two : Result (List ScriptLine) Refusal) → Tells bytes one → Tells bytes two → one ≡ two
+  tells_one : (bytes : List ℕ) (one two : Result (List ScriptLine) Refusal) →
+      Tells bytes one → Tells bytes two → one ≡ two
   tells_one bytes (Ok lines) (Ok others) is same = ap Ok (cc (same_reading bytes (Ok lines) (Ok others) is.1 same.1))
-  tells_one bytes (Ok lines) (Err (Script line why)) is same = absurd (cc (same_reading bytes (Ok lines) (Err (script.At line why)) is.1 same.1))
+  tells_one bytes (Ok lines) (Err (Script line why)) is same =
+      absurd (cc (same_reading bytes (Ok lines) (Err (script.At line why)) is.1 same.1))
   tells_one bytes (Ok lines) (Err TooLong) is same = absurd (omega (arith, is.0, same))
   tells_one bytes (Ok lines) (Err refusal) is same = absurd same
-  tells_one bytes (Err (Script line why)) (Ok lines) is same = absurd (cc (same_reading bytes (Err (script.At line why)) (Ok lines) is.1 same.1))
+  tells_one bytes (Err (Script line why)) (Ok lines) is same =
+      absurd (cc (same_reading bytes (Err (script.At line why)) (Ok lines) is.1 same.1))
   tells_one bytes (Err (Script line why)) (Err (Script other reason)) is same =
-      let one : Err (script.At line why) ≡ Err (script.At other reason) = same_reading bytes (Err (script.At line why)) (Err (script.At other reason)) is.1 same.1 in
+      let one : Err (script.At line why) ≡ Err (script.At other reason) =
+      same_reading bytes (Err (script.At line why)) (Err (script.At other reason)) is.1 same.1 in
       cc
   tells_one bytes (Err (Script line why)) (Err TooLong) is same = absurd (omega (arith, is.0, same))
   tells_one bytes (Err (Script line why)) (Err refusal) is same = absurd same

@@ -13,13 +13,17 @@ use Rattle.program.specs.Inputs.{updates_in}
 abbrev IsNoSweep : Update → Type 0
 IsNoSweep update = is_plain update ≡ true
 
-plain_more : (line : ScriptLine) (lines : List ScriptLine) → IsLineOf ScriptKind.Mix line → All IsNoSweep (updates_in lines) → All IsNoSweep (updates_in (line ∷ lines))
-plain_more (ScriptLine.Put key value) lines is plain = All-cons IsNoSweep (Update.Put key value) (updates_in lines) refl plain
+plain_more : (line : ScriptLine) (lines : List ScriptLine) →
+    IsLineOf ScriptKind.Mix line → All IsNoSweep (updates_in lines) → All IsNoSweep (updates_in (line ∷ lines))
+plain_more (ScriptLine.Put key value) lines is plain =
+    All-cons IsNoSweep (Update.Put key value) (updates_in lines) refl plain
 plain_more (ScriptLine.Del key) lines is plain = All-cons IsNoSweep (Update.Del key) (updates_in lines) refl plain
 plain_more (ScriptLine.Sweep low high) lines is plain = absurd is
 plain_more line lines is plain = plain
 
-pub plain_updates : (lines : List ScriptLine) → All (IsLineOf ScriptKind.Mix) lines → All (λ update. is_plain update ≡ true) (updates_in lines)
+pub plain_updates : (lines : List ScriptLine) →
+    All (IsLineOf ScriptKind.Mix) lines → All (λ update. is_plain update ≡ true) (updates_in lines)
 plain_updates [] each = All-nil IsNoSweep
 plain_updates (line ∷ lines) each =
-    plain_more line lines (All-head (IsLineOf ScriptKind.Mix) line lines each) (plain_updates lines (All-tail (IsLineOf ScriptKind.Mix) line lines each))
+    plain_more line lines (All-head (IsLineOf ScriptKind.Mix) line lines each)
+    (plain_updates lines (All-tail (IsLineOf ScriptKind.Mix) line lines each))

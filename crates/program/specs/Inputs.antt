@@ -1,5 +1,6 @@
 -- What the files define for a request: its task, or the refusal that the first bad input gives.
-use Rattle.std.specs.Prelude.{◌≡◌, ◌⊎◌, ℕ, ◌<◌, ◌≤◌, Bool, not, List, length, filter_map, All, Option, Result, Ok, Err, None, Some, ⊤}
+use Rattle.std.specs.Prelude.{◌≡◌, ◌⊎◌, ℕ, ◌<◌, ◌≤◌, Bool, not, List, length}
+use Rattle.std.specs.Prelude.{filter_map, All, Option, Result, Ok, Err, None, Some, ⊤}
 use Rattle.sosd_reader.specs.declared.fault.KeyFault.{KeyFault}
 use Rattle.sosd_reader.specs.FileFaults.{ReadsAsFile}
 use Rattle.sosd_reader.specs.KeyFiles.{key_width}
@@ -14,7 +15,8 @@ use Rattle.log_levels.specs.declared.update.Update.{Update}
 use Rattle.log_levels.specs.Accepted.{entries_of}
 use Rattle.log_levels.specs.Shapes.{capacity_with}
 use Rattle.command_line.specs.Requests.{Building, Drilling, Replaying, Request}
-use Rattle.command_line.specs.Requests.Request.{build, explain, query, relax, box, near, replay, drill, save, check, mix}
+use Rattle.command_line.specs.Requests.Request.{build, explain, query, relax, box}
+use Rattle.command_line.specs.Requests.Request.{near, replay, drill, save, check, mix}
 use Rattle.program.specs.declared.refusal.Refusal.{Refusal}
 use Rattle.program.specs.declared.refusal.Refusal.TheVariants.{ReadFault, TooLong, Script, Full, IndexWrong}
 use Rattle.program.specs.declared.inputs.TheConstants.{SCRIPT_LIMIT}
@@ -35,9 +37,11 @@ Reading A = Result A Refusal → Type 0
 
 -- the numbers of the file of this name, or why it has none: it isn't there, or its bytes have a fault
 abbrev pub reads_numbers : Kind → Files → List ℕ → Reading (List ℕ)
-reads_numbers asked files name (Ok numbers) = IsReadable asked numbers × HoldsOfFile files name (λ bytes. ReadsAsFile asked bytes (Ok numbers))
+reads_numbers asked files name (Ok numbers) =
+    IsReadable asked numbers × HoldsOfFile files name (λ bytes. ReadsAsFile asked bytes (Ok numbers))
 reads_numbers asked files name (Err ReadFault) = IsMissing files name
-reads_numbers asked files name (Err refusal) = (fault : KeyFault) × (refusal_of fault ≡ Some refusal) × IsFaultOf asked fault
+reads_numbers asked files name (Err refusal) =
+    (fault : KeyFault) × (refusal_of fault ≡ Some refusal) × IsFaultOf asked fault
     × HoldsOfFile files name (λ bytes. ReadsAsFile asked bytes (Err fault))
 
 -- the keys of a key file, and the coordinates of a point file
@@ -47,7 +51,8 @@ reads_keys wide = reads_numbers (of_keys (key_width wide))
 abbrev pub reads_points : ℕ → Files → List ℕ → Reading (List ℕ)
 reads_points d = reads_numbers (of_points d)
 
--- the script of the file of this name, or why it has none: it isn't there, it is too long, or a line has something wrong with it
+-- the script of the file of this name, or why it has none: it isn't
+-- there, it is too long, or a line has something wrong with it
 abbrev pub reads_script : ScriptKind → Files → List ℕ → Reading (List ScriptLine)
 reads_script asked files name (Ok lines) = All (IsLineOf asked) lines
     × HoldsOfFile files name (λ bytes. (length bytes ≤ SCRIPT_LIMIT) × ReadsScript asked bytes (Ok lines))
@@ -131,11 +136,13 @@ reads_mixing replaying senders lines = reads_within (length (updates_in lines)) 
 abbrev pub reads_saved : Files → List ℕ → Reading SavedIndex
 reads_saved files name (Ok saved) = HoldsOfFile files name (IsSpelling saved)
 reads_saved files name (Err ReadFault) = IsMissing files name
-reads_saved files name (Err refusal) = (fault : IndexFault) × (refusal_of_index fault ≡ Some refusal) × HoldsOfFile files name (λ bytes. FailsAs bytes fault)
+reads_saved files name (Err refusal) = (fault : IndexFault)
+    × (refusal_of_index fault ≡ Some refusal) × HoldsOfFile files name (λ bytes. FailsAs bytes fault)
 
 -- what is told of a saved index that is the one index of the keys, or the lowest level that isn't that index's
 abbrev pub judges : List ℕ → SavedIndex → Reading tasks.Task
-judges keys saved (Ok task) = IsRightIndex keys saved × (task ≡ tasks.Task.check (length saved.levels) (run_count saved))
+judges keys saved (Ok task) =
+    IsRightIndex keys saved × (task ≡ tasks.Task.check (length saved.levels) (run_count saved))
 judges keys saved (Err (IndexWrong level)) = IsWrongIndex keys saved level
 judges keys saved (Err refusal) = ⊥
 
@@ -157,12 +164,15 @@ bounds_in building = record { eps = building.eps; eps_rec = building.eps_rec }
 
 -- the drill of a number and a seed
 abbrev pub drill_of : Drilling → tasks.Task
-drill_of drilling = tasks.Task.drill drilling.number drilling.seed (record { eps = drilling.eps; eps_rec = drilling.eps_rec })
+drill_of drilling =
+    tasks.Task.drill drilling.number drilling.seed (record { eps = drilling.eps; eps_rec = drilling.eps_rec })
 
 -- the inputs of each request, in turn
 abbrev pub reads : Files → Request → Reading tasks.Task
-reads files (build building) = then (reads_index files building) (λ keys. gives (tasks.Task.build keys (bounds_in building)))
-reads files (explain building) = then (reads_index files building) (λ keys. gives (tasks.Task.explain keys (bounds_in building)))
+reads files (build building) =
+    then (reads_index files building) (λ keys. gives (tasks.Task.build keys (bounds_in building)))
+reads files (explain building) =
+    then (reads_index files building) (λ keys. gives (tasks.Task.explain keys (bounds_in building)))
 reads files (query building name windows bits) = then (reads_index files building) (λ keys.
     then (reads_script ScriptKind.Find files name) (λ lines.
     gives (tasks.Task.query keys (bounds_in building) (questions_in lines) windows bits)))
@@ -176,13 +186,16 @@ reads files (near searching) = then (reads_points searching.dims files searching
     then (reads_script (ScriptKind.Near searching.dims) files searching.script) (λ lines.
     gives (tasks.Task.near searching.dims coords (centres_in lines))))
 reads files (replay replaying) = then (reads_script ScriptKind.Replay files replaying.script) (reads_history replaying)
-reads files (mix replaying senders) = then (reads_script ScriptKind.Mix files replaying.script) (reads_mixing replaying senders)
-reads files (Request.hints hinting) = then (reads_keys (not hinting.narrow) files hinting.file) (λ keys. gives (tasks.Task.hints keys hinting.eps))
+reads files (mix replaying senders) =
+    then (reads_script ScriptKind.Mix files replaying.script) (reads_mixing replaying senders)
+reads files (Request.hints hinting) =
+    then (reads_keys (not hinting.narrow) files hinting.file) (λ keys. gives (tasks.Task.hints keys hinting.eps))
 reads files (Request.find finding) = then (reads_keys (not finding.narrow) files finding.file) (λ keys.
     then (reads_hints files finding.hints) (λ _.
     then (reads_script ScriptKind.Find files finding.script) (λ lines.
     gives (tasks.Task.find keys (questions_in lines)))))
 reads files (drill drilling) = gives (drill_of drilling)
-reads files (save building) = then (reads_index files building) (λ keys. gives (tasks.Task.save keys (bounds_in building)))
+reads files (save building) =
+    then (reads_index files building) (λ keys. gives (tasks.Task.save keys (bounds_in building)))
 reads files (check checking) = then (reads_keys (not checking.narrow) files checking.file) (λ keys.
     then (reads_saved files checking.index) (λ saved. judges keys saved))

@@ -11,7 +11,9 @@ use Rattle.pgm_script.specs.declared.fault.ScriptFault.TheVariants as script
 use Rattle.pgm_script.specs.declared.fault.Why.{Why}
 use Rattle.pgm_script.specs.declared.fault.Why.TheVariants.{NotUtf8, Word, Number, Missing, Extra}
 use Rattle.program.specs.declared.refusal.Refusal.{Refusal}
-use Rattle.program.specs.declared.refusal.Refusal.TheVariants.{Usage, ReadFault, TooMany, Short, Unsorted, Trailing, Wide, TooLong, Script, Full, IndexShort, IndexMagic, IndexEpsilon, IndexSide, IndexTrailing, IndexWrong}
+use Rattle.program.specs.declared.refusal.Refusal.TheVariants.{Usage, ReadFault, TooMany, Short, Unsorted, Trailing}
+use Rattle.program.specs.declared.refusal.Refusal.TheVariants.{Wide, TooLong, Script, Full, IndexShort, IndexMagic}
+use Rattle.program.specs.declared.refusal.Refusal.TheVariants.{IndexEpsilon, IndexSide, IndexTrailing, IndexWrong}
 use Rattle.program.specs.declared.status.Status.{Status}
 use Rattle.program.specs.declared.status.Status.TheVariants as ends
 use Rattle.written.specs.TextLines.{text_line}
@@ -43,7 +45,8 @@ why_word Extra = codes "extra"
 abbrev pub refusal_line : Refusal → List ℕ
 refusal_line Usage = text_line (codes "fault" ∷ codes "usage" ∷ [])
 refusal_line ReadFault = text_line (codes "fault" ∷ codes "read" ∷ [])
-refusal_line (TooMany count) = text_line (codes "fault" ∷ codes "keys" ∷ codes "too" ∷ codes "many" ∷ decimal count ∷ [])
+refusal_line (TooMany count) =
+    text_line (codes "fault" ∷ codes "keys" ∷ codes "too" ∷ codes "many" ∷ decimal count ∷ [])
 refusal_line (Short got) = text_line (codes "fault" ∷ codes "keys" ∷ codes "short" ∷ decimal got ∷ [])
 refusal_line (Unsorted at before key) =
     text_line (codes "fault" ∷ codes "keys" ∷ codes "unsorted" ∷ decimal at ∷ decimal before ∷ decimal key ∷ [])
@@ -54,7 +57,8 @@ refusal_line (Full asked room) = text_line (codes "fault" ∷ codes "full" ∷ d
 refusal_line (IndexShort got) = text_line (codes "fault" ∷ codes "index" ∷ codes "short" ∷ decimal got ∷ [])
 refusal_line (IndexMagic at) = text_line (codes "fault" ∷ codes "index" ∷ codes "magic" ∷ decimal at ∷ [])
 refusal_line (IndexEpsilon value) = text_line (codes "fault" ∷ codes "index" ∷ codes "epsilon" ∷ decimal value ∷ [])
-refusal_line (IndexSide at byte) = text_line (codes "fault" ∷ codes "index" ∷ codes "side" ∷ decimal at ∷ decimal byte ∷ [])
+refusal_line (IndexSide at byte) =
+    text_line (codes "fault" ∷ codes "index" ∷ codes "side" ∷ decimal at ∷ decimal byte ∷ [])
 refusal_line (IndexTrailing byte) = text_line (codes "fault" ∷ codes "index" ∷ codes "trailing" ∷ decimal byte ∷ [])
 refusal_line (IndexWrong level) = text_line (codes "fault" ∷ codes "index" ∷ codes "wrong" ∷ decimal level ∷ [])
 refusal_line (Wide at value) = text_line (codes "fault" ∷ codes "keys" ∷ codes "wide" ∷ decimal at ∷ decimal value ∷ [])

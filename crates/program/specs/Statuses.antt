@@ -1,7 +1,8 @@
 -- The numbers that the program ends with.
 use Rattle.std.specs.Prelude.{ℕ}
 use Rattle.program.specs.declared.status.Status.{Status}
-use Rattle.program.specs.declared.status.Status.TheVariants.{Done, NoMemory, Usage, ReadFault, WriteFault, BadKeys, BadScript, Full, BadIndex}
+use Rattle.program.specs.declared.status.Status.TheVariants.{Done, NoMemory, Usage, ReadFault, WriteFault}
+use Rattle.program.specs.declared.status.Status.TheVariants.{BadKeys, BadScript, Full, BadIndex}
 
 abbrev pub number_of : Status → ℕ
 number_of Done = 0

@@ -36,7 +36,8 @@ IsStopped reading before after (Refused ReadFault) = HasRisen before after
 IsStopped reading before after (Refused refusal) = reading (Err refusal)
 
 -- the call answers what the files define, unless a call on them failed or memory ran out
-pub record Answers {A B : Type 0} (reading : Reading A) (value_of : B → A) (before after : ℕ) (result : Result B Stopped) : Type 0 where
+pub record Answers {A B : Type 0}
+    (reading : Reading A) (value_of : B → A) (before after : ℕ) (result : Result B Stopped) : Type 0 where
   pub ok : IfOk result (λ value. reading (Ok (value_of value)))
   pub unfaulted : OnOk result (after ≡ before)
   pub stopped : IfErr result (IsStopped reading before after)

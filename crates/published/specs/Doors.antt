@@ -17,7 +17,8 @@ shut_of door = record { failing = door.failing.items; calls = door.calls; behind
 abbrev pub new_shut : List ℕ → Shut
 new_shut failing = record { failing = failing; calls = 0; behind = 0 }
 
--- one call: it is counted; where it is one of those to be refused it is, before the plain door; and any other only where the plain door refused
+-- one call: it is counted; where it is one of those to be refused it is,
+-- before the plain door; and any other only where the plain door refused
 pub record RefusesWhere (old : Shut) (result : Result Front Front) (new : Shut) : Type 0 where
   pub failing : new.failing ≡ old.failing
   pub counted : new.calls ≡ min (old.calls + 1) 18446744073709551615

@@ -32,7 +32,8 @@ abbrev pub published : List (List Update) → List Update → List (List Update)
 published history [] = history
 published history (update ∷ updates) = history ++ (update ∷ updates) ∷ []
 
--- a look of a reader: what is shown begins with what the reader saw, of the same history; or the reader comes back as it was
+-- a look of a reader: what is shown begins with what the reader
+-- saw, of the same history; or the reader comes back as it was
 pub record IsLookOf (reader : Front) (result : Result Front Front) : Type 0 where
   pub shown : IfOk result (λ look. IsPrefix reader.batches look.batches)
   pub own : IfOk result (λ look. look.origin ≡ reader.origin)

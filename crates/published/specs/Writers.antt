@@ -24,7 +24,8 @@ count_in writer = length (entries_of (updates_in writer))
 
 -- a writer refuses these updates where the entries would be more than the map can accept
 abbrev pub Refuses : {X : Type 0} → Written → List Update → Result X MapFault → Type 0
-Refuses writer updates result = RefusesTooMany (λ before. before ≡ updates_in writer) (count_in writer) writer.capacity updates result
+Refuses writer updates result =
+    RefusesTooMany (λ before. before ≡ updates_in writer) (count_in writer) writer.capacity updates result
 
 -- the writer of the same history, whose map can accept as many entries
 pub record IsSameMap (old new : Written) : Type 0 where

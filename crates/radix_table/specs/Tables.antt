@@ -9,7 +9,8 @@ use Rattle.radix_table.specs.declared.scale.Scale.{Scale}
 abbrev pub places_of : ℕ → ℕ
 places_of d = 64 - count_leading_zeros 64 d
 
--- how many of a distance's lowest binary places are dropped: so many that no more than `kept` are left, and at least `shift`
+-- how many of a distance's lowest binary places are dropped: so
+-- many that no more than `kept` are left, and at least `shift`
 abbrev pub dropped_of : ℕ → ℕ → ℕ → ℕ
 dropped_of shift kept d = max shift (places_of d - kept)
 
@@ -19,7 +20,8 @@ step_with shift kept d dropped = (dropped - shift) * 2 ^ (kept - 1) + d / 2 ^ dr
 
 -- the step of x: by its distance from the first number
 abbrev pub step_of : Scale → ℕ → ℕ
-step_of scale x = step_with scale.shift scale.kept (x - scale.first) (dropped_of scale.shift scale.kept (x - scale.first))
+step_of scale x =
+    step_with scale.shift scale.kept (x - scale.first) (dropped_of scale.shift scale.kept (x - scale.first))
 
 -- a scale that numbers of 64 bits can be cut by
 pub record IsScale (scale : Scale) : Type 0 where
@@ -52,7 +54,8 @@ HasAtMost most entries = (h : ℕ) → h + 1 < length entries → slice_index en
 pub record IsTableOf (xs : List ℕ) (most : ℕ) (table : RadixEntries) : Type 0 where
   pub scale : IsScale table.scale
   pub counts : AreCounts (step_of table.scale) xs table.entries
-  pub narrow : (h : ℕ) → h + 1 < length table.entries → 2 * (slice_index table.entries (h + 1) - slice_index table.entries h + 1) ≤ most
+  pub narrow : (h : ℕ) →
+      h + 1 < length table.entries → 2 * (slice_index table.entries (h + 1) - slice_index table.entries h + 1) ≤ most
 
 -- at least `low` and at most `high` of the numbers are at most q, those in front
 pub record IsBetween (xs : List ℕ) (q low high : ℕ) : Type 0 where

@@ -17,18 +17,22 @@ use Rattle.hulls.proofs.FlattestLine.{MeanRises-from_lines}
 use Rattle.hulls.specs.declared.fitting.Hulls.{Hulls}
 use Rattle.hulls.specs.Hulls.{StandsFor, IsNext}
 
-pub IsNext-place : (hulls : Hulls) (points : PointList) (eps s e : ℕ) → StandsFor hulls (points_in points) eps s e → e < length points.xs.now →
+pub IsNext-place : (hulls : Hulls) (points : PointList) (eps s e : ℕ) →
+    StandsFor hulls (points_in points) eps s e → e < length points.xs.now →
     IsNext hulls (points_in points) eps s e (slice_index points.xs.now e) (slice_index points.ys.now e)
 IsNext-place hulls points eps s e stands inside = record { stands = stands; more = inside; at_x = refl; at_y = refl }
 
 -- a run that ends at the range's end, or before a place that no line goes on to
 pub IsLongest-whole : (hulls : Hulls) (p : Points) (eps to s : ℕ) → StandsFor hulls p eps s to → IsLongest p eps to s to
-IsLongest-whole hulls p eps to s stands = record { fits = stands.fits; no_longer = λ more. absurd (omega (arith, more)) }
+IsLongest-whole hulls p eps to s stands =
+    record { fits = stands.fits; no_longer = λ more. absurd (omega (arith, more)) }
 
-pub IsLongest-cut : (hulls : Hulls) (p : Points) (eps to s e : ℕ) → StandsFor hulls p eps s e → (SomeLineFits p eps s (e + 1) → ⊥) → IsLongest p eps to s e
+pub IsLongest-cut : (hulls : Hulls) (p : Points) (eps to s e : ℕ) →
+    StandsFor hulls p eps s e → (SomeLineFits p eps s (e + 1) → ⊥) → IsLongest p eps to s e
 IsLongest-cut hulls p eps to s e stands refused = record { fits = stands.fits; no_longer = λ more. refused }
 
-pub HasItsCut-cut : (p : Points) (eps to start e : ℕ) (w : Witness) (segment : Segment) → segment.start ≡ start → segment.cut ≡ Some w → e < to → IsCutOf p eps start e w → HasItsCut p eps to segment e
+pub HasItsCut-cut : (p : Points) (eps to start e : ℕ) (w : Witness) (segment : Segment) →
+    segment.start ≡ start → segment.cut ≡ Some w → e < to → IsCutOf p eps start e w → HasItsCut p eps to segment e
 HasItsCut-cut p eps to start e w segment starts cuts before own = record {
   last = λ at_end. absurd (omega arith);
   other = λ more. (w, cuts, subst (λ (s : ℕ). IsCutOf p eps s e w) (sym starts) own);

@@ -30,7 +30,8 @@ AreEven-two p i right upward = record {
   y = λ k low high. omega (arith, two_even p.y i k upward low high);
 }
   where
-    two_even : (at : ℕ → ℕ) (i k : ℕ) → at i ≤ at (i + 1) → i ≤ k → k ≤ i + 1 → at k ≡ at i + (k - i) * (at (i + 1) - at i)
+    two_even : (at : ℕ → ℕ) (i k : ℕ) →
+        at i ≤ at (i + 1) → i ≤ k → k ≤ i + 1 → at k ≡ at i + (k - i) * (at (i + 1) - at i)
     two_even at i k rises low high = elim (cases_lt i k) [
       | inl later ↦
           let same : k ≡ i + 1 = omega arith in
@@ -42,10 +43,13 @@ AreEven-two p i right upward = record {
           rw none (omega (arith, ap at same))
     ]
 
-pub IsInStretch-part : (hulls : Hulls) (p : Points) (eps s from end to : ℕ) → to ≤ end → IsInStretch hulls p eps s from end → IsInStretch hulls p eps s from to
-IsInStretch-part hulls p eps s from end to within is = record { stands = is.stands; several = is.several; even = AreEven-part p (from - 1) end to within is.even }
+pub IsInStretch-part : (hulls : Hulls) (p : Points) (eps s from end to : ℕ) →
+    to ≤ end → IsInStretch hulls p eps s from end → IsInStretch hulls p eps s from to
+IsInStretch-part hulls p eps s from end to within is =
+    record { stands = is.stands; several = is.several; even = AreEven-part p (from - 1) end to within is.even }
 
-pub IsAhead-in_stretch : (hulls : Hulls) (points : PointList) (eps s from end m : ℕ) → from < m → m ≤ end → end < length points.xs.now → IsInStretch hulls (points_in points) eps s from end →
+pub IsAhead-in_stretch : (hulls : Hulls) (points : PointList) (eps s from end m : ℕ) →
+    from < m → m ≤ end → end < length points.xs.now → IsInStretch hulls (points_in points) eps s from end →
     IsAhead hulls (points_in points) eps s (from + 1) m (slice_index points.xs.now m) (slice_index points.ys.now m)
 IsAhead-in_stretch hulls points eps s from end m beyond within inside is =
     let before : from - 1 ≡ from + 1 - 2 = omega arith in
@@ -53,30 +57,39 @@ IsAhead-in_stretch hulls points eps s from end m beyond within inside is =
     record {
       stands = is.stands;
       order = omega arith;
-      even = λ further. (omega arith, subst (λ (n : ℕ). AreEven (points_in points) n m) before (AreEven-part (points_in points) (from - 1) end m within is.even));
+      even = λ further. (
+        omega arith,
+        subst (λ (n : ℕ). AreEven (points_in points) n m) before
+            (AreEven-part (points_in points) (from - 1) end m within is.even),
+      );
       more = omega arith;
       at_x = refl;
       at_y = refl;
     }
 
 -- a run and its next place begin a stretch
-pub IsInStretch-begun : (hulls : Hulls) (p : Points) (eps s last end : ℕ) → s ≤ last → StandsFor hulls p eps s (last + 1 + 1) → AreEven p last end → IsInStretch hulls p eps s (last + 1) end
+pub IsInStretch-begun : (hulls : Hulls) (p : Points) (eps s last end : ℕ) →
+    s ≤ last → StandsFor hulls p eps s (last + 1 + 1) → AreEven p last end → IsInStretch hulls p eps s (last + 1) end
 IsInStretch-begun hulls p eps s last end some stands even =
     let before : last ≡ last + 1 - 1 = omega arith in
     record { stands = stands; several = omega arith; even = subst (λ (n : ℕ). AreEven p n end) before even }
 
 -- the same bound under another name
-pub IsInStretch-bound : (hulls : Hulls) (p : Points) (eps bound s from end : ℕ) → eps ≡ bound → IsInStretch hulls p eps s from end → IsInStretch hulls p bound s from end
+pub IsInStretch-bound : (hulls : Hulls) (p : Points) (eps bound s from end : ℕ) →
+    eps ≡ bound → IsInStretch hulls p eps s from end → IsInStretch hulls p bound s from end
 IsInStretch-bound hulls p eps bound s from end same is = subst (λ (n : ℕ). IsInStretch hulls p n s from end) same is
 
 -- of either answer
-pub MatchOffer-map : {P P' : Type 0} {Q Q' : Witness → Type 0} (offer : Offer) → (P → P') → ((w : Witness) → Q w → Q' w) → MatchOffer offer P Q → MatchOffer offer P' Q'
+pub MatchOffer-map : {P P' : Type 0} {Q Q' : Witness → Type 0} (offer : Offer) →
+    (P → P') → ((w : Witness) → Q w → Q' w) → MatchOffer offer P Q → MatchOffer offer P' Q'
 MatchOffer-map Extended f g h = f h
 MatchOffer-map (Cut w) f g h = g w h
 
-pub MatchOffer-either : (P : Type 0) (Q : Witness → Type 0) (offer : Offer) → P → ((w : Witness) → Q w) → MatchOffer offer P Q
+pub MatchOffer-either : (P : Type 0) (Q : Witness → Type 0) (offer : Offer) →
+    P → ((w : Witness) → Q w) → MatchOffer offer P Q
 MatchOffer-either P Q Extended p q = p
 MatchOffer-either P Q (Cut w) p q = q w
 
-pub MatchOffer-cut : (P : Type 0) (Q : Witness → Type 0) (offer : Offer) (w : Witness) → offer ≡ Cut w → MatchOffer offer P Q → Q w
+pub MatchOffer-cut : (P : Type 0) (Q : Witness → Type 0) (offer : Offer) (w : Witness) →
+    offer ≡ Cut w → MatchOffer offer P Q → Q w
 MatchOffer-cut P Q offer w is h = subst (λ (o : Offer). MatchOffer o P Q) is h

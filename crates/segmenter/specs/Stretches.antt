@@ -7,7 +7,8 @@ use Rattle.exact_cross.specs.Cuts.{IsCutOf}
 use Rattle.hulls.specs.declared.fitting.Hulls.{Hulls}
 use Rattle.hulls.specs.Hulls.{StandsFor, AreEven}
 
--- the hulls stand for the run from s to the place `from`, and this, the place before it and all on to `end` are at even steps
+-- the hulls stand for the run from s to the place `from`, and
+-- this, the place before it and all on to `end` are at even steps
 pub record IsInStretch (hulls : Hulls) (p : Points) (eps s from end : ℕ) : Type 0 where
   pub stands : StandsFor hulls p eps s (from + 1)
   pub several : s < from

@@ -22,7 +22,8 @@ height rise run x y = y * run + rise * (18446744073709551615 - x)
 abbrev pub height_of : Points → Extremes → ℕ → ℕ
 height_of p found j = height found.line.rise found.line.run (p.x j) (p.y j)
 
--- of the places s..e before `upto` the top place is the first of the highest and the bottom place the first of the lowest, unless these lie further on
+-- of the places s..e before `upto` the top place is the first of the highest
+-- and the bottom place the first of the lowest, unless these lie further on
 pub record AreExtremes (p : Points) (s e upto : ℕ) (found : Extremes) : Type 0 where
   pub top_from : s ≤ found.top
   pub top_to : found.top < e

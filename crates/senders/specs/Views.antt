@@ -1,5 +1,6 @@
 -- The rule of the queue, over the updates in it and what all passes know. No public clause cites it.
-use Rattle.std.specs.Prelude.{◌≡◌, ℕ, ◌+◌, ◌-◌, ◌<◌, ◌≤◌, Bool, true, false, List, [], ◌∷◌, ◌++◌, All, length, sum_by, Option}
+use Rattle.std.specs.Prelude.{◌≡◌, ℕ, ◌+◌, ◌-◌, ◌<◌, ◌≤◌, Bool, true, false}
+use Rattle.std.specs.Prelude.{List, [], ◌∷◌, ◌++◌, All, length, sum_by, Option}
 use mathlib.Core.Option.{some}
 use mathlib.Core.List.{IsPrefix}
 use lib.ListN.{get_elem?}
@@ -43,7 +44,8 @@ pub record Fits (core : Core) (items : List (ℕ × Update)) (pass : ℕ) (v : V
 abbrev pub sent_count : View → ℕ
 sent_count v = sum_by (λ hand. length hand.sent) v.hands
 
--- Each sender stands at one pass, and so does the inbox. All that was sent was taken or is queued, and of each sender in its order
+-- Each sender stands at one pass, and so does the inbox. All that
+-- was sent was taken or is queued, and of each sender in its order
 pub record IsInOrder (core : Core) (items : List (ℕ × Update)) (views : List View) : Type 0 where
   pub seated : core.made ≤ core.count
   pub few : core.count ≤ MAX_SENDERS
@@ -61,11 +63,13 @@ hand_of number sent = record { number = number; sent = sent }
 
 -- what a sender knows: how many senders there are at most, its number, and what it sent
 abbrev pub sending : ℕ → ℕ → List Update → View
-sending senders number sent = record { senders = senders; made = 0; hands = hand_of number sent ∷ []; takes = false; taken = []; waiting = [] }
+sending senders number sent =
+    record { senders = senders; made = 0; hands = hand_of number sent ∷ []; takes = false; taken = []; waiting = [] }
 
 -- what the inbox knows, with the senders that it stands for
 abbrev pub taking : ℕ → ℕ → List Hand → List (ℕ × Update) → List (ℕ × Update) → View
-taking senders made hands taken waiting = record { senders = senders; made = made; hands = hands; takes = true; taken = taken; waiting = waiting }
+taking senders made hands taken waiting =
+    record { senders = senders; made = made; hands = hands; takes = true; taken = taken; waiting = waiting }
 
 -- what is left of a pass that another took in
 abbrev pub spent : View

@@ -1,5 +1,6 @@
 -- Bytes below 256 are the bytes of the number that they spell, and a number's bytes spell it.
-use Rattle.std.proofs.Common.{◌≡◌, ℕ, zero, suc, ◌+◌, ◌*◌, ◌/◌, ◌%◌, ◌^◌, ◌<◌, ◌≤◌, List, [], ◌∷◌, length, take, get_or, refl, sym, ap, ◌∙◌, arith}
+use Rattle.std.proofs.Common.{◌≡◌, ℕ, zero, suc, ◌+◌, ◌*◌, ◌/◌, ◌%◌, ◌^◌, ◌<◌, ◌≤◌, List}
+use Rattle.std.proofs.Common.{[], ◌∷◌, length, take, get_or, refl, sym, ap, ◌∙◌, arith}
 use Rattle.std.proofs.Math.Nat.{div-div-eq-div-mul, div-one, pow-succ'}
 use Rattle.std.specs.Int.{byte_at, bytes_low_first}
 use Rattle.byteorder.specs.Endian.{little_from, little_bytes, little_number}
@@ -13,7 +14,8 @@ byte_at-pow (suc k) x = refl
 bytes-above : (i n x : ℕ) → bytes_low_first (suc i) n x ≡ bytes_low_first i n (x / 256)
 bytes-above i zero x = refl
 bytes-above i (suc n) x =
-    let shift : x / 256 ^ suc i ≡ x / 256 / 256 ^ i = ap (λ (p : ℕ). x / p) (pow-succ' 256 i) ∙ sym (div-div-eq-div-mul x 256 (256 ^ i)) in
+    let shift : x / 256 ^ suc i ≡ x / 256 / 256 ^ i = ap (λ (p : ℕ). x / p) (pow-succ' 256 i)
+    ∙ sym (div-div-eq-div-mul x 256 (256 ^ i)) in
     rw (byte_at-pow i (x / 256), bytes-above (suc i) n x, shift) refl
 
 lowest-of : (b y : ℕ) → b < 256 → (b + 256 * y) % 256 ≡ b

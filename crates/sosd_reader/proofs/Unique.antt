@@ -1,14 +1,17 @@
 -- The bytes have one reading.
-use Rattle.std.proofs.Common.{◌≡◌, ℕ, ◌+◌, ◌-◌, ◌*◌, ◌<◌, ◌≤◌, List, [], ◌++◌, length, sym, ap, ◌∙◌, subst, Result, Ok, Err, length-append, arith, ⊎_elim}
+use Rattle.std.proofs.Common.{◌≡◌, ℕ, ◌+◌, ◌-◌, ◌*◌, ◌<◌, ◌≤◌, List, [], ◌++◌, length, sym}
+use Rattle.std.proofs.Common.{ap, ◌∙◌, subst, Result, Ok, Err, length-append, arith, ⊎_elim}
 use Rattle.std.specs.List.{flat_map}
 use Rattle.std.proofs.lemmas.Bool.{cases_lt}
 use Rattle.std.proofs.lemmas.List.{append-nil, append_cancel_left, nil_from_length}
 use Rattle.byteorder.specs.Endian.{little_bytes}
 use Rattle.sosd_reader.specs.declared.fault.KeyFault.{KeyFault}
-use Rattle.sosd_reader.specs.declared.fault.KeyFault.TheVariants.{ReadFault, TooMany, Short, Unsorted, Trailing, Wide, NoMemory}
+use Rattle.sosd_reader.specs.declared.fault.KeyFault.TheVariants.{ReadFault, TooMany, Short}
+use Rattle.sosd_reader.specs.declared.fault.KeyFault.TheVariants.{Unsorted, Trailing, Wide, NoMemory}
 use Rattle.sosd_reader.specs.NumberFiles.{Kind, number_width, numbers_each, Follows, IsFileOf}
 use Rattle.sosd_reader.specs.NumberFiles.Kind.{of_keys}
-use Rattle.sosd_reader.specs.FileFaults.{numbers_said, number_in, NoneFails, HasCount, IsTooMany, IsFirstFailing, IsShort, IsTrailing, ReadsAsFile}
+use Rattle.sosd_reader.specs.FileFaults.{numbers_said, number_in, NoneFails, HasCount, IsTooMany}
+use Rattle.sosd_reader.specs.FileFaults.{IsFirstFailing, IsShort, IsTrailing, ReadsAsFile}
 use Rattle.sosd_reader.specs.KeyFileFaults.{ReadsAs}
 use Rattle.sosd_reader.proofs.KindLemmas.{follows-clash, not-both}
 use Rattle.sosd_reader.proofs.Fronts.{same_front}
@@ -24,18 +27,22 @@ module _ (kind : Kind) (bytes : List ℕ) where
   -- as many numbers as the count says
   pub said-is : (numbers : List ℕ) → IsFileOf kind numbers bytes → numbers_said kind bytes ≡ length numbers
   said-is numbers file =
-      ap (λ (n : ℕ). numbers_each kind * n) (count-is (number_width kind) file.count numbers [] bytes (file-begins kind numbers bytes file)) ∙ sym file.are.whole
+      ap (λ (n : ℕ). numbers_each kind * n)
+      (count-is (number_width kind) file.count numbers [] bytes (file-begins kind numbers bytes file))
+      ∙ sym file.are.whole
 
   is-file : (numbers : List ℕ) → IsFileOf kind numbers bytes → IsFile
   is-file numbers file =
       let begins = file-begins kind numbers bytes file in
       let said = said-is numbers file in
       let long = length-is (number_width kind) file.count numbers [] bytes begins in
-      let same : number_width kind * numbers_said kind bytes ≡ number_width kind * length numbers = ap (λ (n : ℕ). number_width kind * n) said in
+      let same : number_width kind * numbers_said kind bytes
+      ≡ number_width kind * length numbers = ap (λ (n : ℕ). number_width kind * n) said in
       record {
         counted = has-count (number_width kind) file.count numbers [] bytes begins;
         ends = omega (arith, long, same);
-        follow = none-fails kind file.count numbers [] bytes (numbers_said kind bytes) begins file.are.all_follow (λ j below whole. omega (arith, said));
+        follow = none-fails kind file.count numbers [] bytes
+            (numbers_said kind bytes) begins file.are.all_follow (λ j below whole. omega (arith, said));
       }
 
   -- of two lists with the same file each is the other
@@ -44,12 +51,16 @@ module _ (kind : Kind) (bytes : List ℕ) where
       let F : List ℕ → List ℕ = flat_map (little_bytes (number_width kind)) in
       let one = file-begins kind xs bytes first in
       let two = file-begins kind ys bytes second in
-      let count : first.count ≡ second.count = sym (count-is (number_width kind) first.count xs [] bytes one) ∙ count-is (number_width kind) second.count ys [] bytes two in
+      let count : first.count ≡ second.count = sym (count-is (number_width kind) first.count xs [] bytes one)
+      ∙ count-is (number_width kind) second.count ys [] bytes two in
       let long : length xs ≡ length ys = sym (said-is xs first) ∙ said-is ys second in
       let after : F xs ++ [] ≡ F ys ++ [] =
-      append_cancel_left (little_bytes 8 second.count) (F xs ++ []) (F ys ++ []) (ap (λ (n : ℕ). little_bytes 8 n ++ (F xs ++ [])) (sym count) ∙ sym one.written ∙ two.written) in
-      let longer = same_front (number_width kind) xs ys [] [] first.are.each_fits second.are.each_fits (omega (arith, long)) after in
-      let none : longer.more ≡ [] = nil_from_length longer.more (omega (arith, ap length longer.longer, length-append xs longer.more, long)) in
+      append_cancel_left (little_bytes 8 second.count) (F xs ++ [])
+      (F ys ++ []) (ap (λ (n : ℕ). little_bytes 8 n ++ (F xs ++ [])) (sym count) ∙ sym one.written ∙ two.written) in
+      let longer = same_front
+      (number_width kind) xs ys [] [] first.are.each_fits second.are.each_fits (omega (arith, long)) after in
+      let none : longer.more ≡ [] =
+      nil_from_length longer.more (omega (arith, ap length longer.longer, length-append xs longer.more, long)) in
       sym (longer.longer ∙ ap (λ (w : List ℕ). xs ++ w) none ∙ append-nil xs)
 
   many-clash : (count : ℕ) → IsTooMany bytes count → HasCount bytes → ⊥
@@ -59,16 +70,20 @@ module _ (kind : Kind) (bytes : List ℕ) where
   many-short count got many short =
       ⊎_elim (λ less. omega (arith, less, short.all, many.whole)) (λ later. many-clash count many later.0) short.ends
 
-  long-short : (got : ℕ) → HasCount bytes → 8 + number_width kind * numbers_said kind bytes ≤ length bytes → IsShort kind bytes got → ⊥
+  long-short : (got : ℕ) →
+      HasCount bytes → 8 + number_width kind * numbers_said kind bytes ≤ length bytes → IsShort kind bytes got → ⊥
   long-short got counted long short =
-      ⊎_elim (λ less. omega (arith, less, short.all, counted.whole)) (λ later. omega (arith, later.1, short.all, long)) short.ends
+      ⊎_elim (λ less. omega (arith, less, short.all, counted.whole))
+      (λ later. omega (arith, later.1, short.all, long)) short.ends
 
   -- a number that fails is none that may follow
-  failing-clash : (at before number n : ℕ) → IsFirstFailing kind bytes at before number → at < n → NoneFails kind bytes n → ⊥
+  failing-clash : (at before number n : ℕ) →
+      IsFirstFailing kind bytes at before number → at < n → NoneFails kind bytes n → ⊥
   failing-clash at before number n failing within follow =
       let follows = follow at within failing.whole in
       follows-clash kind before number
-      (subst (λ (v : ℕ). Follows kind v number) (sym failing.before_is) (subst (λ (v : ℕ). Follows kind (number_in kind bytes (at - 1)) v) (sym failing.number_is) follows))
+      (subst (λ (v : ℕ). Follows kind v number) (sym failing.before_is)
+      (subst (λ (v : ℕ). Follows kind (number_in kind bytes (at - 1)) v) (sym failing.number_is) follows))
       failing.fails
 
   failing-short : (at before number got : ℕ) → IsFirstFailing kind bytes at before number → IsShort kind bytes got → ⊥
@@ -78,21 +93,28 @@ module _ (kind : Kind) (bytes : List ℕ) where
       (λ later. failing-clash at before number (numbers_said kind bytes) failing failing.within later.2)
       short.ends
 
-  failing-trailing : (at before number byte : ℕ) → IsFirstFailing kind bytes at before number → IsTrailing kind bytes byte → ⊥
-  failing-trailing at before number byte failing trailing = failing-clash at before number (numbers_said kind bytes) failing failing.within trailing.none_fails
+  failing-trailing : (at before number byte : ℕ) →
+      IsFirstFailing kind bytes at before number → IsTrailing kind bytes byte → ⊥
+  failing-trailing at before number byte failing trailing =
+      failing-clash at before number (numbers_said kind bytes) failing failing.within trailing.none_fails
 
-  failing-file : (at before number : ℕ) (numbers : List ℕ) → IsFirstFailing kind bytes at before number → IsFileOf kind numbers bytes → ⊥
-  failing-file at before number numbers failing file = failing-clash at before number (numbers_said kind bytes) failing failing.within (is-file numbers file).follow
+  failing-file : (at before number : ℕ) (numbers : List ℕ) →
+      IsFirstFailing kind bytes at before number → IsFileOf kind numbers bytes → ⊥
+  failing-file at before number numbers failing file =
+      failing-clash at before number (numbers_said kind bytes) failing failing.within (is-file numbers file).follow
 
   -- the first number that fails is one
-  same-place : (at before number at' before' number' : ℕ) → IsFirstFailing kind bytes at before number → IsFirstFailing kind bytes at' before' number' → at ≡ at'
+  same-place : (at before number at' before' number' : ℕ) →
+      IsFirstFailing kind bytes at before number → IsFirstFailing kind bytes at' before' number' → at ≡ at'
   same-place at before number at' before' number' one two =
       ⊎_elim
       (λ less. absurd (failing-clash at before number at' one less two.first))
-      (λ more. ⊎_elim (λ less. absurd (failing-clash at' before' number' at two less one.first)) (λ equal. omega arith) (cases_lt at' at))
+      (λ more. ⊎_elim (λ less. absurd (failing-clash at' before' number' at two less one.first))
+      (λ equal. omega arith) (cases_lt at' at))
       (cases_lt at at')
 
-  from-file : (numbers : List ℕ) (b : Result (List ℕ) KeyFault) → IsFileOf kind numbers bytes → ReadsAsFile kind bytes b → Ok numbers ≡ b
+  from-file : (numbers : List ℕ) (b : Result (List ℕ) KeyFault) →
+      IsFileOf kind numbers bytes → ReadsAsFile kind bytes b → Ok numbers ≡ b
   from-file numbers (Ok ys) one two = ap Ok (same-numbers numbers ys one two)
   from-file numbers (Err (TooMany count)) one two = absurd (many-clash count two (is-file numbers one).counted)
   from-file numbers (Err (Short got)) one two =
@@ -103,7 +125,8 @@ module _ (kind : Kind) (bytes : List ℕ) where
   from-file numbers (Err ReadFault) one two = absurd two
   from-file numbers (Err NoMemory) one two = absurd two
 
-  from-many : (count : ℕ) (b : Result (List ℕ) KeyFault) → IsTooMany bytes count → ReadsAsFile kind bytes b → Err (TooMany count) ≡ b
+  from-many : (count : ℕ) (b : Result (List ℕ) KeyFault) →
+      IsTooMany bytes count → ReadsAsFile kind bytes b → Err (TooMany count) ≡ b
   from-many count (Ok ys) one two = absurd (many-clash count one (is-file ys two).counted)
   from-many count (Err (TooMany count')) one two = let e : count ≡ count' = one.said ∙ sym two.said in cc
   from-many count (Err (Short got)) one two = absurd (many-short count got one two)
@@ -113,7 +136,8 @@ module _ (kind : Kind) (bytes : List ℕ) where
   from-many count (Err ReadFault) one two = absurd two
   from-many count (Err NoMemory) one two = absurd two
 
-  from-short : (got : ℕ) (b : Result (List ℕ) KeyFault) → IsShort kind bytes got → ReadsAsFile kind bytes b → Err (Short got) ≡ b
+  from-short : (got : ℕ) (b : Result (List ℕ) KeyFault) →
+      IsShort kind bytes got → ReadsAsFile kind bytes b → Err (Short got) ≡ b
   from-short got (Ok ys) one two =
       let file = is-file ys two in absurd (long-short got file.counted (omega (arith, file.ends)) one)
   from-short got (Err (TooMany count)) one two = absurd (many-short count got two one)
@@ -124,14 +148,16 @@ module _ (kind : Kind) (bytes : List ℕ) where
   from-short got (Err ReadFault) one two = absurd two
   from-short got (Err NoMemory) one two = absurd two
 
-  from-unsorted : (at before key : ℕ) (b : Result (List ℕ) KeyFault) → ReadsAsFile kind bytes (Err (Unsorted at before key)) → ReadsAsFile kind bytes b →
+  from-unsorted : (at before key : ℕ) (b : Result (List ℕ) KeyFault) →
+      ReadsAsFile kind bytes (Err (Unsorted at before key)) → ReadsAsFile kind bytes b →
       Err (Unsorted at before key) ≡ b
   from-unsorted at before key (Ok ys) one two = absurd (failing-file at before key ys one.1 two)
   from-unsorted at before key (Err (TooMany count)) one two = absurd (many-clash count two one.1.counted)
   from-unsorted at before key (Err (Short got)) one two = absurd (failing-short at before key got one.1 two)
   from-unsorted at before key (Err (Unsorted at' before' key')) one two =
       let place : at ≡ at' = same-place at before key at' before' key' one.1 two.1 in
-      let above : before ≡ before' = one.1.before_is ∙ ap (λ (n : ℕ). number_in kind bytes (n - 1)) place ∙ sym two.1.before_is in
+      let above : before ≡ before' = one.1.before_is
+      ∙ ap (λ (n : ℕ). number_in kind bytes (n - 1)) place ∙ sym two.1.before_is in
       let same : key ≡ key' = one.1.number_is ∙ ap (number_in kind bytes) place ∙ sym two.1.number_is in
       cc
   from-unsorted at before key (Err (Wide at' value)) one two = absurd (not-both kind one.0 two.0)
@@ -139,7 +165,8 @@ module _ (kind : Kind) (bytes : List ℕ) where
   from-unsorted at before key (Err ReadFault) one two = absurd two
   from-unsorted at before key (Err NoMemory) one two = absurd two
 
-  from-wide : (at value : ℕ) (b : Result (List ℕ) KeyFault) → ReadsAsFile kind bytes (Err (Wide at value)) → ReadsAsFile kind bytes b → Err (Wide at value) ≡ b
+  from-wide : (at value : ℕ) (b : Result (List ℕ) KeyFault) →
+      ReadsAsFile kind bytes (Err (Wide at value)) → ReadsAsFile kind bytes b → Err (Wide at value) ≡ b
   from-wide at value (Ok ys) one two = absurd (failing-file at _ value ys one.1 two)
   from-wide at value (Err (TooMany count)) one two = absurd (many-clash count two one.1.counted)
   from-wide at value (Err (Short got)) one two = absurd (failing-short at _ value got one.1 two)
@@ -152,7 +179,8 @@ module _ (kind : Kind) (bytes : List ℕ) where
   from-wide at value (Err ReadFault) one two = absurd two
   from-wide at value (Err NoMemory) one two = absurd two
 
-  from-trailing : (byte : ℕ) (b : Result (List ℕ) KeyFault) → IsTrailing kind bytes byte → ReadsAsFile kind bytes b → Err (Trailing byte) ≡ b
+  from-trailing : (byte : ℕ) (b : Result (List ℕ) KeyFault) →
+      IsTrailing kind bytes byte → ReadsAsFile kind bytes b → Err (Trailing byte) ≡ b
   from-trailing byte (Ok ys) one two = absurd (omega (arith, one.more, (is-file ys two).ends))
   from-trailing byte (Err (TooMany count)) one two = absurd (many-clash count two one.counted)
   from-trailing byte (Err (Short got)) one two = absurd (long-short got one.counted (omega (arith, one.more)) two)
@@ -173,5 +201,6 @@ module _ (kind : Kind) (bytes : List ℕ) where
   one-file-reading (Err NoMemory) b one two = absurd one
 
 -- the same of a key file
-pub one-reading : (width : ℕ) (bytes : List ℕ) (a b : Result (List ℕ) KeyFault) → ReadsAs width bytes a → ReadsAs width bytes b → a ≡ b
+pub one-reading : (width : ℕ) (bytes : List ℕ) (a b : Result (List ℕ) KeyFault) →
+    ReadsAs width bytes a → ReadsAs width bytes b → a ≡ b
 one-reading width bytes a b one two = one-file-reading (of_keys width) bytes a b one two

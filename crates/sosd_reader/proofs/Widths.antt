@@ -13,6 +13,7 @@ whole-in width n some = omega arith
 pub numbers-fit : (width n room : ℕ) → 0 < width → n ≤ width * room → n / width ≤ room
 numbers-fit width n room some fit =
     ⊎_elim
-    (λ more. let up = mul-le-mul_left width more in let split = mul-add width room 1 in let one = mul-one width in absurd (omega arith))
+    (λ more. let up = mul-le-mul_left width more in
+    let split = mul-add width room 1 in let one = mul-one width in absurd (omega arith))
     (λ few. few)
     (cases_lt room (n / width))

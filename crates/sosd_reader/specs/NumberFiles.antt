@@ -1,4 +1,5 @@
--- Files of numbers: a count, and then numbers. There are two kinds: keys in order (SOSD; Kipf et al., 2019), and the coordinates of points.
+-- Files of numbers: a count, and then numbers. There are two kinds: keys
+-- in order (SOSD; Kipf et al., 2019), and the coordinates of points.
 use Rattle.std.specs.Prelude.{◌≡◌, ◌⊎◌, ℕ, ◌-◌, ◌*◌, ◌^◌, ◌<◌, ◌≤◌, List, ◌++◌, length, slice_index, All}
 use Rattle.std.specs.List.{flat_map}
 use Rattle.byteorder.specs.Endian.{little_bytes}
@@ -45,7 +46,8 @@ Fails (of_points d) before number = 2 ^ coordinate_bits d ≤ number
 
 -- each number may stand after the one before it; the first one, which has none, is judged after itself
 abbrev pub AllFollow : Kind → List ℕ → Type 0
-AllFollow kind numbers = (j : ℕ) → j < length numbers → Follows kind (slice_index numbers (j - 1)) (slice_index numbers j)
+AllFollow kind numbers =
+    (j : ℕ) → j < length numbers → Follows kind (slice_index numbers (j - 1)) (slice_index numbers j)
 
 -- the numbers are as many as a count below 2 ^ 32 says, each may stand where it does, and each fits its width
 pub record AreNumbersOf (kind : Kind) (count : ℕ) (numbers : List ℕ) : Type 0 where

@@ -1,5 +1,6 @@
 -- Lists that are cut at the same keys, to be merged part by part. No public clause cites it.
-use Rattle.std.specs.Prelude.{◌≡◌, ℕ, ◌+◌, ◌*◌, ◌/◌, ◌<◌, ◌≤◌, ◌==◌, nat_lt, Bool, if◌then◌else◌, List, ◌++◌, length, slice_index_or, Option, Some, None, ⊤}
+use Rattle.std.specs.Prelude.{◌≡◌, ℕ, ◌+◌, ◌*◌, ◌/◌, ◌<◌, ◌≤◌, ◌==◌, nat_lt, Bool, if◌then◌else◌}
+use Rattle.std.specs.Prelude.{List, ◌++◌, length, slice_index_or, Option, Some, None, ⊤}
 use Rattle.std.specs.List.{All}
 use Rattle.tombstones.specs.declared.entry.Entry.{Entry}
 use Rattle.tombstones.specs.Entries.{IsAscending, entry_at, winner_at, kept}
@@ -39,9 +40,11 @@ no_entry = record { key = 0; value = None }
 abbrev pub key_at : List Entry → ℕ → ℕ
 key_at entries place = (slice_index_or entries place no_entry).key
 
--- the edge before part i of `parts`: the key of the entry at an even place, but that 0 is before the first part, and no key behind the last one
+-- the edge before part i of `parts`: the key of the entry at an even place,
+-- but that 0 is before the first part, and no key behind the last one
 abbrev pub edge_of : List Entry → ℕ → ℕ → Option ℕ
-edge_of entries parts i = if i == 0 then Some 0 else if nat_lt i parts then Some (key_at entries (i * (length entries / parts))) else None
+edge_of entries parts i =
+    if i == 0 then Some 0 else if nat_lt i parts then Some (key_at entries (i * (length entries / parts))) else None
 
 -- the longer of two lists, the newer one where they are as long
 abbrev pub longer_of : List Entry → List Entry → List Entry
@@ -49,4 +52,5 @@ longer_of newer older = if nat_lt (length newer) (length older) then older else 
 
 -- the merge of what two lists have in part i of `parts`
 abbrev pub IsMergedPart : List Entry → List Entry → Bool → ℕ → ℕ → List Entry → Type 0
-IsMergedPart newer older deepest parts i merged = IsBetween (edge_of (longer_of newer older) parts i) (edge_of (longer_of newer older) parts (i + 1)) (merged_at newer older deepest) merged
+IsMergedPart newer older deepest parts i merged = IsBetween (edge_of (longer_of newer older) parts i)
+    (edge_of (longer_of newer older) parts (i + 1)) (merged_at newer older deepest) merged

@@ -1,4 +1,5 @@
--- What the crates above cite: what a window holds, in its two uses, that there is one window, and lower bounds and predecessors by the order of the keys.
+-- What the crates above cite: what a window holds, in its two uses, that there
+-- is one window, and lower bounds and predecessors by the order of the keys.
 pub use Rattle.window_search.proofs.WindowLemmas.{
   IsNear,
   predicted_near,
@@ -10,5 +11,6 @@ pub use Rattle.window_search.proofs.WindowLemmas.{
   IsPredicted-unique,
   IsWindow-unique,
 }
-pub use Rattle.window_search.proofs.LowerBounds.{IsLowerBound, IsLowerBound-lb, lb-is, lb-predecessor, IsPredecessor-unique, predecessor_exists}
+pub use Rattle.window_search.proofs.LowerBounds.{IsLowerBound, IsLowerBound-lb, lb-is, lb-predecessor}
+pub use Rattle.window_search.proofs.LowerBounds.{IsPredecessor-unique, predecessor_exists}
 pub use Rattle.window_search.proofs.Reaching.{bracket-lb, lb-brackets}

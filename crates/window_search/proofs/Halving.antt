@@ -1,4 +1,5 @@
--- Halving n places takes t steps, with 2 ^ t at most twice n: while `count` places are left, 2 ^ t * (count - 1) is at most n - 1, and each step halves count - 1.
+-- Halving n places takes t steps, with 2 ^ t at most twice n: while `count` places
+-- are left, 2 ^ t * (count - 1) is at most n - 1, and each step halves count - 1.
 use Rattle.std.proofs.Common.{◌≡◌, ℕ, ◌+◌, ◌-◌, ◌*◌, ◌^◌, ◌<◌, ◌≤◌, ap, ◌∙◌, add-one, arith}
 use Rattle.std.proofs.Math.Nat.{pow-suc, mul-le-mul_left}
 
@@ -10,7 +11,8 @@ pub record IsHalved (before now places count : ℕ) : Type 0 where
   pub bound : 2 ^ t ≤ 2 * places
 
 -- one step, which leaves at most half of count - 1
-pub halved_to : (before now places count rest : ℕ) → 1 < count → 2 * (rest - 1) ≤ count - 1 → IsHalved before now places count → IsHalved before (now + 1) places rest
+pub halved_to : (before now places count rest : ℕ) →
+    1 < count → 2 * (rest - 1) ≤ count - 1 → IsHalved before now places count → IsHalved before (now + 1) places rest
 halved_to before now places count rest more twice halved =
     let t = halved.t in
     let scaled = mul-le-mul_left (2 ^ t) twice in

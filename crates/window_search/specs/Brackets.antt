@@ -8,7 +8,8 @@ pub record IsBracket (keys : List ℕ) (q place : ℕ) : Type 0 where
   pub before : 0 < place → slice_index keys (place - 1) < q
   pub at : place < length keys → q ≤ slice_index keys place
 
--- the key before the place `low` is below q, and the key at the place `high` isn't: a bracket is among the places low ..= high
+-- the key before the place `low` is below q, and the key at the
+-- place `high` isn't: a bracket is among the places low ..= high
 pub record HoldsBracket (keys : List ℕ) (q low high : ℕ) : Type 0 where
   pub order : low ≤ high
   pub within : high ≤ length keys
@@ -23,7 +24,8 @@ ReadsWithin each far before after = (t : ℕ) × (after ≡ before + t) × (2 ^ 
 abbrev pub ReadsNear : ℕ → ℕ → ℕ → ℕ → Type 0
 ReadsNear hint place before after = ReadsWithin 8 (abs_diff hint place) before after
 
--- from `hint` away by steps that double to the places low ..= high: at most `reach` of them, each at least reach - 1 from the hint, in t steps with 2 ^ t at most `each` times reach
+-- from `hint` away by steps that double to the places low ..= high: at most `reach` of them,
+-- each at least reach - 1 from the hint, in t steps with 2 ^ t at most `each` times reach
 pub record IsReached (each hint low high before after : ℕ) : Type 0 where
   pub reach : ℕ
   pub t : ℕ

@@ -37,7 +37,8 @@ pub record IsLastAtMost (points : Points) (s e q i : ℕ) : Type 0 where
   pub at_most : points.x i ≤ q
   pub last : i + 1 < e → q < points.x (i + 1)
 
--- the run leaves no gap after the place i for q: q is its x, or it is the run's last place, or the next point is at most one higher
+-- the run leaves no gap after the place i for q: q is its x, or it
+-- is the run's last place, or the next point is at most one higher
 abbrev pub IsClose : Points → ℕ → ℕ → ℕ → Type 0
 IsClose points e q i = (q ≡ points.x i) ⊎ ((i + 1 ≡ e) ⊎ (points.y (i + 1) ≤ points.y i + 1))
 

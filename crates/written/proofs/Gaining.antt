@@ -1,6 +1,7 @@
 -- What a sink gains by one part after another.
 --
--- Main result: what was gained in two steps is gained in one (`Gains-append`), and where the second step broke off, a front
+-- Main result: what was gained in two steps is gained in one
+-- (`Gains-append`), and where the second step broke off, a front
 -- part of both parts was gained (`GainsFront-append`). Where the sink tells nothing there is nothing to show.
 use Rattle.std.proofs.Common.{◌≡◌, ℕ, List, [], ◌++◌, Option, None, Some, refl, sym, ◌∙◌, ap, subst, append_assoc}
 use Rattle.std.proofs.lemmas.List.{append-nil}
@@ -25,12 +26,14 @@ Gains-append old now new first later one two =
     let had = at_some old (λ b. now ≡ Some (b ++ first)) before is one in
     at_some now (λ b. new ≡ Some (b ++ later)) (before ++ first) had two ∙ ap Some (append_assoc before first later))
 
-pub GainsFront-append : (old now new : Option (List ℕ)) (first later : List ℕ) → Gains old now first → GainsFront now new later →
+pub GainsFront-append : (old now new : Option (List ℕ)) (first later : List ℕ) →
+    Gains old now first → GainsFront now new later →
     GainsFront old new (first ++ later)
 GainsFront-append old now new first later one two =
     if_some old _ (λ before is.
     let had = at_some old (λ b. now ≡ Some (b ++ first)) before is one in
-    let more = at_some now (λ b. (front r : List ℕ) × (later ≡ front ++ r) × (new ≡ Some (b ++ front))) (before ++ first) had two in (
+    let more = at_some now
+    (λ b. (front r : List ℕ) × (later ≡ front ++ r) × (new ≡ Some (b ++ front))) (before ++ first) had two in (
       first ++ more.0,
       more.1,
       ap (λ (l : List ℕ). first ++ l) more.2 ∙ sym (append_assoc first more.0 more.1),
@@ -38,10 +41,12 @@ GainsFront-append old now new first later one two =
     ))
 
 -- a front part of the first part is one of both
-pub front_of_more : (now new : Option (List ℕ)) (first later : List ℕ) → GainsFront now new first → GainsFront now new (first ++ later)
+pub front_of_more : (now new : Option (List ℕ)) (first later : List ℕ) →
+    GainsFront now new first → GainsFront now new (first ++ later)
 front_of_more now new first later gains =
     if_some now _ (λ before is.
-    let had = at_some now (λ b. (front r : List ℕ) × (first ≡ front ++ r) × (new ≡ Some (b ++ front))) before is gains in
+    let had =
+    at_some now (λ b. (front r : List ℕ) × (first ≡ front ++ r) × (new ≡ Some (b ++ front))) before is gains in
     (had.0, had.1 ++ later, ap (λ (l : List ℕ). l ++ later) had.2 ∙ append_assoc had.0 had.1 later, had.3))
 
 -- nothing is a front part of anything

@@ -1,8 +1,10 @@
 -- A piece of which a front part was handed over.
 --
--- While a piece is handed over, whatever ends the handing over of what is left of it ends that of the whole (`goes_on`), and
+-- While a piece is handed over, whatever ends the handing over
+-- of what is left of it ends that of the whole (`goes_on`), and
 -- what was gained is the whole less what is left (`gained`).
-use Rattle.std.proofs.Common.{◌≡◌, ◌≢◌, ℕ, List, [], ◌∷◌, ◌++◌, drop, Bool, true, false, Ok, Err, refl, sym, ◌∙◌, ap, subst, append_assoc}
+use Rattle.std.proofs.Common.{◌≡◌, ◌≢◌, ℕ, List, [], ◌∷◌, ◌++◌, drop, Bool, true}
+use Rattle.std.proofs.Common.{false, Ok, Err, refl, sym, ◌∙◌, ap, subst, append_assoc}
 use Rattle.std.proofs.lemmas.List.{append-nil}
 use Rattle.edge.specs.declared.failed.Failed.{Failed}
 use Rattle.edge.specs.declared.sink.Sink.{Ghosts}
@@ -23,11 +25,20 @@ pub record IsHandedTo {S : Type 0} (sink : Ghosts S) (start now : S) (piece rest
 
 module _ {S : Type 0} (sink : Ghosts S) where
   pub handed_none : (s : S) (piece : List ℕ) → IsHandedTo sink s s piece piece
-  handed_none s piece = record { goes_on = λ ending u h. h; front = []; split = refl; gained = Gains-nil (sink.written s); no_fault = refl }
+  handed_none s piece =
+      record {
+        goes_on = λ ending u h. h;
+        front = [];
+        split = refl;
+        gained = Gains-nil (sink.written s);
+        no_fault = refl;
+      }
 
   -- n bytes more, which leave this
-  pub handed_more : (start now new : S) (piece rest left more : List ℕ) (n : ℕ) → rest ≢ [] → left ≡ drop n rest → rest ≡ more ++ left →
-      sink.puts now rest (Ok n) new → Gains (sink.written now) (sink.written new) more → sink.faults new ≡ sink.faults now →
+  pub handed_more : (start now new : S) (piece rest left more : List ℕ) (n : ℕ) →
+      rest ≢ [] → left ≡ drop n rest → rest ≡ more ++ left →
+      sink.puts now rest (Ok n) new →
+      Gains (sink.written now) (sink.written new) more → sink.faults new ≡ sink.faults now →
       IsHandedTo sink start now piece rest → IsHandedTo sink start new piece left
   handed_more start now new piece rest left more n some is cut put gains same so_far = record {
     goes_on = λ ending u later. so_far.goes_on ending u
@@ -38,21 +49,25 @@ module _ {S : Type 0} (sink : Ghosts S) where
     no_fault = same ∙ so_far.no_fault;
   }
 
-  one_piece : (start now : S) (piece : List ℕ) (rest : List ℕ) → rest ≡ [] → IsHandedTo sink start now piece rest → HandsPiece sink start piece true now
+  one_piece : (start now : S) (piece : List ℕ) (rest : List ℕ) →
+      rest ≡ [] → IsHandedTo sink start now piece rest → HandsPiece sink start piece true now
   one_piece start now piece rest none so_far =
       so_far.goes_on true now (subst (λ (r : List ℕ). HandsPiece sink now r true now) (sym none) (taken now))
 
   -- nothing is left
-  pub handed_all : (start now : S) (piece rest : List ℕ) → rest ≡ [] → IsHandedTo sink start now piece rest → Writes sink start now (piece ∷ [])
+  pub handed_all : (start now : S) (piece rest : List ℕ) →
+      rest ≡ [] → IsHandedTo sink start now piece rest → Writes sink start now (piece ∷ [])
   handed_all start now piece rest none so_far = record {
     handed = next start now now piece [] true (one_piece start now piece rest none so_far) (finished now);
     gained = subst (λ (bytes : List ℕ). Gains (sink.written start) (sink.written now) bytes)
-        (sym (append-nil so_far.front) ∙ ap (λ (r : List ℕ). so_far.front ++ r) (sym none) ∙ sym so_far.split ∙ sym (append-nil piece)) so_far.gained;
+        (sym (append-nil so_far.front) ∙ ap (λ (r : List ℕ). so_far.front ++ r) (sym none)
+        ∙ sym so_far.split ∙ sym (append-nil piece)) so_far.gained;
     no_fault = so_far.no_fault;
   }
 
   -- a call failed, and took nothing
-  pub handed_part : (start now new : S) (piece rest : List ℕ) (fault : Failed) → rest ≢ [] → sink.puts now rest (Err fault) new →
+  pub handed_part : (start now new : S) (piece rest : List ℕ) (fault : Failed) →
+      rest ≢ [] → sink.puts now rest (Err fault) new →
       sink.written new ≡ sink.written now → HasRisen (sink.faults now) (sink.faults new) →
       IsHandedTo sink start now piece rest → BreaksOff sink start new (piece ∷ [])
   handed_part start now new piece rest fault some put same rose so_far = record {

@@ -32,8 +32,10 @@ pub record BreaksOff {S : Type 0} (sink : Ghosts S) (old new : S) (pieces : List
 abbrev pub WritesUntilFault : {S : Type 0} → Ghosts S → S → S → List (List ℕ) → Type 0
 WritesUntilFault sink old new pieces = Writes sink old new pieces ⊎ BreaksOff sink old new pieces
 
--- pieces of which this is true were written whole, or broke off where the sink failed; or memory ran out, and the sink is as it was
+-- pieces of which this is true were written whole, or broke off where
+-- the sink failed; or memory ran out, and the sink is as it was
 abbrev pub WritesText : {S : Type 0} → Ghosts S → S → Result ⊤ Unfinished → S → (List (List ℕ) → Type 0) → Type 0
 WritesText sink old (Ok _) new IsText = (pieces : List (List ℕ)) × IsText pieces × Writes sink old new pieces
-WritesText sink old (Err WriteFault) new IsText = (pieces : List (List ℕ)) × IsText pieces × BreaksOff sink old new pieces
+WritesText sink old (Err WriteFault) new IsText =
+    (pieces : List (List ℕ)) × IsText pieces × BreaksOff sink old new pieces
 WritesText sink old (Err NoMemory) new IsText = new ≡ old

@@ -16,10 +16,13 @@ pub top_difference : (n a b : ℕ) → b < 2 ^ n → a < b → (i : ℕ) × Diff
 top_difference zero a b fits less = absurd (omega arith)
 top_difference (suc n) a b fits less =
     elim (cases_lt (a / 2) (b / 2)) [
-      | inl half ↦ let (i, found) = top_difference n (a / 2) (b / 2) (omega (arith, pow-suc 2 n)) half in (suc i, raised i found)
+      | inl half ↦ let (i, found) = top_difference n (a / 2) (b / 2) (omega (arith, pow-suc 2 n)) half in
+          (suc i, raised i found)
       | inr rest ↦
-          let same : a / 2 ≡ b / 2 = omega arith in
-          (zero, record { clear = bit_at_lowest a ∙ omega arith; set = bit_at_lowest b ∙ omega arith; above = agree same })
+          let same : a / 2 ≡ b / 2 = omega arith in (
+            zero,
+            record { clear = bit_at_lowest a ∙ omega arith; set = bit_at_lowest b ∙ omega arith; above = agree same },
+          )
     ]
   where
     agree : a / 2 ≡ b / 2 → (j : ℕ) → zero < j → bit_at a j ≡ bit_at b j
@@ -43,15 +46,18 @@ less_by_bit i a b found =
     elim (cases_lt a b) [
       | inl less ↦ less
       | inr from ↦ elim (cases_eq a b) [
-        | inl same ↦ let bits : bit_at a i ≡ bit_at b i = ap (λ n. bit_at n i) same in absurd (omega (arith, found.clear, found.set))
+        | inl same ↦ let bits : bit_at a i ≡ bit_at b i = ap (λ n. bit_at n i) same in
+            absurd (omega (arith, found.clear, found.set))
         | inr apart ↦
             let turned : b < a = omega arith in
             let (j, other) = top_difference a b a (lt_pow a) turned in
             elim (cases_lt i j) [
               | inl higher ↦ absurd (omega (arith, found.above j higher, other.clear, other.set))
               | inr within ↦ elim (cases_eq j i) [
-                | inl here ↦ let bits : bit_at a j ≡ bit_at a i = ap (bit_at a) here in absurd (omega (arith, found.clear, other.set))
-                | inr lower ↦ let below : j < i = omega arith in absurd (omega (arith, found.clear, found.set, other.above i below))
+                | inl here ↦ let bits : bit_at a j ≡ bit_at a i = ap (bit_at a) here in
+                    absurd (omega (arith, found.clear, other.set))
+                | inr lower ↦ let below : j < i = omega arith in
+                    absurd (omega (arith, found.clear, found.set, other.above i below))
               ]
             ]
       ]

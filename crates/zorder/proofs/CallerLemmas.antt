@@ -25,4 +25,5 @@ pub use Rattle.zorder.proofs.DilatedLemmas.{
   dilated-lt,
   own_from_one,
 }
-pub use Rattle.zorder.proofs.RegionLemmas.{between-from_inside, corners-from_inside, inside-from_between, inside-from_corners, inside_between, low_inside}
+pub use Rattle.zorder.proofs.RegionLemmas.{between-from_inside, corners-from_inside, inside-from_between}
+pub use Rattle.zorder.proofs.RegionLemmas.{inside-from_corners, inside_between, low_inside}

@@ -1,11 +1,14 @@
 -- Codes and coordinates: each is the other's inverse, and codes rise with their coordinates. For the crates above too.
-use Rattle.std.proofs.Common.{◌≡◌, ℕ, zero, suc, ◌+◌, ◌-◌, ◌*◌, ◌/◌, ◌%◌, ◌^◌, ◌<◌, ◌≤◌, List, slice_index, refl, sym, ap, ◌∙◌, subst, inl, inr, arith, lit<}
+use Rattle.std.proofs.Common.{◌≡◌, ℕ, zero, suc, ◌+◌, ◌-◌, ◌*◌, ◌/◌, ◌%◌, ◌^◌, ◌<◌, ◌≤◌, List}
+use Rattle.std.proofs.Common.{slice_index, refl, sym, ap, ◌∙◌, subst, inl, inr, arith, lit<}
 use Rattle.std.specs.Int.{bit_at}
 use Rattle.std.proofs.lemmas.Bool.{cases_lt}
 use Rattle.std.proofs.lemmas.Nat.{pow_pos, mod_below, div-mul-add, mod-mul-add, div-add-mod', le-div}
-use Rattle.std.proofs.lemmas.Nat.Bits.{bit_at-lt, bit_at_above, bit_at_cat_low, bit_at_cat_high, bit_at_lowest, same_from_bits, same_from_bits_below}
+use Rattle.std.proofs.lemmas.Nat.Bits.{bit_at-lt, bit_at_above, bit_at_cat_low, bit_at_cat_high}
+use Rattle.std.proofs.lemmas.Nat.Bits.{bit_at_lowest, same_from_bits, same_from_bits_below}
 use Rattle.std.proofs.Math.Nat.{pow-suc, mul-le-mul_left, mul-le-mul_right}
-use Rattle.zorder.specs.Codes.{IsDimension, coordinate_bits, IsInRange, IsCode, IsCodeOf, number_of, coordinate, code, IsNowhereAbove}
+use Rattle.zorder.specs.Codes.{IsDimension, coordinate_bits, IsInRange, IsCode}
+use Rattle.zorder.specs.Codes.{IsCodeOf, number_of, coordinate, code, IsNowhereAbove}
 use Rattle.zorder.proofs.BitLemmas.{bit_at-mod, bit_at-shr}
 use Rattle.zorder.proofs.BitOrder.{DiffersAt, top_difference, less_by_bit}
 
@@ -26,7 +29,8 @@ number_of-lt (suc count) bit bits =
           omega (arith, number_of-lt count bit bits, pow-suc 2 count)
     ]
 
-pub bit_at-number_of : (count : ℕ) (bit : ℕ → ℕ) → ((i : ℕ) → bit i < 2) → (i : ℕ) → i < count → bit_at (number_of count bit) i ≡ bit i
+pub bit_at-number_of : (count : ℕ) (bit : ℕ → ℕ) →
+    ((i : ℕ) → bit i < 2) → (i : ℕ) → i < count → bit_at (number_of count bit) i ≡ bit i
 unfolding number_of
 bit_at-number_of zero bit bits i within = absurd (omega arith)
 bit_at-number_of (suc count) bit bits i within =
@@ -62,22 +66,27 @@ bit_at-coordinate d c z b some fits =
     elim (cases_lt b 64) [
       | inl low ↦ bit_at-number_of 64 (λ i. bit_at z (i * d + c)) bits b low
       | inr high ↦
-          bit_at_above (number_of 64 (λ i. bit_at z (i * d + c))) 64 b (number_of-lt 64 (λ i. bit_at z (i * d + c)) bits) high
+          bit_at_above
+          (number_of 64 (λ i. bit_at z (i * d + c))) 64 b (number_of-lt 64 (λ i. bit_at z (i * d + c)) bits) high
           ∙ sym (bit_at_above z 64 (b * d + c) fits (omega (arith, place_from d b c some)))
     ]
 
 -- the number with a coordinate's bits is the coordinate
-pub coordinate_from_bits : (d c z x : ℕ) → 0 < d → z < 2 ^ 64 → ((b : ℕ) → bit_at z (b * d + c) ≡ bit_at x b) → coordinate d c z ≡ x
-coordinate_from_bits d c z x some fits bits = same_from_bits (coordinate d c z) x (λ b. bit_at-coordinate d c z b some fits ∙ bits b)
+pub coordinate_from_bits : (d c z x : ℕ) →
+    0 < d → z < 2 ^ 64 → ((b : ℕ) → bit_at z (b * d + c) ≡ bit_at x b) → coordinate d c z ≡ x
+coordinate_from_bits d c z x some fits bits =
+    same_from_bits (coordinate d c z) x (λ b. bit_at-coordinate d c z b some fits ∙ bits b)
 
 -- coordinate c is the first one of the code without its c low bits
 pub coordinate-shr : (d c z : ℕ) → 0 < d → z < 2 ^ 64 → coordinate d 0 (z / 2 ^ c) ≡ coordinate d c z
 coordinate-shr d c z some fits =
     sym (coordinate_from_bits d c z (coordinate d 0 (z / 2 ^ c)) some fits (λ b.
-    sym (bit_at-coordinate d 0 (z / 2 ^ c) b some (shr_fits) ∙ bit_at-shr z c (b * d + 0) ∙ ap (bit_at z) (omega arith))))
+    sym (bit_at-coordinate d 0 (z / 2 ^ c) b some (shr_fits)
+    ∙ bit_at-shr z c (b * d + 0) ∙ ap (bit_at z) (omega arith))))
   where
     shr_fits : z / 2 ^ c < 2 ^ 64
-    shr_fits = below_from_bits (z / 2 ^ c) 64 (λ i high. bit_at-shr z c i ∙ bit_at_above z 64 (c + i) fits (omega arith))
+    shr_fits =
+        below_from_bits (z / 2 ^ c) 64 (λ i high. bit_at-shr z c i ∙ bit_at_above z 64 (c + i) fits (omega arith))
 
 -- ---- codes
 
@@ -98,16 +107,19 @@ past_range d dimension = by_dimension d dimension (λ d. (b c : ℕ) → c < d �
 
 -- a bit past those of a coordinate has its place past those of the codes
 past_code : (d : ℕ) → IsDimension d → (b c : ℕ) → coordinate_bits d ≤ b → d * coordinate_bits d ≤ b * d + c
-past_code d dimension = by_dimension d dimension (λ d. (b c : ℕ) → coordinate_bits d ≤ b → d * coordinate_bits d ≤ b * d + c)
+past_code d dimension =
+    by_dimension d dimension (λ d. (b c : ℕ) → coordinate_bits d ≤ b → d * coordinate_bits d ≤ b * d + c)
     (λ b c high. omega arith) (λ b c high. omega arith) (λ b c high. omega arith)
 
 -- a code has at most 64 bits
 pub code_fits : (d z : ℕ) → IsDimension d → IsCode d z → z < 2 ^ 64
-code_fits d z dimension = by_dimension d dimension (λ d. IsCode d z → z < 2 ^ 64) (λ small. small) (λ small. omega arith) (λ small. small)
+code_fits d z dimension =
+    by_dimension d dimension (λ d. IsCode d z → z < 2 ^ 64) (λ small. small) (λ small. omega arith) (λ small. small)
 
 -- a number of 64 bits is a code; of three coordinates it has to be below 2 ^ 63
 pub is_code : (d z : ℕ) → IsDimension d → z < 2 ^ 64 → (d ≡ 3 → z < 2 ^ 63) → IsCode d z
-is_code d z dimension fits = by_dimension d dimension (λ d. (d ≡ 3 → z < 2 ^ 63) → IsCode d z) (λ three. fits) (λ three. three refl) (λ three. fits)
+is_code d z dimension fits = by_dimension d dimension
+    (λ d. (d ≡ 3 → z < 2 ^ 63) → IsCode d z) (λ three. fits) (λ three. three refl) (λ three. fits)
 
 -- a coordinate of a code is in range
 pub coordinate_below : (d z : ℕ) → IsDimension d → IsCode d z → (c : ℕ) → coordinate d c z < 2 ^ coordinate_bits d
@@ -129,9 +141,11 @@ module _ (d : ℕ) (dimension : IsDimension d) where
   unfolding code
   code-lt coords = number_of-lt 64 (λ i. bit_at (slice_index coords (i % d)) (i / d)) (bit_of-lt coords)
 
-  bit_at-code : (coords : List ℕ) (i : ℕ) → i < 64 → bit_at (code d coords) i ≡ bit_at (slice_index coords (i % d)) (i / d)
+  bit_at-code : (coords : List ℕ) (i : ℕ) →
+      i < 64 → bit_at (code d coords) i ≡ bit_at (slice_index coords (i % d)) (i / d)
   unfolding code
-  bit_at-code coords i within = bit_at-number_of 64 (λ i. bit_at (slice_index coords (i % d)) (i / d)) (bit_of-lt coords) i within
+  bit_at-code coords i within =
+      bit_at-number_of 64 (λ i. bit_at (slice_index coords (i % d)) (i / d)) (bit_of-lt coords) i within
 
   -- the number with the bits of the coordinates is their code
   pub code_from_bits : (coords : List ℕ) (z : ℕ) → z < 2 ^ 64 → IsCodeOf d coords z → code d coords ≡ z
@@ -143,11 +157,13 @@ module _ (d : ℕ) (dimension : IsDimension d) where
   IsCodeOf-code coords range b c within =
       elim (cases_lt (b * d + c) 64) [
         | inl near ↦
-            bit_at-code coords (b * d + c) near ∙ ap (λ k. bit_at (slice_index coords k) ((b * d + c) / d)) (mod-mul-add b d c within)
+            bit_at-code coords (b * d + c) near
+            ∙ ap (λ k. bit_at (slice_index coords k) ((b * d + c) / d)) (mod-mul-add b d c within)
             ∙ ap (bit_at (slice_index coords c)) (div-mul-add b d c within)
         | inr far ↦
             bit_at_above (code d coords) 64 (b * d + c) (code-lt coords) far
-            ∙ sym (bit_at_above (slice_index coords c) (coordinate_bits d) b (range c within) (past_range d dimension b c within far))
+            ∙ sym (bit_at_above
+            (slice_index coords c) (coordinate_bits d) b (range c within) (past_range d dimension b c within far))
       ]
 
   -- a number with the bits of coordinates in range is a code
@@ -162,14 +178,17 @@ module _ (d : ℕ) (dimension : IsDimension d) where
   IsCode-code coords range = IsCode_from_bits coords (code d coords) range (IsCodeOf-code coords range)
 
   -- decoding undoes encoding
-  pub coordinate-code : (coords : List ℕ) → IsInRange d coords → (c : ℕ) → c < d → coordinate d c (code d coords) ≡ slice_index coords c
+  pub coordinate-code : (coords : List ℕ) →
+      IsInRange d coords → (c : ℕ) → c < d → coordinate d c (code d coords) ≡ slice_index coords c
   coordinate-code coords range c within =
-      coordinate_from_bits d c (code d coords) (slice_index coords c) some (code-lt coords) (λ b. IsCodeOf-code coords range b c within)
+      coordinate_from_bits d c
+      (code d coords) (slice_index coords c) some (code-lt coords) (λ b. IsCodeOf-code coords range b c within)
 
   -- the coordinates of a number have its bits
   pub IsCodeOf_from_coordinates : (coords : List ℕ) (z : ℕ) → z < 2 ^ 64
       → ((c : ℕ) → c < d → slice_index coords c ≡ coordinate d c z) → IsCodeOf d coords z
-  IsCodeOf_from_coordinates coords z fits are b c within = sym (bit_at-coordinate d c z b some fits) ∙ ap (λ x. bit_at x b) (sym (are c within))
+  IsCodeOf_from_coordinates coords z fits are b c within =
+      sym (bit_at-coordinate d c z b some fits) ∙ ap (λ x. bit_at x b) (sym (are c within))
 
   -- encoding undoes decoding
   pub code_from_coordinates : (coords : List ℕ) (z : ℕ) → z < 2 ^ 64
@@ -188,7 +207,8 @@ module _ (d : ℕ) (dimension : IsDimension d) where
           set = bit_at-coordinate d (i % d) a (i / d) some a_fits ∙ ap (bit_at a) place ∙ found.set;
           above = λ j higher.
               let product : (i / d + 1) * d ≤ j * d = mul-le-mul_right d (omega arith) in
-              bit_at-coordinate d (i % d) b j some b_fits ∙ found.above (j * d + i % d) (omega arith) ∙ sym (bit_at-coordinate d (i % d) a j some a_fits);
+              bit_at-coordinate d (i % d) b j some b_fits
+              ∙ found.above (j * d + i % d) (omega arith) ∙ sym (bit_at-coordinate d (i % d) a j some a_fits);
         }) in
         omega (arith, below (i % d) within)
 
@@ -201,14 +221,17 @@ module _ (d : ℕ) (dimension : IsDimension d) where
         ]
 
   -- numbers with the same coordinates are the same
-  pub same_from_coordinates : (a b : ℕ) → a < 2 ^ 64 → b < 2 ^ 64 → ((c : ℕ) → c < d → coordinate d c a ≡ coordinate d c b) → a ≡ b
+  pub same_from_coordinates : (a b : ℕ) →
+      a < 2 ^ 64 → b < 2 ^ 64 → ((c : ℕ) → c < d → coordinate d c a ≡ coordinate d c b) → a ≡ b
   same_from_coordinates a b a_fits b_fits same =
       let up : a ≤ b = rises a b a_fits b_fits (λ c within. omega (arith, same c within)) in
       let down : b ≤ a = rises b a b_fits a_fits (λ c within. omega (arith, same c within)) in
       omega arith
 
-  pub code_rises : (lower upper : List ℕ) → IsInRange d upper → IsNowhereAbove d lower upper → code d lower ≤ code d upper
+  pub code_rises : (lower upper : List ℕ) →
+      IsInRange d upper → IsNowhereAbove d lower upper → code d lower ≤ code d upper
   code_rises lower upper range below =
       let lower_range : IsInRange d lower = λ c within. omega (arith, below c within, range c within) in
       rises (code d lower) (code d upper) (code-lt lower) (code-lt upper)
-      (λ c within. omega (arith, coordinate-code lower lower_range c within, coordinate-code upper range c within, below c within))
+      (λ c within. omega
+      (arith, coordinate-code lower lower_range c within, coordinate-code upper range c within, below c within))

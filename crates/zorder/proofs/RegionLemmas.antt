@@ -15,16 +15,20 @@ pub inside_between : (region : Region) (z : ℕ) → IsRegion region → IsCode 
 inside_between region z is small among =
     let fits = code_fits region.d z is.dimension small in (
       rises region.d is.dimension (code region.d region.low) z (code-lt region.d is.dimension region.low) fits
-          (λ c within. omega (arith, coordinate-code region.d is.dimension region.low is.low c within, (among c within).0)),
+          (λ c within.
+          omega (arith, coordinate-code region.d is.dimension region.low is.low c within, (among c within).0)),
       rises region.d is.dimension z (code region.d region.high) fits (code-lt region.d is.dimension region.high)
-          (λ c within. omega (arith, coordinate-code region.d is.dimension region.high is.high c within, (among c within).1)),
+          (λ c within.
+          omega (arith, coordinate-code region.d is.dimension region.high is.high c within, (among c within).1)),
     )
 
 -- the code of the low corner is inside, unless the region is empty
-pub low_inside : (region : Region) → IsRegion region → ((c : ℕ) → c < region.d → slice_index region.low c ≤ slice_index region.high c)
+pub low_inside : (region : Region) →
+    IsRegion region → ((c : ℕ) → c < region.d → slice_index region.low c ≤ slice_index region.high c)
     → IsInside region (code region.d region.low)
 low_inside region is ordered c within =
-    let same = coordinate-code region.d is.dimension region.low is.low c within in (omega arith, omega (arith, ordered c within))
+    let same = coordinate-code region.d is.dimension region.low is.low c within in
+    (omega arith, omega (arith, ordered c within))
 
 module _ (region : Region) (is : IsRegion region) where
   some : 0 < region.d
@@ -37,7 +41,8 @@ module _ (region : Region) (is : IsRegion region) where
   high_fits = code-lt region.d is.dimension region.high
 
   -- inside the region is between the codes of its corners
-  pub between-from_inside : (w : ℕ) → w < 2 ^ 64 → IsInside region w → IsBetween region.d (code region.d region.low) (code region.d region.high) w
+  pub between-from_inside : (w : ℕ) →
+      w < 2 ^ 64 → IsInside region w → IsBetween region.d (code region.d region.low) (code region.d region.high) w
   between-from_inside w fits inside = record {
     not_below = λ c below. dilated-le region.d c (code region.d region.low) w some below low_fits fits
         (omega (arith, (inside c below).0, coordinate-code region.d is.dimension region.low is.low c below));
@@ -45,7 +50,8 @@ module _ (region : Region) (is : IsRegion region) where
         (omega (arith, (inside c below).1, coordinate-code region.d is.dimension region.high is.high c below));
   }
 
-  pub inside-from_between : (w : ℕ) → w < 2 ^ 64 → IsBetween region.d (code region.d region.low) (code region.d region.high) w → IsInside region w
+  pub inside-from_between : (w : ℕ) →
+      w < 2 ^ 64 → IsBetween region.d (code region.d region.low) (code region.d region.high) w → IsInside region w
   inside-from_between w fits between c below = (
     omega (
       arith,
@@ -62,15 +68,18 @@ module _ (region : Region) (is : IsRegion region) where
 -- ---- a code and the codes of the corners
 
 module _ (region : Region) (is : IsRegion region) (corners : Corners) (are : AreCorners region corners) where
-  pub inside-from_corners : (d z : ℕ) → d ≡ region.d → z < 2 ^ 64 → IsBetween d corners.low corners.high z → IsInside region z
+  pub inside-from_corners : (d z : ℕ) →
+      d ≡ region.d → z < 2 ^ 64 → IsBetween d corners.low corners.high z → IsInside region z
   inside-from_corners d z same fits between =
       inside-from_between region is z fits
       (subst (λ (n : ℕ). IsBetween n (code region.d region.low) (code region.d region.high) z) same
       (subst (λ (n : ℕ). IsBetween d n (code region.d region.high) z) are.low
       (subst (λ (n : ℕ). IsBetween d corners.low n z) are.high between)))
 
-  pub corners-from_inside : (d z : ℕ) → d ≡ region.d → z < 2 ^ 64 → IsInside region z → IsBetween d corners.low corners.high z
+  pub corners-from_inside : (d z : ℕ) →
+      d ≡ region.d → z < 2 ^ 64 → IsInside region z → IsBetween d corners.low corners.high z
   corners-from_inside d z same fits inside =
       subst (λ (n : ℕ). IsBetween n corners.low corners.high z) (sym same)
       (subst (λ (n : ℕ). IsBetween region.d n corners.high z) (sym are.low)
-      (subst (λ (n : ℕ). IsBetween region.d (code region.d region.low) n z) (sym are.high) (between-from_inside region is z fits inside)))
+      (subst (λ (n : ℕ). IsBetween region.d (code region.d region.low) n z)
+      (sym are.high) (between-from_inside region is z fits inside)))

@@ -1,5 +1,6 @@
 -- Morton codes: how the bits of two, three or four coordinates interleave.
--- Source: G. M. Morton, A computer oriented geodetic data base and a new technique in file sequencing, IBM Ottawa, 1966.
+-- Source: G. M. Morton, A computer oriented geodetic data base
+-- and a new technique in file sequencing, IBM Ottawa, 1966.
 use Rattle.std.specs.Prelude.{◌≡◌, ℕ, zero, suc, ◌+◌, ◌*◌, ◌/◌, ◌%◌, ◌^◌, ◌<◌, ◌≤◌, List, slice_index}
 use Rattle.std.specs.Int.{bit_at}
 

@@ -1,5 +1,6 @@
 -- Regions: boxes of points, by a closed interval for each coordinate, and the codes inside them.
--- Source: H. Tropf and H. Herzog, Multidimensional range search in dynamically balanced trees, Angewandte Informatik 2/1981.
+-- Source: H. Tropf and H. Herzog, Multidimensional range search
+-- in dynamically balanced trees, Angewandte Informatik 2/1981.
 use Rattle.std.specs.Prelude.{◌≡◌, ℕ, ◌<◌, ◌≤◌, slice_index}
 use Rattle.zorder.specs.declared.regions.Region.{Region}
 use Rattle.zorder.specs.Codes.{IsDimension, IsInRange, coordinate}

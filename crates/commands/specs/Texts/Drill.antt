@@ -13,8 +13,10 @@ use Rattle.written.specs.TextLines.{text_line}
 use Rattle.commands.specs.declared.drill.Counts.{Counts}
 use Rattle.commands.specs.Tasks.{Bounds}
 
--- what is counted of the inputs that are drawn: of the keys how many are distinct, and how many levels and runs of level 0 their
--- index has; the sum of the positions of the questions; how many points are in the region, and at how many places is looked; and
+-- what is counted of the inputs that are drawn: of the keys how
+-- many are distinct, and how many levels and runs of level 0 their
+-- index has; the sum of the positions of the questions; how many
+-- points are in the region, and at how many places is looked; and
 -- how many keys the map has after the updates
 pub record IsCounted (n seed : ℕ) (bounds : Bounds) (counts : Counts) : Type 0 where
   pub distinct : counts.distinct ≡ length (distinct_of (keys_of n seed))

@@ -16,7 +16,8 @@ use Rattle.written.specs.TextLines.{text_line}
 use Rattle.commands.specs.Tasks.{Bounds}
 use Rattle.commands.specs.Texts.Indexing.{level_line_of, tells_levels}
 
--- no line cover has fewer runs, and the segments show it: each run but the last ends with three places that no line fits
+-- no line cover has fewer runs, and the segments show it: each
+-- run but the last ends with three places that no line fits
 pub record IsShownLeast (p : Points) (eps : ℕ) (segments : List Segment) : Type 0 where
   pub least : IsLeastCover p eps 0 p.count (starts_of segments)
   pub shown : AreChecked p eps segments

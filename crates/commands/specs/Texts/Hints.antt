@@ -12,7 +12,8 @@ hint_bytes hint = to_le_bytes w64 hint
 abbrev pub hint_pieces : List ℕ → List (List ℕ)
 hint_pieces hints = map hint_bytes hints
 
--- some hints of 64 bits that lead to within ε + 2 in the keys, with as many lines as a least cover of the keys' points has runs
+-- some hints of 64 bits that lead to within ε + 2 in the keys,
+-- with as many lines as a least cover of the keys' points has runs
 pub record AreHints (keys : List ℕ) (eps : ℕ) (pieces : List (List ℕ)) : Type 0 where
   pub hints : List ℕ
   pub small : All (λ hint. hint < 2 ^ 64) hints

@@ -13,7 +13,8 @@ near_line found boxes = text_line (codes "near" ∷ decimal found ∷ decimal bo
 
 -- `point CODE DISTANCE C_1 .. C_d`
 abbrev pub neighbour_line : ℕ → ℕ × ℕ → List ℕ
-neighbour_line d (distance, code) = text_line (codes "point" ∷ decimal code ∷ decimal distance ∷ coordinate_words d code d)
+neighbour_line d (distance, code) =
+    text_line (codes "point" ∷ decimal code ∷ decimal distance ∷ coordinate_words d code d)
 
 -- the text lines of an answer: how many points it has and in how many boxes they are looked for, and each point
 abbrev pub near_lines : ℕ → NearAnswer → List (List ℕ)
@@ -21,7 +22,8 @@ near_lines d answer = near_line (length answer.points) answer.boxes ∷ map (nei
 
 -- those of a centre: of the points nearest to it, as many as are asked for, the nearest first
 abbrev pub TellsNear : ℕ → List ℕ → Centre → List (List ℕ) → Type 0
-TellsNear d sorted centre pieces = (answer : NearAnswer) × IsNear d centre.place sorted centre.count answer × (pieces ≡ near_lines d answer)
+TellsNear d sorted centre pieces =
+    (answer : NearAnswer) × IsNear d centre.place sorted centre.count answer × (pieces ≡ near_lines d answer)
 
 -- each centre in turn, over the sorted codes of the points
 pub record IsNearest (d : ℕ) (coords : List ℕ) (centres : List Centre) (pieces : List (List ℕ)) : Type 0 where

@@ -23,8 +23,10 @@ window_lines windows = map (λ window. window_line window.level window.low windo
 -- where they are asked for, the windows along the lookup in the one index of the keys, from the last level down
 abbrev pub TellsWindows : List ℕ → Bounds → Bool → ℕ → List (List ℕ) → Type 0
 TellsWindows keys bounds false question pieces = pieces ≡ []
-TellsWindows keys bounds true question pieces = (levels : List (List Segment)) × IsIndex keys bounds.eps bounds.eps_rec levels
-    × ((windows : List LevelWindow) × AreWindows keys bounds.eps bounds.eps_rec levels question windows × (pieces ≡ window_lines windows))
+TellsWindows keys bounds true question pieces =
+    (levels : List (List Segment)) × IsIndex keys bounds.eps bounds.eps_rec levels
+    × ((windows : List LevelWindow)
+    × AreWindows keys bounds.eps bounds.eps_rec levels question windows × (pieces ≡ window_lines windows))
 
 -- the text lines of a question: how many keys are below it, and its windows
 abbrev pub TellsAnswer : List ℕ → Bounds → Bool → ℕ → List (List ℕ) → Type 0

@@ -7,9 +7,11 @@ use Rattle.commands.specs.Texts.Indexing.{tells_levels}
 use Rattle.commands.specs.Texts.Build.{built_level}
 use Rattle.commands.specs.Texts.Query.{IsAnswered}
 
--- the relaxed index of the keys, whose points are cut into so many even pieces: what `build` tells, at level 0 how many runs more it may have than a
+-- the relaxed index of the keys, whose points are cut into so many even
+-- pieces: what `build` tells, at level 0 how many runs more it may have than a
 -- least cover, and then the questions answered
-pub record IsBuiltRelaxed (keys : List ℕ) (bounds : Bounds) (pieces : ℕ) (questions : List ℕ) (text : List (List ℕ)) : Type 0 where
+pub record IsBuiltRelaxed (keys : List ℕ) (bounds : Bounds) (pieces : ℕ) (questions : List ℕ) (text : List (List ℕ)) :
+    Type 0 where
   pub cuts : List ℕ
   pub levels : List (List Segment)
   pub index : AreEvenLevels keys bounds pieces cuts levels

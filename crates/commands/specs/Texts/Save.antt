@@ -22,4 +22,5 @@ pub record IsSaved (keys : List ℕ) (bounds : Bounds) (pieces : List (List ℕ)
   pub index : IsIndex keys bounds.eps bounds.eps_rec levels
   pub least : AreLeast keys bounds.eps bounds.eps_rec levels
   pub told : pieces ≡ saved_pieces bounds levels
-  pub spelled : IsSpelling (record { eps = bounds.eps; eps_rec = bounds.eps_rec; levels = saved_levels levels }) (concat pieces)
+  pub spelled :
+      IsSpelling (record { eps = bounds.eps; eps_rec = bounds.eps_rec; levels = saved_levels levels }) (concat pieces)

@@ -4,15 +4,18 @@ use Rattle.std.proofs.lemmas.Bool.{eqb-true, eq-eqb}
 use Rattle.exact_cross.specs.Points.{points_of}
 use Rattle.exact_cross.specs.PointLists.{points_in}
 use Rattle.exact_cross.specs.Checked.{uncut}
-use Rattle.exact_cross.proofs.CallerLemmas.{IsAscending-points_in, AreShown-from_checked, AreChecked-from_shown, IsLeastCover-from_checked}
+use Rattle.exact_cross.proofs.CallerLemmas.{IsAscending-points_in, AreShown-from_checked}
+use Rattle.exact_cross.proofs.CallerLemmas.{AreChecked-from_shown, IsLeastCover-from_checked}
 use Rattle.cut_witness.proofs.check_cover.Goals as goal
 
 pub returns-in-Some-clause-exact : goal.returns-in-Some-clause-exact
 returns-in-Some-clause-exact c =
     let p = points_in c.args.points in
     let segments = c.args.segments.now in (
-      λ none. AreChecked-from_shown p c.args.eps segments (c.in-Some.ensures.exact.0 refl) (omega (arith, c.in-Some.ensures.count, eqb-true _ _ none)),
-      λ checked. eq-eqb _ _ (omega (arith, c.in-Some.ensures.count, (AreShown-from_checked p c.args.eps segments checked).1)),
+      λ none. AreChecked-from_shown p c.args.eps segments
+          (c.in-Some.ensures.exact.0 refl) (omega (arith, c.in-Some.ensures.count, eqb-true _ _ none)),
+      λ checked.
+          eq-eqb _ _ (omega (arith, c.in-Some.ensures.count, (AreShown-from_checked p c.args.eps segments checked).1)),
     )
 
 pub returns-in-Some-clause-certified : goal.returns-in-Some-clause-certified
@@ -26,5 +29,6 @@ returns-in-Some-clause-certified c = λ none.
 pub returns-in-None-clause-exact : goal.returns-in-None-clause-exact
 returns-in-None-clause-exact c = (
   λ never. absurd (cc never),
-  λ checked. c.in-None.ensures.exact.1 (AreShown-from_checked (points_in c.args.points) c.args.eps c.args.segments.now checked).0,
+  λ checked. c.in-None.ensures.exact.1
+      (AreShown-from_checked (points_in c.args.points) c.args.eps c.args.segments.now checked).0,
 )

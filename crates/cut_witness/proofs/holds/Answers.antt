@@ -10,4 +10,5 @@ returns-then-w-points-clause-no_line c =
     let xs = c.args.points.xs.now in
     let ys = c.args.points.ys.now in
     let witness : IsTrue c.is_beyond.result → IsWitness (points_of xs ys) c.args.eps c.args.w.now = search rules in
-    λ test. no_line_at_witness (points_of xs ys) c.args.eps c.args.w.now (IsAscending-points_in c.args.points) (witness test)
+    λ test. no_line_at_witness
+    (points_of xs ys) c.args.eps c.args.w.now (IsAscending-points_in c.args.points) (witness test)

@@ -7,7 +7,8 @@ use Rattle.cut_witness.proofs.Sides.{IsOver-decided, IsUnder-decided}
 use Rattle.cut_witness.proofs.is_beyond.Goals as goal
 
 -- a higher place's x is not less
-not_less : (xs : List ℕ) (i j : ℕ) → IsStrictlyIncreasing xs → i < j → j < length xs → slice_index xs i ≤ slice_index xs j
+not_less : (xs : List ℕ) (i j : ℕ) →
+    IsStrictlyIncreasing xs → i < j → j < length xs → slice_index xs i ≤ slice_index xs j
 not_less xs i j rises lower inside = omega (arith, slice_index-rises xs i j rises lower inside)
 
 pub overflow_sub-points : goal.overflow_sub-points
@@ -25,7 +26,20 @@ returns-in-Over c =
     let w = c.args.w.now in
     let left = not_less xs w.p w.q c.args.points.rising c.requires.first (omega arith) in
     let right = not_less xs w.q w.r c.args.points.rising c.requires.second c.requires.last in
-    record { exact = rw (c.in-Over.is, c.from-left.ensures, c.from-right.ensures, c.from-width.ensures, c.from.ensures, c.from-2.ensures, c.from-3.ensures, c.from-4.ensures) (IsOver-decided (points_of xs c.args.points.ys.now) c.args.eps w.p w.q w.r left right) }
+    record {
+      exact =
+          rw (
+            c.in-Over.is,
+            c.from-left.ensures,
+            c.from-right.ensures,
+            c.from-width.ensures,
+            c.from.ensures,
+            c.from-2.ensures,
+            c.from-3.ensures,
+            c.from-4.ensures,
+          )
+          (IsOver-decided (points_of xs c.args.points.ys.now) c.args.eps w.p w.q w.r left right);
+    }
 
 pub returns-in-Under : goal.returns-in-Under
 returns-in-Under c =
@@ -33,4 +47,17 @@ returns-in-Under c =
     let w = c.args.w.now in
     let left = not_less xs w.p w.q c.args.points.rising c.requires.first (omega arith) in
     let right = not_less xs w.q w.r c.args.points.rising c.requires.second c.requires.last in
-    record { exact = rw (c.in-Under.is, c.from-left.ensures, c.from-right.ensures, c.from-width.ensures, c.from.ensures, c.from-2.ensures, c.from-3.ensures, c.from-4.ensures) (IsUnder-decided (points_of xs c.args.points.ys.now) c.args.eps w.p w.q w.r left right) }
+    record {
+      exact =
+          rw (
+            c.in-Under.is,
+            c.from-left.ensures,
+            c.from-right.ensures,
+            c.from-width.ensures,
+            c.from.ensures,
+            c.from-2.ensures,
+            c.from-3.ensures,
+            c.from-4.ensures,
+          )
+          (IsUnder-decided (points_of xs c.args.points.ys.now) c.args.eps w.p w.q w.r left right);
+    }

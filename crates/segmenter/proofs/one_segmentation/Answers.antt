@@ -3,4 +3,5 @@ use Rattle.exact_cross.proofs.Unique.{IsSegmentation-unique}
 use Rattle.segmenter.proofs.one_segmentation.Goals as goal
 
 pub returns : goal.returns
-returns c = λ p eps from to one two ascends inside first second. IsSegmentation-unique p eps from to one two first second
+returns c =
+    λ p eps from to one two ascends inside first second. IsSegmentation-unique p eps from to one two first second

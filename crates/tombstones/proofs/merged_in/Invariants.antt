@@ -12,13 +12,16 @@ invariant-rounds l = record {
 
 abbrev pub invariant-steps : goal.invariant-steps
 invariant-steps l = record {
-  under_way : IsUnderWay l.newer l.older l.deepest l.heads.remaining.newer.now l.heads.remaining.older.now l.merged.items;
-  room : vec_len l.merged + (length l.heads.remaining.newer.now + length l.heads.remaining.older.now) ≤ vec_capacity l.merged;
+  under_way :
+      IsUnderWay l.newer l.older l.deepest l.heads.remaining.newer.now l.heads.remaining.older.now l.merged.items;
+  room : vec_len l.merged + (length l.heads.remaining.newer.now + length l.heads.remaining.older.now)
+      ≤ vec_capacity l.merged;
   new_key : l.heads.new_key ≡ key_at l.heads.remaining.newer.now 0;
   old_key : l.heads.old_key ≡ key_at l.heads.remaining.older.now 0;
   newer_left : l.sure < length l.heads.remaining.newer.now;
   older_left : l.sure < length l.heads.remaining.older.now;
-  shorter : length l.heads.remaining.newer.now + length l.heads.remaining.older.now + l.initial.sure ≤ length l.initial.heads.remaining.newer.now + length l.initial.heads.remaining.older.now + l.sure;
+  shorter : length l.heads.remaining.newer.now + length l.heads.remaining.older.now + l.initial.sure
+      ≤ length l.initial.heads.remaining.newer.now + length l.initial.heads.remaining.older.now + l.sure;
 }
 
 abbrev pub invariant-loop-entry : goal.invariant-loop-entry

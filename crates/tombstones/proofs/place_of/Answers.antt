@@ -8,12 +8,16 @@ use Rattle.tombstones.proofs.place_of.Goals as goal
 
 pub returns-clause-below : goal.returns-clause-below
 returns-clause-below c =
-    let point = c.partition_point.ensures.partitioned (λ (x : Entry). ltb x.key c.args.key) (always_returns_same _ _ _ (λ a r f k. search (rules, of_calls)))
-    (IsPartitionedBy-ltb (λ (x : Entry). x.key) c.args.entries.now c.args.key (keys_never_fall c.args.entries.now c.requires)) in
+    let point = c.partition_point.ensures.partitioned
+    (λ (x : Entry). ltb x.key c.args.key) (always_returns_same _ _ _ (λ a r f k. search (rules, of_calls)))
+    (IsPartitionedBy-ltb
+    (λ (x : Entry). x.key) c.args.entries.now c.args.key (keys_never_fall c.args.entries.now c.requires)) in
     before_place c.args.entries.now c.args.key c.partition_point.result point
 
 pub returns-clause-from : goal.returns-clause-from
 returns-clause-from c =
-    let point = c.partition_point.ensures.partitioned (λ (x : Entry). ltb x.key c.args.key) (always_returns_same _ _ _ (λ a r f k. search (rules, of_calls)))
-    (IsPartitionedBy-ltb (λ (x : Entry). x.key) c.args.entries.now c.args.key (keys_never_fall c.args.entries.now c.requires)) in
+    let point = c.partition_point.ensures.partitioned
+    (λ (x : Entry). ltb x.key c.args.key) (always_returns_same _ _ _ (λ a r f k. search (rules, of_calls)))
+    (IsPartitionedBy-ltb
+    (λ (x : Entry). x.key) c.args.entries.now c.args.key (keys_never_fall c.args.entries.now c.requires)) in
     from_place c.args.entries.now c.args.key c.partition_point.result point

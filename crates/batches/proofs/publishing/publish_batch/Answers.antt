@@ -12,7 +12,10 @@ pub unreachable-requires : goal.unreachable-requires
 unreachable-requires g c =
     let writer = c.args.writer.now in
     let batch = c.args.batch.now in
-    let full : c.stage.result ≡ Err (Full c.in-Err-Full.field-0-0) = c.in-Err-Full.is ∙ ap Err c.in-Err-Full.field-0-is in
+    let full : c.stage.result ≡ Err (Full c.in-Err-Full.field-0-0) = c.in-Err-Full.is
+    ∙ ap Err c.in-Err-Full.field-0-is in
     let over = (c.stage.ensures.refused.full_only c.in-Err-Full.field-0-0 full).1 (updates_in writer) refl in
-    let all : updates_in writer ≡ updates_of writer.history = ap (λ (list : List Update). updates_of writer.history ++ list) c.requires.none_staged ∙ append-nil (updates_of writer.history) in
+    let all : updates_in writer ≡ updates_of writer.history =
+    ap (λ (list : List Update). updates_of writer.history ++ list) c.requires.none_staged
+    ∙ append-nil (updates_of writer.history) in
     omega (arith, over, c.requires.fits, ap (λ (list : List Update). length (entries_of (list ++ batch))) all)

@@ -8,4 +8,11 @@ pub fill-requires-clause-room : goal.fill-requires-clause-room
 fill-requires-clause-room c =
     let test = is_inside c.args.region.now in
     let sorted = c.args.boxes.now.codes in
-    omega (arith, length-filter test sorted, count_by-le-length test sorted, ap length c.codes-codes.ensures.codes, c.capacity.ensures, c.if-capacity-codes.false)
+    omega (
+      arith,
+      length-filter test sorted,
+      count_by-le-length test sorted,
+      ap length c.codes-codes.ensures.codes,
+      c.capacity.ensures,
+      c.if-capacity-codes.false,
+    )

@@ -10,6 +10,8 @@ loop-c-preserved c =
     let is : c.max-code.result ≡ max (dilated a.d c.loop-c.c a.first) (dilated a.d c.loop-c.c a.low) =
     rw (sym c.dilated_coordinate.ensures, sym c.dilated_coordinate-in-loop-c.ensures) c.max-code.ensures in
     record {
-      made = λ i. made_more a.d c.loop-c.c a.first a.low c.loop-c.code c.max-code.result i is (c.loop-c.invariant.made i) (c.loop-c.invariant.others i);
-      others = λ i. others_more a.d c.loop-c.c a.first a.low c.loop-c.code c.max-code.result i is (c.loop-c.invariant.others i);
+      made = λ i. made_more a.d c.loop-c.c a.first a.low c.loop-c.code c.max-code.result i is
+          (c.loop-c.invariant.made i) (c.loop-c.invariant.others i);
+      others = λ i.
+          others_more a.d c.loop-c.c a.first a.low c.loop-c.code c.max-code.result i is (c.loop-c.invariant.others i);
     }

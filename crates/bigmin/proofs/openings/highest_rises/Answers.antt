@@ -5,6 +5,8 @@ use Rattle.bigmin.proofs.openings.highest_rises.Goals as goal
 
 pub returns : goal.returns
 returns c = λ t. (
-  differs_from_bit c.args.d c.args.lesser c.args.greater c.filled_down-filled.result (omega (arith, c.requires)) c.ranges.lesser.fits c.ranges.greater.fits c.filled_down-filled.ensures c.filled_down-filled.type_inv t,
-  bit_from_differs c.args.d c.args.lesser c.args.greater c.filled_down-filled.result (omega (arith, c.requires)) c.ranges.lesser.fits c.ranges.greater.fits c.filled_down-filled.ensures c.filled_down-filled.type_inv t,
+  differs_from_bit c.args.d c.args.lesser c.args.greater c.filled_down-filled.result (omega (arith, c.requires))
+      c.ranges.lesser.fits c.ranges.greater.fits c.filled_down-filled.ensures c.filled_down-filled.type_inv t,
+  bit_from_differs c.args.d c.args.lesser c.args.greater c.filled_down-filled.result (omega (arith, c.requires))
+      c.ranges.lesser.fits c.ranges.greater.fits c.filled_down-filled.ensures c.filled_down-filled.type_inv t,
 )

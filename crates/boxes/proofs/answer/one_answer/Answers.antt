@@ -7,4 +7,5 @@ pub returns-clause-codes : goal.returns-clause-codes
 returns-clause-codes c = λ d points one two first second. one_sort d points one two first second
 
 pub returns-clause-looked : goal.returns-clause-looked
-returns-clause-looked c = λ region codes one two first second. one_count (IsLookedAt region codes) (length codes) one two first second
+returns-clause-looked c =
+    λ region codes one two first second. one_count (IsLookedAt region codes) (length codes) one two first second

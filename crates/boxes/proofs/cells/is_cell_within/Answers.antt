@@ -11,6 +11,7 @@ returns-then-is_within c =
     let below = c.ones_up_to_difference-below.result in
     let (k, room, is) = c.ones_up_to_difference-below.ensures in
     λ passes w from to. within_cell k first below room c.ranges.first.fits c.ones_up_to_difference-below.type_inv is w
-    (omega (arith, to, c.ranges.last.fits)) (omega (arith, from, and_le_l first (bit_not w64 below))) (omega (arith, to, c.if-last-most.false))
+    (omega (arith, to, c.ranges.last.fits))
+    (omega (arith, from, and_le_l first (bit_not w64 below))) (omega (arith, to, c.if-last-most.false))
     c.args.d c.args.low c.args.high (or_lt 64 first below c.ranges.first.fits c.ones_up_to_difference-below.type_inv)
     (c.is_within.ensures.0 c.if-is_within.true) (c.is_within-then-is_within.ensures.0 passes)

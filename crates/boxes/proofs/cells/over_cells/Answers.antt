@@ -13,7 +13,8 @@ loop-place-preserved c =
       between = λ sorted j from to. elim (cases_lt j place) [
         | inl earlier ↦ c.loop-place.invariant.between sorted j from earlier
         | inr later ↦
-            c.is_cell_within.ensures c.if-is_cell_within.true (slice_index codes j) (sorted place j 0 later (omega (arith, c.loop-place-test.true)))
+            c.is_cell_within.ensures c.if-is_cell_within.true
+            (slice_index codes j) (sorted place j 0 later (omega (arith, c.loop-place-test.true)))
             (sorted j (place + 64) 0 (omega arith) (omega (arith, c.loop-place-test.true)))
       ];
     }

@@ -13,7 +13,8 @@ loop-i-preserved c =
       items = pushed ∙ ap (λ (xs : List ℕ). xs ++ c.encode.result ∷ []) c.loop-i.invariant.items
           ∙ ap (λ (z : ℕ). first_codes d c.args.points.now c.loop-i.i ++ z ∷ []) c.encode.ensures.code
           ∙ sym (first_codes-more d c.args.points.now c.loop-i.i _ _ refl refl);
-      each = subst (λ (xs : List ℕ). All (λ z. IsCode d z) xs) (sym pushed) (All-push (λ z. IsCode d z) codes c.encode.result c.loop-i.invariant.each c.encode.ensures.range);
+      each = subst (λ (xs : List ℕ). All (λ z. IsCode d z) xs) (sym pushed)
+          (All-push (λ z. IsCode d z) codes c.encode.result c.loop-i.invariant.each c.encode.ensures.range);
       len = omega (arith, c.in_ok-push.ensures.len, c.loop-i.invariant.len);
     }
 
@@ -23,4 +24,5 @@ returns-clause-codes c =
     c.loop-i.invariant.items ∙ ap (first_codes c.args.d c.args.points.now) last
 
 pub returns-clause-few : goal.returns-clause-few
-returns-clause-few c = omega (arith, points_few c.args.d c.args.points.now c.requires.dimension c.requires.points, c.loop-i.invariant.len)
+returns-clause-few c =
+    omega (arith, points_few c.args.d c.args.points.now c.requires.dimension c.requires.points, c.loop-i.invariant.len)

@@ -23,6 +23,8 @@ returns-clause-each g c =
     let sorted = c.par_sort_unstable.new.s in
     let codes = c.in_ok-codes.codes in
     let over = written_over codes.items sorted codes.len (c.par_sort_unstable.ensures.len ∙ c.deref_mut.ensures.len) in
-    let each = subst (λ (xs : List ℕ). All (λ z. IsCode c.args.d z) xs) (sym c.deref_mut.ensures.value) c.in_ok-codes.ensures.each in
+    let each = subst
+    (λ (xs : List ℕ). All (λ z. IsCode c.args.d z) xs) (sym c.deref_mut.ensures.value) c.in_ok-codes.ensures.each in
     subst (λ (xs : List ℕ). All (λ z. IsCode c.args.d z) xs) (sym over)
-    (All-permutation (λ z. IsCode c.args.d z) c.deref_mut.result.now sorted c.par_sort_unstable.ensures.permutation each)
+    (All-permutation
+    (λ z. IsCode c.args.d z) c.deref_mut.result.now sorted c.par_sort_unstable.ensures.permutation each)

@@ -8,7 +8,8 @@ abbrev pub invariant-loop-place : goal.invariant-loop-place
 invariant-loop-place l = record {
   onwards : l.fn.at ≤ l.place;
   within : l.place ≤ length l.codes;
-  between : IsNonDecreasing l.codes → (j : ℕ) → l.fn.at ≤ j → j < l.place → IsBetween l.d l.low l.high (slice_index l.codes j);
+  between : IsNonDecreasing l.codes →
+      (j : ℕ) → l.fn.at ≤ j → j < l.place → IsBetween l.d l.low l.high (slice_index l.codes j);
 }
 
 abbrev pub decreases-loop-place : goal.decreases-loop-place

@@ -7,14 +7,22 @@ use Rattle.bucketed.proofs.TableLemmas.{bucket-few, buckets-few, IsFilledUpTo, I
 use Rattle.bucketed.proofs.table.table_of.Goals as goal
 
 pub overflow_add-bucket : goal.overflow_add-bucket
-overflow_add-bucket c = omega (arith, bucket-few c.args.bits c.first_x.result (omega (arith, c.requires.few)) c.first_x.type_inv, buckets-few c.args.bits c.requires.few)
+overflow_add-bucket c =
+    omega (
+      arith,
+      bucket-few c.args.bits c.first_x.result (omega (arith, c.requires.few)) c.first_x.type_inv,
+      buckets-few c.args.bits c.requires.few,
+    )
 
 pub loop-run-preserved : goal.loop-run-preserved
 loop-run-preserved c =
     let index = c.args.index.now in
     let runs = c.runs-runs.ensures in
-    IsFilledUpTo-more c.args.bits (xs_at index.keys index.levels 1) c.loop-run.run c.first_x.result c.loop-run.table.items c.fill_to.new.entries.items
-    (first_x-order index.keys index.eps index.eps_rec index.levels runs.never_falls runs.index) c.requires.few (omega (arith, runs.count, c.loop-run-test.true)) c.first_x.ensures c.first_x.type_inv c.loop-run.invariant c.in_ok-fill_to.ensures
+    IsFilledUpTo-more c.args.bits (xs_at index.keys index.levels 1)
+    c.loop-run.run c.first_x.result c.loop-run.table.items c.fill_to.new.entries.items
+    (first_x-order index.keys index.eps index.eps_rec index.levels runs.never_falls runs.index) c.requires.few
+    (omega (arith, runs.count, c.loop-run-test.true))
+    c.first_x.ensures c.first_x.type_inv c.loop-run.invariant c.in_ok-fill_to.ensures
 
 pub returns : goal.returns
 returns c =
@@ -31,5 +39,6 @@ returns c =
       grown = λ less. omega (arith, added.grown (omega (arith, few, less)), few);
       full = λ less. added.full (omega (arith, few, less));
     } in
-    let all = entries_all bits xs c.loop-run.table.items c.fill_to-2.new.entries.items (subst (λ (n : ℕ). IsFilledUpTo bits xs n c.loop-run.table.items) done c.loop-run.invariant) longer in
+    let all = entries_all bits xs c.loop-run.table.items c.fill_to-2.new.entries.items
+    (subst (λ (n : ℕ). IsFilledUpTo bits xs n c.loop-run.table.items) done c.loop-run.invariant) longer in
     record { count = all.0; each = all.1 }

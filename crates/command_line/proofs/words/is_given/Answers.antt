@@ -3,4 +3,5 @@ use Rattle.command_line.proofs.Getters.{flag_read}
 use Rattle.command_line.proofs.words.is_given.Goals as goal
 
 pub returns : goal.returns
-returns c = flag_read (found_of c.args.found.now) c.args.id.now c.get_flag.result c.get_flag.ensures.none c.get_flag.ensures.value c.get_flag.ensures.other c.requires
+returns c = flag_read (found_of c.args.found.now)
+    c.args.id.now c.get_flag.result c.get_flag.ensures.none c.get_flag.ensures.value c.get_flag.ensures.other c.requires

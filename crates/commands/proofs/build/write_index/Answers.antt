@@ -13,18 +13,26 @@ returns-in_err-write_keys-clause-err g c =
     let index = c.args.index.now in
     on_err c.from_residual.result _
     (BreaksOff-more g.S.Sink c.args.out.now c.write_keys.new.out (keys_line index.keys (length index.levels) ∷ [])
-    (flat_map (built_level index.keys (bounds_of c.args.bounds) c.args.slack index.levels) (places (length index.levels))) c.in_err-write_keys.ensures.err)
+    (flat_map
+    (built_level index.keys (bounds_of c.args.bounds) c.args.slack index.levels) (places (length index.levels)))
+    c.in_err-write_keys.ensures.err)
 
 pub returns-clause-ok : goal.returns-clause-ok
 returns-clause-ok g c =
     let index = c.args.index.now in
-    ok_behind g.S.Sink c.args.out.now c.write_keys.new.out c.write_levels.new.out (keys_line index.keys (length index.levels) ∷ [])
-    (flat_map (built_level index.keys (bounds_of c.args.bounds) c.args.slack index.levels) (places (length index.levels))) c.write_levels.result
+    ok_behind g.S.Sink c.args.out.now c.write_keys.new.out c.write_levels.new.out
+    (keys_line index.keys (length index.levels) ∷ [])
+    (flat_map
+    (built_level index.keys (bounds_of c.args.bounds) c.args.slack index.levels) (places (length index.levels)))
+    c.write_levels.result
     c.in_ok-write_keys.ensures.ok c.write_levels.ensures.ok
 
 pub returns-clause-err : goal.returns-clause-err
 returns-clause-err g c =
     let index = c.args.index.now in
-    err_behind g.S.Sink c.args.out.now c.write_keys.new.out c.write_levels.new.out (keys_line index.keys (length index.levels) ∷ [])
-    (flat_map (built_level index.keys (bounds_of c.args.bounds) c.args.slack index.levels) (places (length index.levels))) c.write_levels.result
+    err_behind g.S.Sink c.args.out.now c.write_keys.new.out c.write_levels.new.out
+    (keys_line index.keys (length index.levels) ∷ [])
+    (flat_map
+    (built_level index.keys (bounds_of c.args.bounds) c.args.slack index.levels) (places (length index.levels)))
+    c.write_levels.result
     c.in_ok-write_keys.ensures.ok c.write_levels.ensures.err

@@ -25,13 +25,16 @@ returns g c =
     record {
       distinct = c.distinct_count.ensures ∙ ap (λ (k : List ℕ). length (distinct_of k)) (c.keys.ensures ∙ keys);
       levels = levels;
-      index = subst (λ (k : List ℕ). IsIndex k c.args.bounds.eps c.args.bounds.eps_rec levels) drawn.keys c.in_ok-index.ensures.levels;
+      index = subst (λ (k : List ℕ). IsIndex k c.args.bounds.eps c.args.bounds.eps_rec levels)
+          drawn.keys c.in_ok-index.ensures.levels;
       level_count = c.level_count.ensures.count;
       runs = c.runs.ensures.count ∙ xs_at-length c.in_ok-index.index.keys levels 0;
-      sum = c.in_ok-sum.ensures ∙ ap (λ k. sum (map (lb k) c.deref.result.now)) keys ∙ ap (λ q. sum (map (lb (keys_of n seed)) q)) finds;
+      sum = c.in_ok-sum.ensures
+          ∙ ap (λ k. sum (map (lb k) c.deref.result.now)) keys ∙ ap (λ q. sum (map (lb (keys_of n seed)) q)) finds;
       sorted = found.0;
       codes = subst (λ (p : List ℕ). AreSortedCodes 2 p found.0) coordinates found.1;
       found = found.2;
       looked = found.3;
-      live = c.in_ok-live.ensures ∙ ap (λ u. live_in (map_after u)) updates ∙ live-count n seed c.args.drill.some c.args.drill.few;
+      live = c.in_ok-live.ensures
+          ∙ ap (λ u. live_in (map_after u)) updates ∙ live-count n seed c.args.drill.some c.args.drill.few;
     }

@@ -13,5 +13,6 @@ unreachable-requires g c =
     let over = (c.apply.ensures.refused.full_only c.in-Err-Full.field-0-0 is).1 [] c.in_ok-map.ensures.empty in
     let many = length-plain [] c.args.updates.now c.requires.plain in
     let none : length (entries_of []) ≡ 0 = refl in
-    let room : capacity_of c.in_ok-map.map ≡ 67108863 = ap (λ (levels : ℕ). 64 * 2 ^ levels - 1) c.in_ok-map.ensures.levels in
+    let room : capacity_of c.in_ok-map.map
+    ≡ 67108863 = ap (λ (levels : ℕ). 64 * 2 ^ levels - 1) c.in_ok-map.ensures.levels in
     omega (arith, over, many, none, room, c.requires.few)

@@ -10,7 +10,8 @@ use Rattle.commands.specs.Texts.Explain.{IsExplained, level_lines}
 use Rattle.commands.proofs.explain.write.Goals as goal
 
 -- what is told of the index is told of the keys
-told : (keys of_index : List ℕ) (bounds : Bounds) (levels : List (List Segment)) → of_index ≡ keys → IsIndex keys bounds.eps bounds.eps_rec levels →
+told : (keys of_index : List ℕ) (bounds : Bounds) (levels : List (List Segment)) →
+    of_index ≡ keys → IsIndex keys bounds.eps bounds.eps_rec levels →
     IsNonDecreasing keys → length keys < 2 ^ 32 → bounds.eps ≤ 1048576 → bounds.eps_rec ≤ 1048576 →
     IsExplained keys bounds (tells_levels of_index levels (level_lines of_index bounds levels))
 told keys of_index bounds levels same index order few bounded bounded_above =
@@ -28,12 +29,19 @@ told keys of_index bounds levels same index order few bounded bounded_above =
 pub returns : goal.returns
 returns g c = (
   _,
-  told c.args.indexing.sorted.keys.items _ (bounds_of c.args.indexing.bounds) _ c.in_ok-index.ensures.of_keys c.in_ok-index.ensures.levels c.args.indexing.sorted.never_falls (omega (arith, c.args.indexing.sorted.keys.ok.0, c.args.indexing.sorted.few)) c.args.indexing.bounds.bounded c.args.indexing.bounds.bounded_above,
+  told c.args.indexing.sorted.keys.items _
+      (bounds_of c.args.indexing.bounds) _ c.in_ok-index.ensures.of_keys c.in_ok-index.ensures.levels
+      c.args.indexing.sorted.never_falls (omega (arith, c.args.indexing.sorted.keys.ok.0, c.args.indexing.sorted.few))
+      c.args.indexing.bounds.bounded c.args.indexing.bounds.bounded_above,
   c.in_ok-write_index.ensures.ok,
 )
 
 pub returns-in_err-write_index : goal.returns-in_err-write_index
 returns-in_err-write_index g c =
-    broken_text g.S.Sink c.args.out.now c.write_index.new.out c.from_residual-in_err-write_index.result _ _ c.from_residual-in_err-write_index.ensures.1
-    (told c.args.indexing.sorted.keys.items _ (bounds_of c.args.indexing.bounds) _ c.in_ok-index.ensures.of_keys c.in_ok-index.ensures.levels c.args.indexing.sorted.never_falls (omega (arith, c.args.indexing.sorted.keys.ok.0, c.args.indexing.sorted.few)) c.args.indexing.bounds.bounded c.args.indexing.bounds.bounded_above)
+    broken_text g.S.Sink c.args.out.now
+    c.write_index.new.out c.from_residual-in_err-write_index.result _ _ c.from_residual-in_err-write_index.ensures.1
+    (told c.args.indexing.sorted.keys.items _
+    (bounds_of c.args.indexing.bounds) _ c.in_ok-index.ensures.of_keys c.in_ok-index.ensures.levels
+    c.args.indexing.sorted.never_falls (omega (arith, c.args.indexing.sorted.keys.ok.0, c.args.indexing.sorted.few))
+    c.args.indexing.bounds.bounded c.args.indexing.bounds.bounded_above)
     c.in_err-write_index.ensures.err

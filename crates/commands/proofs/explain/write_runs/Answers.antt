@@ -13,9 +13,12 @@ loop-i-preserved g c =
     let segments = c.args.segments.now in
     let i = c.loop-i.i in
     let piece = c.as_bytes.result.now in
-    let same : piece ≡ run_line (get_or segments i no_segment) c.start_at-end.result = c.as_bytes.ensures ∙ c.fill_run_line.ensures in
-    let is = run_lines-begin segments c.args.to i c.start_at-end.result piece (omega arith) c.start_at-end.ensures same in
-    written_more g.S.Sink c.args.out.now c.loop-i.out c.hand_over.new.out (run_lines segments c.args.to) (run_lines (drop i segments) c.args.to)
+    let same : piece ≡ run_line (get_or segments i no_segment) c.start_at-end.result = c.as_bytes.ensures
+    ∙ c.fill_run_line.ensures in
+    let is =
+    run_lines-begin segments c.args.to i c.start_at-end.result piece (omega arith) c.start_at-end.ensures same in
+    written_more g.S.Sink c.args.out.now c.loop-i.out c.hand_over.new.out
+    (run_lines segments c.args.to) (run_lines (drop i segments) c.args.to)
     (run_lines (drop (i + 1) segments) c.args.to) (piece ∷ []) is c.in_ok-hand_over.ensures.ok c.loop-i.invariant
 
 pub returns-in_err-hand_over-clause-err : goal.returns-in_err-hand_over-clause-err
@@ -23,10 +26,13 @@ returns-in_err-hand_over-clause-err g c =
     let segments = c.args.segments.now in
     let i = c.loop-i.i in
     let piece = c.as_bytes.result.now in
-    let same : piece ≡ run_line (get_or segments i no_segment) c.start_at-end.result = c.as_bytes.ensures ∙ c.fill_run_line.ensures in
-    let is = run_lines-begin segments c.args.to i c.start_at-end.result piece (omega arith) c.start_at-end.ensures same in
+    let same : piece ≡ run_line (get_or segments i no_segment) c.start_at-end.result = c.as_bytes.ensures
+    ∙ c.fill_run_line.ensures in
+    let is =
+    run_lines-begin segments c.args.to i c.start_at-end.result piece (omega arith) c.start_at-end.ensures same in
     on_err c.from_residual.result _
-    (breaks_off_there g.S.Sink c.args.out.now c.loop-i.out c.hand_over.new.out (run_lines segments c.args.to) (run_lines (drop i segments) c.args.to)
+    (breaks_off_there g.S.Sink c.args.out.now c.loop-i.out c.hand_over.new.out
+    (run_lines segments c.args.to) (run_lines (drop i segments) c.args.to)
     (run_lines (drop (i + 1) segments) c.args.to) (piece ∷ []) is c.in_err-hand_over.ensures.err c.loop-i.invariant)
 
 pub returns-clause-ok : goal.returns-clause-ok

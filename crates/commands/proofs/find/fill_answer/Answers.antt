@@ -7,7 +7,13 @@ use Rattle.commands.proofs.find.fill_answer.Goals as goal
 
 pub overflow_cast-place : goal.overflow_cast-place
 overflow_cast-place c =
-    omega (arith, c.position-place.ensures.bracket.within, ap length c.as_slice.ensures.value, c.args.sorted.now.keys.ok.0, c.args.sorted.now.few)
+    omega (
+      arith,
+      c.position-place.ensures.bracket.within,
+      ap length c.as_slice.ensures.value,
+      c.args.sorted.now.keys.ok.0,
+      c.args.sorted.now.few,
+    )
 
 pub returns : goal.returns
 returns c =

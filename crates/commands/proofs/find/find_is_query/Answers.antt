@@ -7,7 +7,8 @@ use Rattle.commands.specs.Texts.Query.{IsAnswered, find_line}
 use Rattle.commands.proofs.find.find_is_query.Goals as goal
 
 module _ (keys : List ℕ) (bounds : Bounds) where
-  answered : (questions : List ℕ) (pieces : List (List ℕ)) → IsFound keys questions pieces → IsAnswered keys bounds questions false pieces
+  answered : (questions : List ℕ) (pieces : List (List ℕ)) →
+      IsFound keys questions pieces → IsAnswered keys bounds questions false pieces
   answered [] pieces is = is
   answered (question ∷ questions) pieces is = (
     find_line question (lb keys question) ∷ [],
@@ -17,10 +18,13 @@ module _ (keys : List ℕ) (bounds : Bounds) where
     is,
   )
 
-  found : (questions : List ℕ) (pieces : List (List ℕ)) → IsAnswered keys bounds questions false pieces → IsFound keys questions pieces
+  found : (questions : List ℕ) (pieces : List (List ℕ)) →
+      IsAnswered keys bounds questions false pieces → IsFound keys questions pieces
   found [] pieces is = is
   found (question ∷ questions) pieces (first, others, (told, none, one), rest, is) =
-      is ∙ ap₂ (λ (a b : List (List ℕ)). a ++ b) (one ∙ ap (λ (t : List (List ℕ)). find_line question (lb keys question) ∷ t) none) (found questions others rest)
+      is ∙ ap₂ (λ (a b : List (List ℕ)). a ++ b)
+      (one ∙ ap (λ (t : List (List ℕ)). find_line question (lb keys question) ∷ t) none)
+      (found questions others rest)
 
 pub returns-clause-query : goal.returns-clause-query
 returns-clause-query c = λ keys questions bounds. answered keys bounds questions

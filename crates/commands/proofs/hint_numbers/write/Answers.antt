@@ -8,7 +8,8 @@ use Rattle.commands.specs.Texts.Hints.{AreHints, hint_pieces}
 use Rattle.commands.proofs.hint_numbers.write.Goals as goal
 
 -- the hints that are handed over are those that were made
-are_hints : (keys hints handed : List ℕ) (eps : ℕ) → All (λ hint. hint < 2 ^ 64) handed → LeadsWithin hints keys (eps + 2) →
+are_hints : (keys hints handed : List ℕ) (eps : ℕ) →
+    All (λ hint. hint < 2 ^ 64) handed → LeadsWithin hints keys (eps + 2) →
     HaveLeastLines keys eps hints → handed ≡ hints → AreHints keys eps (hint_pieces handed)
 are_hints keys hints handed eps small lead least same = record {
   hints = handed;
@@ -21,14 +22,17 @@ are_hints keys hints handed eps small lead least same = record {
 pub returns : goal.returns
 returns g c = (
   hint_pieces c.deref.result.now,
-  are_hints c.args.fitting.sorted.keys.items c.in_ok-hints.hints.items c.deref.result.now c.args.fitting.eps c.in_ok-write_hints.ensures.small
+  are_hints c.args.fitting.sorted.keys.items
+      c.in_ok-hints.hints.items c.deref.result.now c.args.fitting.eps c.in_ok-write_hints.ensures.small
       c.in_ok-hints.ensures.lead c.in_ok-hints.ensures.least c.deref.ensures.value,
   c.in_ok-write_hints.ensures.ok,
 )
 
 pub returns-in_err-write_hints : goal.returns-in_err-write_hints
 returns-in_err-write_hints g c =
-    broken_text g.S.Sink c.args.out.now c.write_hints.new.out c.from_residual-in_err-write_hints.result _ (hint_pieces c.deref.result.now) c.from_residual-in_err-write_hints.ensures.1
-    (are_hints c.args.fitting.sorted.keys.items c.in_ok-hints.hints.items c.deref.result.now c.args.fitting.eps c.in_err-write_hints.ensures.small
+    broken_text g.S.Sink c.args.out.now c.write_hints.new.out c.from_residual-in_err-write_hints.result _
+    (hint_pieces c.deref.result.now) c.from_residual-in_err-write_hints.ensures.1
+    (are_hints c.args.fitting.sorted.keys.items
+    c.in_ok-hints.hints.items c.deref.result.now c.args.fitting.eps c.in_err-write_hints.ensures.small
     c.in_ok-hints.ensures.lead c.in_ok-hints.ensures.least c.deref.ensures.value)
     c.in_err-write_hints.ensures.err

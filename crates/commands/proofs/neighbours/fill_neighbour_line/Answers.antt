@@ -9,4 +9,5 @@ returns c =
     let named = c.push.ensures ∙ ap (λ (line : List ℕ). line ++ codes "point") c.clear.ensures in
     let coded = c.push_number.ensures.text ∙ ap (λ (line : List ℕ). line ++ 32 ∷ decimal code) named in
     let front = c.push_number-2.ensures.text ∙ ap (λ (line : List ℕ). line ++ 32 ∷ decimal distance) coded in
-    c.push-2.ensures ∙ ap (λ (line : List ℕ). line ++ 10 ∷ []) (c.push_coordinates.ensures.text (codes "point") (decimal code ∷ decimal distance ∷ []) front)
+    c.push-2.ensures ∙ ap (λ (line : List ℕ). line ++ 10 ∷ [])
+    (c.push_coordinates.ensures.text (codes "point") (decimal code ∷ decimal distance ∷ []) front)

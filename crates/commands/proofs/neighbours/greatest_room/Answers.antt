@@ -23,8 +23,10 @@ module _ (d : ℕ) (centres : List Centre) (sorted : List ℕ) (i most : ℕ) (t
   abbrev here : Centre
   here = get_or centres i no_centre
 
-  one_more : (before : ℕ) → before ≤ most → Fits most here → (answer : NearAnswer) × IsNear d here.place sorted here.count answer →
-      All (Fits before) (take i centres) × All Has (take i centres) → All (Fits most) (take (i + 1) centres) × All Has (take (i + 1) centres)
+  one_more : (before : ℕ) →
+      before ≤ most → Fits most here → (answer : NearAnswer) × IsNear d here.place sorted here.count answer →
+      All (Fits before) (take i centres)
+      × All Has (take i centres) → All (Fits most) (take (i + 1) centres) × All Has (take (i + 1) centres)
   one_more before below fits (answer, is) so_far = (
     All-more (Fits most) centres i no_centre there
         (All-weaker (Fits before) (Fits most) (λ centre few. omega arith) (take i centres) so_far.0) fits,
@@ -50,6 +52,9 @@ returns c =
     let boxes = c.args.boxes.now in
     let whole = take_all c.loop-i.i c.args.centres.now (omega arith) in
     record {
-      room = subst (All (λ (centre : Centre). min (length boxes.codes) centre.count ≤ c.loop-i.most)) whole c.loop-i.invariant.0;
-      answered = subst (All (λ (centre : Centre). (pieces : List (List ℕ)) × TellsNear boxes.dims boxes.codes centre pieces)) whole c.loop-i.invariant.1;
+      room = subst
+          (All (λ (centre : Centre). min (length boxes.codes) centre.count ≤ c.loop-i.most)) whole c.loop-i.invariant.0;
+      answered =
+          subst (All (λ (centre : Centre). (pieces : List (List ℕ)) × TellsNear boxes.dims boxes.codes centre pieces))
+          whole c.loop-i.invariant.1;
     }

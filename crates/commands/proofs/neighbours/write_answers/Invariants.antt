@@ -7,5 +7,7 @@ use Rattle.commands.proofs.neighbours.write_answers.Given as goal
 
 -- the answers of the centres before this place were written, and the room is there
 abbrev pub invariant-loop-i : goal.invariant-loop-i
-invariant-loop-i g l = ((pieces : List (List ℕ)) × TellsEach (TellsNear l.boxes.dims l.boxes.codes) (take l.i l.centres) pieces × Writes g.S.Sink l.fn.out l.out pieces)
+invariant-loop-i g l =
+    ((pieces : List (List ℕ)) × TellsEach (TellsNear l.boxes.dims l.boxes.codes) (take l.i l.centres) pieces
+    × Writes g.S.Sink l.fn.out l.out pieces)
     × (vec_capacity l.fn.points ≤ vec_capacity l.points)

@@ -4,4 +4,5 @@ use Rattle.commands.proofs.positions.empty_pieces.Given as goal
 
 -- so many pieces are there, each with its room
 abbrev pub invariant-loop : goal.invariant-loop
-invariant-loop l = (vec_len l.pieces ≡ l.counter) × All (λ piece. (vec_len piece ≡ 0) × (l.size ≤ vec_capacity piece)) l.pieces.items
+invariant-loop l =
+    (vec_len l.pieces ≡ l.counter) × All (λ piece. (vec_len piece ≡ 0) × (l.size ≤ vec_capacity piece)) l.pieces.items

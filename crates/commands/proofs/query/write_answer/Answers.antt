@@ -14,7 +14,8 @@ returns-in_err-hand_over-clause-err g c =
     on_err c.from_residual.result _ (
       head ∷ lines,
       (lines, c.fill_windows.ensures.tells, refl),
-      head_broken g.S.Sink c.args.out.now c.hand_over.new.out c.as_bytes.result.now head lines head_is c.in_err-hand_over.ensures.err,
+      head_broken g.S.Sink
+          c.args.out.now c.hand_over.new.out c.as_bytes.result.now head lines head_is c.in_err-hand_over.ensures.err,
     )
 
 pub returns-clause-ok : goal.returns-clause-ok
@@ -24,9 +25,12 @@ returns-clause-ok g c =
     let head_is = c.as_bytes.ensures ∙ c.fill_find_line.ensures ∙ ap (find_line c.args.asked.0) c.requires.position in
     let lines_are = ap window_lines c.deref.ensures.value in
     ok_told c.write_windows.result _ _ (head ∷ lines) (lines, c.fill_windows.ensures.tells, refl)
-    (ok_behind g.S.Sink c.args.out.now c.hand_over.new.out c.write_windows.new.out (head ∷ []) lines c.write_windows.result
+    (ok_behind g.S.Sink c.args.out.now c.hand_over.new.out c.write_windows.new.out
+    (head ∷ []) lines c.write_windows.result
     (head_written g.S.Sink _ _ c.as_bytes.result.now head head_is c.in_ok-hand_over.ensures.ok)
-    (subst (λ (r : List (List ℕ)). OnOk c.write_windows.result (Writes g.S.Sink c.hand_over.new.out c.write_windows.new.out r)) lines_are c.write_windows.ensures.ok))
+    (subst (λ (r : List (List ℕ)).
+    OnOk c.write_windows.result (Writes g.S.Sink c.hand_over.new.out c.write_windows.new.out r))
+    lines_are c.write_windows.ensures.ok))
 
 pub returns-clause-err : goal.returns-clause-err
 returns-clause-err g c =
@@ -35,6 +39,9 @@ returns-clause-err g c =
     let head_is = c.as_bytes.ensures ∙ c.fill_find_line.ensures ∙ ap (find_line c.args.asked.0) c.requires.position in
     let lines_are = ap window_lines c.deref.ensures.value in
     err_told c.write_windows.result _ _ (head ∷ lines) (lines, c.fill_windows.ensures.tells, refl)
-    (err_behind g.S.Sink c.args.out.now c.hand_over.new.out c.write_windows.new.out (head ∷ []) lines c.write_windows.result
+    (err_behind g.S.Sink c.args.out.now c.hand_over.new.out c.write_windows.new.out
+    (head ∷ []) lines c.write_windows.result
     (head_written g.S.Sink _ _ c.as_bytes.result.now head head_is c.in_ok-hand_over.ensures.ok)
-    (subst (λ (r : List (List ℕ)). OnErr c.write_windows.result (BreaksOff g.S.Sink c.hand_over.new.out c.write_windows.new.out r)) lines_are c.write_windows.ensures.err))
+    (subst (λ (r : List (List ℕ)).
+    OnErr c.write_windows.result (BreaksOff g.S.Sink c.hand_over.new.out c.write_windows.new.out r))
+    lines_are c.write_windows.ensures.err))

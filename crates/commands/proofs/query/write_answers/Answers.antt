@@ -1,4 +1,5 @@
-use Rattle.std.proofs.Common.{◌≡◌, ◌∙◌, ◌+◌, ◌<◌, ◌++◌, ◌∷◌, [], ap, sym, subst, refl, take, drop, drop-cons, add-one, get_or, length, List, ℕ, arith}
+use Rattle.std.proofs.Common.{◌≡◌, ◌∙◌, ◌+◌, ◌<◌, ◌++◌, ◌∷◌, [], ap, sym, subst, refl, take}
+use Rattle.std.proofs.Common.{drop, drop-cons, add-one, get_or, length, List, ℕ, arith}
 use Rattle.std.specs.Prelude.{is_some}
 use Rattle.std.proofs.lemmas.List.{take_more, take-append-drop, get_or-map}
 use Rattle.written.proofs.CallerLemmas.{Writes-nil, Writes-append, BreaksOff-append, BreaksOff-more}
@@ -13,7 +14,8 @@ use Rattle.commands.proofs.query.write_answers.Goals as goal
 -- a list around one place
 around : (xs : List ℕ) (i d : ℕ) → i < length xs → take i xs ++ get_or xs i d ∷ drop (i + 1) xs ≡ xs
 around xs i d there =
-    ap (λ (rest : List ℕ). take i xs ++ rest) (sym (drop-cons xs i d there ∙ ap (λ (n : ℕ). get_or xs i d ∷ drop n xs) (sym (add-one i))))
+    ap (λ (rest : List ℕ). take i xs ++ rest)
+    (sym (drop-cons xs i d there ∙ ap (λ (n : ℕ). get_or xs i d ∷ drop n xs) (sym (add-one i))))
     ∙ take-append-drop i xs
 
 pub loop-i-init : goal.loop-i-init
@@ -28,7 +30,8 @@ loop-i-preserved g c =
     let i = c.loop-i.i in
     let so_far = c.loop-i.invariant.0 in
     let one = c.in_ok-write_answer.ensures.ok in
-    let told = each_more (TellsAnswer keys bounds windows) (take i questions) (get_or questions i 0) so_far.0 one.0 so_far.1 one.1 in (
+    let told = each_more
+    (TellsAnswer keys bounds windows) (take i questions) (get_or questions i 0) so_far.0 one.0 so_far.1 one.1 in (
       (
         so_far.0 ++ one.0,
         subst (λ (q : List ℕ). IsAnswered keys bounds q windows (so_far.0 ++ one.0))
@@ -48,11 +51,13 @@ returns-in_err-write_answer-clause-err g c =
     let so_far = c.loop-i.invariant.0 in
     let one = c.in_err-write_answer.ensures.err in
     let rest = some_answers (λ index. index.now) keys bounds c.args.told (drop (i + 1) questions) c.requires.index in
-    let told = each_append (TellsAnswer keys bounds windows) (take i questions) (get_or questions i 0 ∷ drop (i + 1) questions) so_far.0
+    let told = each_append
+    (TellsAnswer keys bounds windows) (take i questions) (get_or questions i 0 ∷ drop (i + 1) questions) so_far.0
     (one.0 ++ rest.0) so_far.1 (one.0, rest.0, one.1, rest.1, refl) in
     on_err c.from_residual.result _ (
       so_far.0 ++ (one.0 ++ rest.0),
-      subst (λ (q : List ℕ). IsAnswered keys bounds q windows (so_far.0 ++ (one.0 ++ rest.0))) (around questions i 0 (omega arith)) told,
+      subst (λ (q : List ℕ). IsAnswered keys bounds q windows (so_far.0 ++ (one.0 ++ rest.0)))
+          (around questions i 0 (omega arith)) told,
       BreaksOff-append g.S.Sink c.args.out.now c.loop-i.out c.write_answer.new.out so_far.0 (one.0 ++ rest.0) so_far.2
           (BreaksOff-more g.S.Sink c.loop-i.out c.write_answer.new.out one.0 rest.0 one.2),
     )
@@ -61,4 +66,5 @@ returns-in_err-write_answer-clause-err g c =
 pub write_answer-requires-clause-position : goal.write_answer-requires-clause-position
 write_answer-requires-clause-position g c =
     let i = c.loop-i.i in
-    ap (λ (p : List ℕ). get_or p i 0) c.requires.positions ∙ get_or-map (lb c.args.keys.now) c.args.questions.now i 0 0 (omega arith)
+    ap (λ (p : List ℕ). get_or p i 0) c.requires.positions
+    ∙ get_or-map (lb c.args.keys.now) c.args.questions.now i 0 0 (omega arith)

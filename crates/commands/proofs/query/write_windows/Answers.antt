@@ -1,4 +1,5 @@
-use Rattle.std.proofs.Common.{◌≡◌, ◌+◌, ◌<◌, [], ◌∷◌, ◌++◌, ◌∙◌, ap, sym, drop, drop-cons, add-one, get_or, length, arith, ℕ, List}
+use Rattle.std.proofs.Common.{◌≡◌, ◌+◌, ◌<◌, [], ◌∷◌, ◌++◌, ◌∙◌, ap, sym, drop}
+use Rattle.std.proofs.Common.{drop-cons, add-one, get_or, length, arith, ℕ, List}
 use Rattle.std.proofs.lemmas.List.{drop_all}
 use Rattle.written.proofs.CallerLemmas.{written_none, written_more, written_all, breaks_off_there}
 use Rattle.levels.specs.declared.windows.LevelWindow.{LevelWindow}
@@ -15,7 +16,8 @@ begins : (windows : List LevelWindow) (i : ℕ) (d : LevelWindow) (piece : List 
     piece ≡ window_line (get_or windows i d).level (get_or windows i d).low (get_or windows i d).high →
     window_lines (drop i windows) ≡ (piece ∷ []) ++ window_lines (drop (i + 1) windows)
 begins windows i d piece there is =
-    ap window_lines (drop-cons windows i d there ∙ ap (λ (n : ℕ). get_or windows i d ∷ drop n windows) (sym (add-one i)))
+    ap window_lines
+    (drop-cons windows i d there ∙ ap (λ (n : ℕ). get_or windows i d ∷ drop n windows) (sym (add-one i)))
     ∙ ap (λ (line : List ℕ). line ∷ window_lines (drop (i + 1) windows)) (sym is)
 
 pub loop-i-init : goal.loop-i-init
@@ -25,15 +27,20 @@ pub loop-i-preserved : goal.loop-i-preserved
 loop-i-preserved g c =
     let piece = c.as_bytes.result.now in
     written_more g.S.Sink c.args.out.now c.loop-i.out c.hand_over.new.out _ _ _ (piece ∷ [])
-    (begins c.args.windows.now c.loop-i.i no_window piece (omega arith) (c.as_bytes.ensures ∙ c.fill_window_line.ensures)) c.in_ok-hand_over.ensures.ok c.loop-i.invariant
+    (begins c.args.windows.now c.loop-i.i no_window piece
+    (omega arith) (c.as_bytes.ensures ∙ c.fill_window_line.ensures))
+    c.in_ok-hand_over.ensures.ok c.loop-i.invariant
 
 pub returns-in_err-hand_over-clause-err : goal.returns-in_err-hand_over-clause-err
 returns-in_err-hand_over-clause-err g c =
     let piece = c.as_bytes.result.now in
     on_err c.from_residual.result _
     (breaks_off_there g.S.Sink c.args.out.now c.loop-i.out c.hand_over.new.out _ _ _ (piece ∷ [])
-    (begins c.args.windows.now c.loop-i.i no_window piece (omega arith) (c.as_bytes.ensures ∙ c.fill_window_line.ensures)) c.in_err-hand_over.ensures.err c.loop-i.invariant)
+    (begins c.args.windows.now c.loop-i.i no_window piece
+    (omega arith) (c.as_bytes.ensures ∙ c.fill_window_line.ensures))
+    c.in_err-hand_over.ensures.err c.loop-i.invariant)
 
 pub returns-clause-ok : goal.returns-clause-ok
 returns-clause-ok g c =
-    written_all g.S.Sink c.args.out.now c.loop-i.out _ _ (ap window_lines (drop_all c.loop-i.i c.args.windows.now (omega arith))) c.loop-i.invariant
+    written_all g.S.Sink c.args.out.now c.loop-i.out _ _
+    (ap window_lines (drop_all c.loop-i.i c.args.windows.now (omega arith))) c.loop-i.invariant

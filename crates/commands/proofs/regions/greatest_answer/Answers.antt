@@ -23,12 +23,17 @@ module _ (regions : List Region) (sorted : List ℕ) (i most : ℕ) (there : i <
   abbrev here : Region
   here = get_or regions i no_region
 
-  one_more : (before looked : ℕ) → before ≤ most → length (codes_inside here sorted) ≤ most → IsLooked here sorted looked →
-      All (Few before) (take i regions) × All Has (take i regions) → All (Few most) (take (i + 1) regions) × All Has (take (i + 1) regions)
+  one_more : (before looked : ℕ) →
+      before ≤ most → length (codes_inside here sorted) ≤ most → IsLooked here sorted looked →
+      All (Few before) (take i regions)
+      × All Has (take i regions) → All (Few most) (take (i + 1) regions) × All Has (take (i + 1) regions)
   one_more before looked below few is so_far = (
-    All-more (Few most) regions i no_region there (All-weaker (Few before) (Few most) (λ region h. omega (arith, h, below)) (take i regions) so_far.0) few,
-    All-more Has regions i no_region there so_far.1
-        (box_line (length (codes_inside here sorted)) looked ∷ map (point_line here.d) (codes_inside here sorted), (looked, is, refl)),
+    All-more (Few most) regions i no_region there
+        (All-weaker (Few before) (Few most) (λ region h. omega (arith, h, below)) (take i regions) so_far.0) few,
+    All-more Has regions i no_region there so_far.1 (
+      box_line (length (codes_inside here sorted)) looked ∷ map (point_line here.d) (codes_inside here sorted),
+      (looked, is, refl),
+    ),
   )
 
 pub loop-i-preserved : goal.loop-i-preserved
@@ -37,10 +42,12 @@ loop-i-preserved c =
     let looked = c.count-count.ensures.looked in
     elim c.if-most-count.branch [
       | then-most-count w ↦
-          one_more c.args.regions.now c.args.boxes.now.codes c.loop-i.i c.if-most-count.most (omega arith) c.loop-i.most c.count-count.result.1
+          one_more c.args.regions.now c.args.boxes.now.codes c.loop-i.i c.if-most-count.most
+          (omega arith) c.loop-i.most c.count-count.result.1
           (omega (arith, w.if-most-count, w.most-is)) (omega (arith, found, w.most-is)) looked c.loop-i.invariant
       | else-most-count w ↦
-          one_more c.args.regions.now c.args.boxes.now.codes c.loop-i.i c.if-most-count.most (omega arith) c.loop-i.most c.count-count.result.1
+          one_more c.args.regions.now c.args.boxes.now.codes c.loop-i.i c.if-most-count.most
+          (omega arith) c.loop-i.most c.count-count.result.1
           (omega (arith, w.most-is)) (omega (arith, found, w.if-most-count, w.most-is)) looked c.loop-i.invariant
     ]
 
@@ -48,6 +55,9 @@ pub returns : goal.returns
 returns c =
     let whole = take_all c.loop-i.i c.args.regions.now (omega arith) in
     record {
-      most = subst (All (λ (region : Region). length (codes_inside region c.args.boxes.now.codes) ≤ c.loop-i.most)) whole c.loop-i.invariant.0;
-      answered = subst (All (λ (region : Region). (pieces : List (List ℕ)) × TellsRegion c.args.boxes.now.codes region pieces)) whole c.loop-i.invariant.1;
+      most = subst (All (λ (region : Region). length (codes_inside region c.args.boxes.now.codes) ≤ c.loop-i.most))
+          whole c.loop-i.invariant.0;
+      answered =
+          subst (All (λ (region : Region). (pieces : List (List ℕ)) × TellsRegion c.args.boxes.now.codes region pieces))
+          whole c.loop-i.invariant.1;
     }

@@ -13,7 +13,8 @@ push_level-requires c =
     omega (
       arith,
       ap length c.segments.ensures.segments,
-      level_few index.keys c.args.bounds.eps c.args.bounds.eps_rec index.levels c.loop-i.i c.requires.never_falls c.requires.few c.requires.index (omega (arith, c.level_count-levels.ensures.count)),
+      level_few index.keys c.args.bounds.eps c.args.bounds.eps_rec index.levels c.loop-i.i
+          c.requires.never_falls c.requires.few c.requires.index (omega (arith, c.level_count-levels.ensures.count)),
     )
 
 pub loop-i-preserved : goal.loop-i-preserved
@@ -24,9 +25,11 @@ loop-i-preserved c =
     c.in_ok-push_level.ensures
     ∙ ap (λ (p : List (List ℕ)). p ++ level_bytes (map saved_run c.segments.result.now) ∷ []) c.loop-i.invariant
     ∙ ap (λ s. (head ∷ level_pieces (take i levels)) ++ level_bytes (map saved_run s) ∷ []) c.segments.ensures.segments
-    ∙ ap (λ (p : List (List ℕ)). head ∷ p) (sym (pieces-more levels i (omega (arith, c.level_count-levels.ensures.count))))
+    ∙ ap (λ (p : List (List ℕ)). head ∷ p)
+    (sym (pieces-more levels i (omega (arith, c.level_count-levels.ensures.count))))
 
 pub returns-clause-pieces : goal.returns-clause-pieces
 returns-clause-pieces c =
     let levels = c.args.index.now.levels in
-    c.loop-i.invariant ∙ ap (λ l. head_bytes c.args.bounds.eps c.args.bounds.eps_rec (length levels) ∷ level_pieces l) (take_all c.loop-i.i levels (omega (arith, c.level_count-levels.ensures.count)))
+    c.loop-i.invariant ∙ ap (λ l. head_bytes c.args.bounds.eps c.args.bounds.eps_rec (length levels) ∷ level_pieces l)
+    (take_all c.loop-i.i levels (omega (arith, c.level_count-levels.ensures.count)))

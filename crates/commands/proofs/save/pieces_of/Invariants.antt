@@ -6,4 +6,5 @@ use Rattle.commands.proofs.save.pieces_of.Given as goal
 -- the head and the levels so far
 abbrev pub invariant-loop-i : goal.invariant-loop-i
 invariant-loop-i l =
-    map (λ piece. piece.items) l.pieces.items ≡ head_bytes l.fn.bounds.eps l.fn.bounds.eps_rec (length l.index.levels) ∷ level_pieces (take l.i l.index.levels)
+    map (λ piece. piece.items) l.pieces.items ≡ head_bytes l.fn.bounds.eps l.fn.bounds.eps_rec (length l.index.levels)
+    ∷ level_pieces (take l.i l.index.levels)

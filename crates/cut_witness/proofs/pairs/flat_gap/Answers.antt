@@ -5,9 +5,14 @@ use Rattle.cut_witness.proofs.PairGaps.{small_sums}
 use Rattle.cut_witness.proofs.pairs.flat_gap.Goals as goal
 
 pub overflow_sub-points : goal.overflow_sub-points
-overflow_sub-points c = omega (arith, slice_index-rises c.args.points.xs.now c.args.a c.args.b c.args.points.rising c.requires.pair c.requires.to_end)
+overflow_sub-points c =
+    omega (
+      arith,
+      slice_index-rises c.args.points.xs.now c.args.a c.args.b c.args.points.rising c.requires.pair c.requires.to_end,
+    )
 
 pub returns-clause-small : goal.returns-clause-small
 returns-clause-small c =
-    small_sums c.from.result c.from-width.result c.from-climb.result c.from-2.result c.from-3.result (2 * c.from-slack.result)
+    small_sums c.from.result c.from-width.result c.from-climb.result c.from-2.result c.from-3.result
+    (2 * c.from-slack.result)
     (omega arith) (omega arith) (omega arith) (omega arith) (omega arith) (omega arith)

@@ -13,34 +13,42 @@ pub returns-then-not-allows : goal.returns-then-not-allows
 returns-then-not-allows c =
     let p = points_in c.args.points in
     let ascends = IsAscending-points_in c.args.points in
-    let pair : IsPair c.args.s c.args.e c.args.a c.args.b = record { from_start = c.if-a-s.false; rises = c.if-b-a.false; to_end = c.if-e-b.false } in
+    let pair : IsPair c.args.s c.args.e c.args.a c.args.b =
+    record { from_start = c.if-a-s.false; rises = c.if-b-a.false; to_end = c.if-e-b.false } in
     record {
       exact = (
         λ never. absurd (cc never),
-        λ has. c.if-not-allows.ensures.exact.1 (subst (λ (g : Gap). Allows g c.args.a c.args.b c.loop-place.place) (sym c.flat_gap-gap.ensures.value)
-            (gaps-from_has_flat p c.args.eps c.args.s c.args.e c.args.a c.args.b ascends c.requires.within pair has c.loop-place.place (omega arith) c.loop-place-test.true)),
+        λ has. c.if-not-allows.ensures.exact.1
+            (subst (λ (g : Gap). Allows g c.args.a c.args.b c.loop-place.place) (sym c.flat_gap-gap.ensures.value)
+            (gaps-from_has_flat p c.args.eps c.args.s c.args.e c.args.a
+            c.args.b ascends c.requires.within pair has c.loop-place.place (omega arith) c.loop-place-test.true)),
       );
     }
 
 pub loop-place-preserved : goal.loop-place-preserved
 loop-place-preserved c = λ j from to.
-    let here : Allows (flat_gap (points_in c.args.points) c.args.eps c.args.a c.args.b c.loop-place.place) c.args.a c.args.b c.loop-place.place =
-    subst (λ (g : Gap). Allows g c.args.a c.args.b c.loop-place.place) c.flat_gap-gap.ensures.value (c.if-not-allows.ensures.exact.0 refl) in
+    let here : Allows (flat_gap (points_in c.args.points) c.args.eps c.args.a c.args.b c.loop-place.place)
+    c.args.a c.args.b c.loop-place.place =
+    subst (λ (g : Gap). Allows g c.args.a c.args.b c.loop-place.place) c.flat_gap-gap.ensures.value
+    (c.if-not-allows.ensures.exact.0 refl) in
     elim (cases_lt j c.loop-place.place) [
       | inl before ↦ c.loop-place.invariant j from before
       | inr last ↦
           let same : c.loop-place.place ≡ j = omega arith in
-          subst (λ (n : ℕ). Allows (flat_gap (points_in c.args.points) c.args.eps c.args.a c.args.b n) c.args.a c.args.b n) same here
+          subst (λ (n : ℕ).
+          Allows (flat_gap (points_in c.args.points) c.args.eps c.args.a c.args.b n) c.args.a c.args.b n) same here
     ]
 
 pub returns : goal.returns
 returns c =
     let p = points_in c.args.points in
     let ascends = IsAscending-points_in c.args.points in
-    let pair : IsPair c.args.s c.args.e c.args.a c.args.b = record { from_start = c.if-a-s.false; rises = c.if-b-a.false; to_end = c.if-e-b.false } in
+    let pair : IsPair c.args.s c.args.e c.args.a c.args.b =
+    record { from_start = c.if-a-s.false; rises = c.if-b-a.false; to_end = c.if-e-b.false } in
     record {
       exact = (
-        λ _. HasFlatPair-from_gaps p c.args.eps c.args.s c.args.e c.args.a c.args.b ascends c.requires.within pair (λ j from to. c.loop-place.invariant j from (omega arith)),
+        λ _. HasFlatPair-from_gaps p c.args.eps c.args.s c.args.e c.args.a c.args.b ascends c.requires.within pair
+            (λ j from to. c.loop-place.invariant j from (omega arith)),
         λ _. refl,
       );
     }

@@ -5,4 +5,5 @@ use Rattle.cut_witness.proofs.pairs.is_flat.Given as goal
 
 -- the line is allowed at each place so far
 abbrev pub invariant-loop-place : goal.invariant-loop-place
-invariant-loop-place l = (j : ℕ) → l.s ≤ j → j < l.place → Allows (flat_gap (points_in l.points) l.eps l.a l.b j) l.a l.b j
+invariant-loop-place l =
+    (j : ℕ) → l.s ≤ j → j < l.place → Allows (flat_gap (points_in l.points) l.eps l.a l.b j) l.a l.b j

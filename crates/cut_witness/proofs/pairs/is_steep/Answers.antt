@@ -14,7 +14,8 @@ returns-then-a-s c =
     let one : c.args.e ≡ c.args.s + 1 = omega arith in
     record {
       exact = (
-        λ test. HasSteepPair-alone (points_in c.args.points) c.args.eps c.args.s c.args.e c.args.a c.args.b one c.if-a-s.true (eqb-true _ _ test),
+        λ test. HasSteepPair-alone (points_in c.args.points)
+            c.args.eps c.args.s c.args.e c.args.a c.args.b one c.if-a-s.true (eqb-true _ _ test),
         λ has. eq-eqb _ _ (has.pair.alone one).1,
       );
     }
@@ -23,34 +24,42 @@ pub returns-then-not-allows : goal.returns-then-not-allows
 returns-then-not-allows c =
     let p = points_in c.args.points in
     let ascends = IsAscending-points_in c.args.points in
-    let pair : IsPair c.args.s c.args.e c.args.a c.args.b = record { from_start = c.if-a-s-2.false; rises = c.if-b-a.false; to_end = c.if-e-b.false } in
+    let pair : IsPair c.args.s c.args.e c.args.a c.args.b =
+    record { from_start = c.if-a-s-2.false; rises = c.if-b-a.false; to_end = c.if-e-b.false } in
     record {
       exact = (
         λ never. absurd (cc never),
-        λ has. c.if-not-allows.ensures.exact.1 (subst (λ (g : Gap). Allows g c.args.a c.args.b c.loop-place.place) (sym c.steep_gap-gap.ensures.value)
-            (gaps-from_has_steep p c.args.eps c.args.s c.args.e c.args.a c.args.b ascends c.requires.within pair (omega arith) has c.loop-place.place (omega arith) c.loop-place-test.true)),
+        λ has. c.if-not-allows.ensures.exact.1
+            (subst (λ (g : Gap). Allows g c.args.a c.args.b c.loop-place.place) (sym c.steep_gap-gap.ensures.value)
+            (gaps-from_has_steep p c.args.eps c.args.s c.args.e c.args.a c.args.b ascends c.requires.within pair
+            (omega arith) has c.loop-place.place (omega arith) c.loop-place-test.true)),
       );
     }
 
 pub loop-place-preserved : goal.loop-place-preserved
 loop-place-preserved c = λ j from to.
-    let here : Allows (steep_gap (points_in c.args.points) c.args.eps c.args.a c.args.b c.loop-place.place) c.args.a c.args.b c.loop-place.place =
-    subst (λ (g : Gap). Allows g c.args.a c.args.b c.loop-place.place) c.steep_gap-gap.ensures.value (c.if-not-allows.ensures.exact.0 refl) in
+    let here : Allows (steep_gap (points_in c.args.points) c.args.eps c.args.a c.args.b c.loop-place.place)
+    c.args.a c.args.b c.loop-place.place =
+    subst (λ (g : Gap). Allows g c.args.a c.args.b c.loop-place.place) c.steep_gap-gap.ensures.value
+    (c.if-not-allows.ensures.exact.0 refl) in
     elim (cases_lt j c.loop-place.place) [
       | inl before ↦ c.loop-place.invariant j from before
       | inr last ↦
           let same : c.loop-place.place ≡ j = omega arith in
-          subst (λ (n : ℕ). Allows (steep_gap (points_in c.args.points) c.args.eps c.args.a c.args.b n) c.args.a c.args.b n) same here
+          subst (λ (n : ℕ).
+          Allows (steep_gap (points_in c.args.points) c.args.eps c.args.a c.args.b n) c.args.a c.args.b n) same here
     ]
 
 pub returns : goal.returns
 returns c =
     let p = points_in c.args.points in
     let ascends = IsAscending-points_in c.args.points in
-    let pair : IsPair c.args.s c.args.e c.args.a c.args.b = record { from_start = c.if-a-s-2.false; rises = c.if-b-a.false; to_end = c.if-e-b.false } in
+    let pair : IsPair c.args.s c.args.e c.args.a c.args.b =
+    record { from_start = c.if-a-s-2.false; rises = c.if-b-a.false; to_end = c.if-e-b.false } in
     record {
       exact = (
-        λ _. HasSteepPair-from_gaps p c.args.eps c.args.s c.args.e c.args.a c.args.b ascends c.requires.within pair (omega arith) (λ j from to. c.loop-place.invariant j from (omega arith)),
+        λ _. HasSteepPair-from_gaps p c.args.eps c.args.s c.args.e c.args.a c.args.b ascends c.requires.within pair
+            (omega arith) (λ j from to. c.loop-place.invariant j from (omega arith)),
         λ _. refl,
       );
     }

@@ -7,4 +7,5 @@ use Rattle.drill_inputs.proofs.lists.coordinates.Given as goal
 
 abbrev pub invariant-loop-place : goal.invariant-loop-place
 invariant-loop-place l = (seed : ℕ) → l.initial.generator ≡ state_after seed (2 * l.n) →
-    (l.coordinates.items ≡ map (coordinate_at l.n seed) (range_with_len 0 l._place)) × (l.generator ≡ state_after seed (2 * l.n + l._place))
+    (l.coordinates.items ≡ map (coordinate_at l.n seed) (range_with_len 0 l._place))
+    × (l.generator ≡ state_after seed (2 * l.n + l._place))

@@ -15,12 +15,15 @@ loop-place-preserved c = λ seed from.
     let draw = drawn-here seed (n + i) c.loop-place.generator c.next.result inv.1 c.next.ensures.draw in
     let pushed : c.push.new.self.items ≡ c.loop-place.finds.items ++ c.from.result ∷ [] = search rules in
     let next : n + i + 1 ≡ n + (i + 1) = omega arith in (
-      pushed ∙ made-more (find_at n seed) i c.loop-place.finds.items c.from.result inv.0 (c.from.ensures ∙ ap (λ d. d % (16 * n)) draw),
-      subst (λ (k : ℕ). c.next.new.self ≡ state_after seed k) next (state-next seed (n + i) c.loop-place.generator c.next.new.self inv.1 c.next.ensures.state),
+      pushed ∙ made-more (find_at n seed) i c.loop-place.finds.items c.from.result inv.0
+          (c.from.ensures ∙ ap (λ d. d % (16 * n)) draw),
+      subst (λ (k : ℕ). c.next.new.self ≡ state_after seed k) next
+          (state-next seed (n + i) c.loop-place.generator c.next.new.self inv.1 c.next.ensures.state),
     )
 
 pub returns-clause-finds : goal.returns-clause-finds
 unfolding finds_of
 returns-clause-finds c = λ seed from.
     let at_end : c.loop-place._place ≡ c.args.n = omega arith in
-    subst (λ (m : ℕ). c.loop-place.finds.items ≡ map (find_at c.args.n seed) (range_with_len 0 m)) at_end (c.loop-place.invariant seed from).0
+    subst (λ (m : ℕ). c.loop-place.finds.items ≡ map (find_at c.args.n seed) (range_with_len 0 m)) at_end
+    (c.loop-place.invariant seed from).0

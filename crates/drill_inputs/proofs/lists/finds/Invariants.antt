@@ -7,4 +7,5 @@ use Rattle.drill_inputs.proofs.lists.finds.Given as goal
 
 abbrev pub invariant-loop-place : goal.invariant-loop-place
 invariant-loop-place l = (seed : ℕ) → l.initial.generator ≡ state_after seed l.n →
-    (l.finds.items ≡ map (find_at l.n seed) (range_with_len 0 l._place)) × (l.generator ≡ state_after seed (l.n + l._place))
+    (l.finds.items ≡ map (find_at l.n seed) (range_with_len 0 l._place))
+    × (l.generator ≡ state_after seed (l.n + l._place))

@@ -22,11 +22,13 @@ loop-place-preserved c = λ seed from.
     let pushed : c.push.new.self.items ≡ c.loop-place.updates.items ++ c.update_by.result ∷ [] = search rules in
     let next : at + 1 + 1 ≡ 4 * n + 2 * (i + 1) = omega arith in (
       pushed ∙ made-more (update_at n seed) i c.loop-place.updates.items c.update_by.result inv.0 item,
-      subst (λ (k : ℕ). c.next-draw.new.self ≡ state_after seed k) next (state-next seed (at + 1) c.next.new.self c.next-draw.new.self between c.next-draw.ensures.state),
+      subst (λ (k : ℕ). c.next-draw.new.self ≡ state_after seed k) next
+          (state-next seed (at + 1) c.next.new.self c.next-draw.new.self between c.next-draw.ensures.state),
     )
 
 pub returns : goal.returns
 unfolding updates_of
 returns c = λ seed from.
     let at_end : c.loop-place._place ≡ c.args.n = omega arith in
-    subst (λ (m : ℕ). c.loop-place.updates.items ≡ map (update_at c.args.n seed) (range_with_len 0 m)) at_end (c.loop-place.invariant seed from).0
+    subst (λ (m : ℕ). c.loop-place.updates.items ≡ map (update_at c.args.n seed) (range_with_len 0 m)) at_end
+    (c.loop-place.invariant seed from).0

@@ -10,7 +10,8 @@ returns-then-n-eq0-clause-reading g c =
     record {
       files = read.files ∙ before.so_far.files;
       quiet = read.cause.ok ∙ before.so_far.quiet;
-      read = fill-ends _ _ _ _ _ _ _ _ _ before.in_range (simp (length-take, length-drop) (omega arith)) c.if-n-eq0.true before.so_far.read read.next;
+      read = fill-ends _ _ _ _ _ _ _ _ _ before.in_range
+          (simp (length-take, length-drop) (omega arith)) c.if-n-eq0.true before.so_far.read read.next;
     }
 
 pub loop-filled-preserved : goal.loop-filled-preserved
@@ -22,6 +23,7 @@ loop-filled-preserved g c =
       so_far = record {
         files = read.files ∙ before.so_far.files;
         quiet = read.cause.ok ∙ before.so_far.quiet;
-        read = fill-more _ _ _ _ _ _ _ _ _ before.in_range (omega (arith, read.within, c.read.auto.buf)) before.so_far.read read.next;
+        read = fill-more _ _ _ _ _ _ _ _ _ before.in_range
+            (omega (arith, read.within, c.read.auto.buf)) before.so_far.read read.next;
       };
     }

@@ -15,4 +15,7 @@ pub returns-clause-place : goal.returns-clause-place
 unfolding IsTold
 returns-clause-place c =
     let whole = c.in-Some.ensures.whole in
-    inl (whole.0, (c.lines_begun-begun.result, rw whole.1 at c.lines_begun-begun.ensures, rw whole.1 at c.place_told.ensures.told))
+    inl (
+      whole.0,
+      (c.lines_begun-begun.result, rw whole.1 at c.lines_begun-begun.ensures, rw whole.1 at c.place_told.ensures.told),
+    )

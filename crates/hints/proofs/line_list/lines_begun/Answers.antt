@@ -9,6 +9,10 @@ returns-then-q-eq18446744073709551615 g c =
     let count = length-first_xs lines in
     record {
       within = omega (arith, count);
-      before = λ some. omega (arith, first_xs-at lines (length lines / 3 - 1) (omega arith), c.type_inv.lines (3 * (length lines / 3 - 1)));
+      before = λ some. omega (
+        arith,
+        first_xs-at lines (length lines / 3 - 1) (omega arith),
+        c.type_inv.lines (3 * (length lines / 3 - 1)),
+      );
       at = λ less. absurd (omega (arith, count, less));
     }

@@ -12,8 +12,10 @@ loop-left-init g c =
     record {
       some = c.requires.some;
       same = c.set_out.ensures.same;
-      open_places = λ k from to. set_room (length keys) width _ _ _ last c.requires.some c.requires.within (c.set_out.ensures.back k from to);
-      near = λ order near k from to. set_near keys _ width _ _ _ order last c.requires.some c.requires.within (c.set_out.ensures.back k from to) (near k from to);
+      open_places = λ k from to.
+          set_room (length keys) width _ _ _ last c.requires.some c.requires.within (c.set_out.ensures.back k from to);
+      near = λ order near k from to. set_near keys _ width _ _ _ order last c.requires.some c.requires.within
+          (c.set_out.ensures.back k from to) (near k from to);
       halved = AreHalved-none _ _ width c.requires.some;
     }
 

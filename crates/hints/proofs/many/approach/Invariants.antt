@@ -11,7 +11,8 @@ invariant-loop-left g l = record {
   some : 1 ≤ l.left;
   same : IsSameOutside l.first l.end l.fn.places l.places;
   open_places : HaveRoom l.keys l.places l.first l.end l.left;
-  near : IsNonDecreasing l.keys → AreNear l.keys l.questions l.fn.places l.first l.end l.width → HoldBounds l.keys l.questions l.places l.first l.end l.left;
+  near : IsNonDecreasing l.keys → AreNear l.keys l.questions l.fn.places l.first l.end l.width →
+      HoldBounds l.keys l.questions l.places l.first l.end l.left;
   halved : AreHalved (l.end - l.first) l.fn.steps l.steps l.width l.left;
 }
 

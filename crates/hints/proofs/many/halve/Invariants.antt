@@ -9,6 +9,7 @@ abbrev pub invariant-loop-lane : goal.invariant-loop-lane
 invariant-loop-lane g l = record {
   same : IsSameOutside l.first l.lane l.fn.places l.places;
   open_places : HaveRoom l.keys l.places l.first l.lane (l.left - l.left / 2);
-  near : IsNonDecreasing l.keys → HoldBounds l.keys l.questions l.fn.places l.first l.end l.left → HoldBounds l.keys l.questions l.places l.first l.lane (l.left - l.left / 2);
+  near : IsNonDecreasing l.keys → HoldBounds l.keys l.questions l.fn.places l.first l.end l.left →
+      HoldBounds l.keys l.questions l.places l.first l.lane (l.left - l.left / 2);
   taken : l.steps ≡ l.fn.steps + (l.lane - l.first);
 }

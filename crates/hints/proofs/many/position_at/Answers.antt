@@ -18,7 +18,8 @@ pub returns-then-is_bracket-clause-near : goal.returns-then-is_bracket-clause-ne
 returns-then-is_bracket-clause-near g c = λ order holds. TakesEach-two 4 _ _ c.is_bracket.ensures.cost (omega arith)
 
 pub returns-clause-worst : goal.returns-clause-worst
-returns-clause-worst g c = TakesEach-halved (length c.args.keys.now + 1) _ _ _ c.is_bracket.ensures.cost c.bracket_of.ensures.cost
+returns-clause-worst g c =
+    TakesEach-halved (length c.args.keys.now + 1) _ _ _ c.is_bracket.ensures.cost c.bracket_of.ensures.cost
 
 pub returns-clause-near : goal.returns-clause-near
 returns-clause-near g c = λ order (from, to).

@@ -10,7 +10,8 @@ invariant-loop-first g l = record {
   found : ArePositions l.keys l.questions l.places l.first;
   same : IsSameOutside 0 l.first l.fn.places l.places;
   worst : ReadsEachWithin 16 (length l.keys) l.first l.fn.steps l.steps;
-  near : IsNonDecreasing l.keys → LeadsWithin l.hints l.keys (slice_index l.hints 1 + 2) → ReadsEachWithin 16 (slice_index l.hints 1 + 2) l.first l.fn.steps l.steps;
+  near : IsNonDecreasing l.keys → LeadsWithin l.hints l.keys (slice_index l.hints 1 + 2) →
+      ReadsEachWithin 16 (slice_index l.hints 1 + 2) l.first l.fn.steps l.steps;
 }
 
 abbrev pub decreases-loop-first : goal.decreases-loop-first

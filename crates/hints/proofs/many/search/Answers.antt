@@ -23,9 +23,11 @@ loop-lane-preserved g c =
     let next : lane + 1 - c.args.first ≡ lane - c.args.first + 1 = omega arith in
     record {
       same = same_outside_set _ lane _ _ c.loop-lane.places (omega arith) inv.same;
-      found = each_set (λ (k place : ℕ). IsPosition keys (slice_index questions k) place) c.loop-lane.places _ lane _ (omega (arith, c.loop-lane.auto.places)) inv.found c.position_at.ensures.place;
+      found = each_set (λ (k place : ℕ). IsPosition keys (slice_index questions k) place) c.loop-lane.places _ lane _
+          (omega (arith, c.loop-lane.auto.places)) inv.found c.position_at.ensures.place;
       worst = rw next (TakesEach-more _ _ _ _ _ _ inv.worst c.position_at.ensures.worst);
       near = λ order bounds.
-          let here = subst (λ (place : ℕ). HoldsBound keys (slice_index questions lane) place 1) (sym old) (bounds lane (omega arith) (omega arith)) in
+          let here = subst (λ (place : ℕ). HoldsBound keys (slice_index questions lane) place 1)
+          (sym old) (bounds lane (omega arith) (omega arith)) in
           rw next (TakesEach-more _ _ _ _ _ _ (inv.near order bounds) (c.position_at.ensures.near order here));
     }

@@ -11,6 +11,7 @@ loop-lane-preserved c =
     let old = inv.same lane (inr (omega arith)) in
     record {
       same = same_outside_set _ lane _ _ c.loop-lane.places (omega arith) inv.same;
-      each = each_set (λ (k place : ℕ). place ≡ min (slice_index before k - c.args.back) c.args.last) c.loop-lane.places _ lane _ (omega (arith, c.loop-lane.auto.places)) inv.each
+      each = each_set (λ (k place : ℕ). place ≡ min (slice_index before k - c.args.back) c.args.last)
+          c.loop-lane.places _ lane _ (omega (arith, c.loop-lane.auto.places)) inv.each
           (omega (arith, old, c.saturating_sub.ensures, c.min.ensures));
     }

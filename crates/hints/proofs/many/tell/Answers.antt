@@ -10,5 +10,7 @@ loop-lane-preserved c =
     let questions = c.args.questions.now in
     record {
       same = same_outside_set _ c.loop-lane.lane _ _ c.loop-lane.places (omega arith) inv.same;
-      each = each_set (λ (k place : ℕ). IsTold c.args.hints.now c.args.n (slice_index questions k) place) c.loop-lane.places _ c.loop-lane.lane _ (omega (arith, c.loop-lane.auto.places)) inv.each c.told.ensures.place;
+      each = each_set
+          (λ (k place : ℕ). IsTold c.args.hints.now c.args.n (slice_index questions k) place) c.loop-lane.places
+          _ c.loop-lane.lane _ (omega (arith, c.loop-lane.auto.places)) inv.each c.told.ensures.place;
     }

@@ -9,5 +9,6 @@ loop-step-init c = (omega arith, record { long = omega arith; same = λ k inside
 pub loop-step-preserved : goal.loop-step-preserved
 loop-step-preserved c = (
   c.begun_before-begun.ensures,
-  AddsHints-more c.args.head.now.items c.loop-step.head.items _ c.loop-step.step _ c.in_ok-push.ensures.items c.loop-step.invariant.1,
+  AddsHints-more c.args.head.now.items
+      c.loop-step.head.items _ c.loop-step.step _ c.in_ok-push.ensures.items c.loop-step.invariant.1,
 )

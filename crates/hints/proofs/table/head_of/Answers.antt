@@ -12,5 +12,6 @@ returns c =
       bound = adds.same 1 (omega arith) ∙ ap (λ (l : List ℕ). slice_index l 1) first ∙ omega (arith, c.from.ensures);
       count = adds.same 2 (omega arith) ∙ ap (λ (l : List ℕ). slice_index l 2) first;
       long = omega (arith, adds.long, adds.same 3 (omega arith), ap (λ (l : List ℕ). slice_index l 3) first);
-      table = omega (arith, adds.same 3 (omega arith), ap (λ (l : List ℕ). slice_index l 3) first, c.cuts_of-cuts.ensures);
+      table =
+          omega (arith, adds.same 3 (omega arith), ap (λ (l : List ℕ). slice_index l 3) first, c.cuts_of-cuts.ensures);
     }

@@ -7,7 +7,8 @@ abbrev pub invariant-loop-kept : goal.invariant-loop-kept
 invariant-loop-kept g l = record {
   some : l.tangent < l.kept;
   inside : l.kept ≤ length l.vertices;
-  dropped : (k : ℕ) → l.kept ≤ k + 1 → k + 1 < length l.vertices → IsNoTurn (vertex_at l.vertices k) (vertex_at l.vertices (k + 1)) l.next;
+  dropped : (k : ℕ) → l.kept ≤ k + 1 →
+      k + 1 < length l.vertices → IsNoTurn (vertex_at l.vertices k) (vertex_at l.vertices (k + 1)) l.next;
   cost : l.steps + l.kept ≤ l.fn.steps + length l.vertices;
 }
 

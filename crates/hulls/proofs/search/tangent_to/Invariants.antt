@@ -9,7 +9,8 @@ invariant-loop-vertex g l = record {
   onward : l.from ≤ l.vertex;
   inside : l.vertex < length l.vertices;
   slope : l.slope.slope ≡ lifted_slope (vertex_at l.vertices l.vertex) l.next l.lift;
-  falls : (k : ℕ) → l.from ≤ k → k < l.vertex → IsAtMost (lifted_slope (vertex_at l.vertices k) l.next l.lift) (lifted_slope (vertex_at l.vertices (k + 1)) l.next l.lift) → ⊥;
+  falls : (k : ℕ) → l.from ≤ k → k < l.vertex → IsAtMost (lifted_slope (vertex_at l.vertices k) l.next l.lift)
+      (lifted_slope (vertex_at l.vertices (k + 1)) l.next l.lift) → ⊥;
   cost : l.steps + l.from ≤ l.fn.steps + l.vertex;
 }
 

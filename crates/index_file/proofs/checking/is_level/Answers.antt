@@ -13,7 +13,8 @@ returns-then-not-is_run c =
       exact = (
         λ never. absurd (cc never),
         λ saved. c.if-not-is_run.ensures.exact.1
-            (judged_before p c.args.eps c.loop-i.i c.loop-i.end c.args.runs.now _ c.loop-i-test.true c.loop-i.auto.i c.loop-i.invariant.end
+            (judged_before p c.args.eps
+            c.loop-i.i c.loop-i.end c.args.runs.now _ c.loop-i-test.true c.loop-i.auto.i c.loop-i.invariant.end
             (judged-from_saved p c.args.eps c.args.runs.now saved).1),
       );
     }
@@ -25,7 +26,9 @@ returns c =
     let ascends = IsAscending-points_in c.args.points in
     record {
       exact = (
-        λ test. IsSavedSegmentation-from_judged p c.args.eps c.args.runs.now ascends (sym (rw none at c.loop-i.invariant.end) ∙ eqb-true _ _ test) (rw none at c.loop-i.invariant.judged),
-        λ saved. eq-eqb _ _ ((rw none at c.loop-i.invariant.end) ∙ (judged-from_saved p c.args.eps c.args.runs.now saved).0),
+        λ test. IsSavedSegmentation-from_judged p c.args.eps c.args.runs.now ascends
+            (sym (rw none at c.loop-i.invariant.end) ∙ eqb-true _ _ test) (rw none at c.loop-i.invariant.judged),
+        λ saved.
+            eq-eqb _ _ ((rw none at c.loop-i.invariant.end) ∙ (judged-from_saved p c.args.eps c.args.runs.now saved).0),
       );
     }

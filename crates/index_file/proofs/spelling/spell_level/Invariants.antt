@@ -6,4 +6,5 @@ use Rattle.index_file.proofs.spelling.spell_level.Given as goal
 
 -- so far the bytes are those of the number of runs and of so many runs
 abbrev pub invariant-loop-segment : goal.invariant-loop-segment
-invariant-loop-segment l = l.bytes.items ≡ number (length l.segments) ++ flat_map run_bytes (map saved_run (take l.segment-index l.segments))
+invariant-loop-segment l =
+    l.bytes.items ≡ number (length l.segments) ++ flat_map run_bytes (map saved_run (take l.segment-index l.segments))

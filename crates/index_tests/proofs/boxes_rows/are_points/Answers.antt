@@ -11,5 +11,6 @@ returns g c =
       count = n / c.args.d;
       few = omega (arith, div-le_self n c.args.d, c.loop-value.invariant.few);
       whole = omega (arith, c.loop-value.invariant.whole);
-      range = All-from_get_or (λ value. value < 2 ^ coordinate_bits c.args.d) c.args.points.now 0 (λ i inside. c.loop-value.invariant.range i (omega arith));
+      range = All-from_get_or (λ value. value < 2 ^ coordinate_bits c.args.d) c.args.points.now 0
+          (λ i inside. c.loop-value.invariant.range i (omega arith));
     }

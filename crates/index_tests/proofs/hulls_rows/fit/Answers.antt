@@ -6,6 +6,7 @@ use Rattle.index_tests.proofs.hulls_rows.fit.Goals as goal
 
 pub loop-place-init : goal.loop-place-init
 loop-place-init g c = record {
-  stands = rw c.in_ok-hulls.ensures.bound at (c.start.ensures.stands (points_in c.args.points) (IsAscending-points_in c.args.points) (omega arith) refl refl);
+  stands = rw c.in_ok-hulls.ensures.bound at
+      (c.start.ensures.stands (points_in c.args.points) (IsAscending-points_in c.args.points) (omega arith) refl refl);
   room = omega (arith, c.in_ok-hulls.ensures.room, c.start.ensures.room);
 }

@@ -7,7 +7,8 @@ pub returns : goal.returns
 returns c = λ yes. record {
   are = record {
     rise = λ k inside. c.loop-cut.invariant.rise k (omega arith);
-    inside = All-from_get_or (λ (cut : ℕ). (0 < cut) × (cut < c.args.m)) c.args.cuts.now 0 (λ k inside. c.loop-cut.invariant.inside k (omega arith));
+    inside = All-from_get_or (λ (cut : ℕ). (0 < cut) × (cut < c.args.m)) c.args.cuts.now 0
+        (λ k inside. c.loop-cut.invariant.inside k (omega arith));
   };
   few = omega arith;
 }

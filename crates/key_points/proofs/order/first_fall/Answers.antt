@@ -21,7 +21,12 @@ loop-place-preserved c = λ k less. elim (cases_lt k c.loop-place.place) [
   | inl low ↦ c.loop-place.invariant k low
   | inr rest ↦
       let same : k ≡ c.loop-place.place = omega arith in
-      omega (arith, c.if-keys-place.false, ap (λ j. slice_index c.args.keys.now (j - 1)) same, ap (slice_index c.args.keys.now) same)
+      omega (
+        arith,
+        c.if-keys-place.false,
+        ap (λ j. slice_index c.args.keys.now (j - 1)) same,
+        ap (slice_index c.args.keys.now) same,
+      )
 ]
 
 pub returns-clause-none : goal.returns-clause-none
@@ -29,4 +34,8 @@ returns-clause-none c = λ none.
     let keys = c.args.keys.now in
     IsNonDecreasing-from_neighbours keys (λ k inside.
     let here : k + 1 - 1 ≡ k = omega arith in
-    omega (arith, c.loop-place.invariant (k + 1) (omega (arith, c.loop-place-test.false, inside)), ap (slice_index keys) here))
+    omega (
+      arith,
+      c.loop-place.invariant (k + 1) (omega (arith, c.loop-place-test.false, inside)),
+      ap (slice_index keys) here,
+    ))

@@ -9,9 +9,12 @@ when_true : (P Q : Type 0) (b : Bool) → MatchBool b P Q → IsTrue b → P
 when_true P Q true h t = h
 when_true P Q false h t = absurd (cc t)
 
-when_sorted : (keys : List ℕ) (b : Bool) → MatchBool b (IsNonDecreasing keys) ((k : ℕ) × (k + 1 < length keys) × ((d : ℕ) → get_or keys (k + 1) d < get_or keys k d)) → IsNonDecreasing keys → IsTrue b
+when_sorted : (keys : List ℕ) (b : Bool) → MatchBool b
+    (IsNonDecreasing keys) ((k : ℕ) × (k + 1 < length keys) × ((d : ℕ) → get_or keys (k + 1) d < get_or keys k d)) →
+    IsNonDecreasing keys → IsTrue b
 when_sorted keys true h order = refl
-when_sorted keys false (k, inside, falls) order = absurd (omega (arith, order k (k + 1) 0 (omega arith) inside, falls 0))
+when_sorted keys false (k, inside, falls) order =
+    absurd (omega (arith, order k (k + 1) 0 (omega arith) inside, falls 0))
 
 pub returns : goal.returns
 returns c =

@@ -27,8 +27,10 @@ loop-at-preserved c =
     let told = c.is_closed_group.ensures in
     elim c.if-is_closed_group.branch [
       | then-is_closed_group w ↦
-          let is = points-closed file at end c.requires.never_falls start group (sym told.closed ∙ w.if-is_closed_group.true) in
-          let more = ap length (xs-more file at end c.requires.never_falls start group (key ∷ (key + 1) ∷ []) is) ∙ length-append so_far (key ∷ (key + 1) ∷ []) in
+          let is = points-closed file at end c.requires.never_falls start group
+          (sym told.closed ∙ w.if-is_closed_group.true) in
+          let more = ap length (xs-more file at end c.requires.never_falls start group (key ∷ (key + 1) ∷ []) is)
+          ∙ length-append so_far (key ∷ (key + 1) ∷ []) in
           record {
             inside = group.within;
             counted = omega (arith, inv.counted, w.points-is, more);
@@ -36,8 +38,10 @@ loop-at-preserved c =
             start = λ some. next-group file at end start group some;
           }
       | else-is_closed_group w ↦
-          let is = points-alone file at end c.requires.never_falls start group (sym told.closed ∙ w.if-is_closed_group.false) in
-          let more = ap length (xs-more file at end c.requires.never_falls start group (key ∷ []) is) ∙ length-append so_far (key ∷ []) in
+          let is = points-alone file at end c.requires.never_falls start group
+          (sym told.closed ∙ w.if-is_closed_group.false) in
+          let more = ap length (xs-more file at end c.requires.never_falls start group (key ∷ []) is)
+          ∙ length-append so_far (key ∷ []) in
           record {
             inside = group.within;
             counted = omega (arith, inv.counted, w.points-is, more);

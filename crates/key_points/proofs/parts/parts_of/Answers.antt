@@ -9,7 +9,8 @@ add_group-requires-clause-xs_room c =
     let inv = c.loop-at.invariant in
     omega (
       arith,
-      group-more c.args.file.now c.loop-at.at c.end_of-end.result c.requires.never_falls (inv.start c.loop-at-test.true) c.end_of-end.ensures,
+      group-more c.args.file.now c.loop-at.at c.end_of-end.result c.requires.never_falls
+          (inv.start c.loop-at-test.true) c.end_of-end.ensures,
       c.requires.counted,
       c.end_of-end.ensures.some,
       c.end_of-end.ensures.within,
@@ -23,7 +24,8 @@ add_group-requires-clause-ys_room c =
     let inv = c.loop-at.invariant in
     omega (
       arith,
-      group-more c.args.file.now c.loop-at.at c.end_of-end.result c.requires.never_falls (inv.start c.loop-at-test.true) c.end_of-end.ensures,
+      group-more c.args.file.now c.loop-at.at c.end_of-end.result c.requires.never_falls
+          (inv.start c.loop-at-test.true) c.end_of-end.ensures,
       c.requires.counted,
       c.end_of-end.ensures.some,
       c.end_of-end.ensures.within,
@@ -41,7 +43,8 @@ loop-at-preserved c =
     let start = inv.start c.loop-at-test.true in
     let group = c.end_of-end.ensures in
     let more : length (distinct_of (take end file)) ≡ length (distinct_of (take at file)) + 1 =
-    ap length (distinct_of-group file at end c.requires.never_falls start group) ∙ length-append (distinct_of (take at file)) (slice_index file at ∷ []) in
+    ap length (distinct_of-group file at end c.requires.never_falls start group)
+    ∙ length-append (distinct_of (take at file)) (slice_index file at ∷ []) in
     let added = c.add_group.ensures in
     record {
       holds = added.holds;

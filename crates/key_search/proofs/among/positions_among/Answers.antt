@@ -12,14 +12,16 @@ loop-sorted-preserved c =
     let split = c.split_at in
     let pushed = c.push_bounds in
     record {
-      before = split_more f c.min.result c.args.qs.now rest _ _ c.args.into.now.items c.loop-sorted.into.items _ split.ensures.front split.ensures.back pushed.ensures.positions inv.before;
+      before = split_more f c.min.result c.args.qs.now rest _ _ c.args.into.now.items
+          c.loop-sorted.into.items _ split.ensures.front split.ensures.back pushed.ensures.positions inv.before;
       room = omega (
         arith,
         inv.room,
         pushed.ensures.capacity,
         c.loop-sorted.into.ok.0,
         pushed.new.into.ok.0,
-        split_left f c.min.result rest _ _ c.loop-sorted.into.items _ split.ensures.front split.ensures.back pushed.ensures.positions,
+        split_left f c.min.result
+            rest _ _ c.loop-sorted.into.items _ split.ensures.front split.ensures.back pushed.ensures.positions,
       );
       capacity = omega (arith, inv.capacity, pushed.ensures.capacity);
     }

@@ -10,7 +10,8 @@ short_of shift few = elim (cases_lt shift 32) [
   | inl less ↦ less
   | inr more ↦ elim (cases_lt 32 shift) [
     | inl long ↦ absurd (omega (arith, few, pow_below 32 shift long))
-    | inr same ↦ let is : shift ≡ 32 = omega arith in absurd (subst (λ (n : ℕ). 2 ^ n < 4294967296 → ⊥) (sym is) (λ less. omega (arith, less)) few)
+    | inr same ↦ let is : shift ≡ 32 = omega arith in
+        absurd (subst (λ (n : ℕ). 2 ^ n < 4294967296 → ⊥) (sym is) (λ less. omega (arith, less)) few)
   ]
 ]
 
@@ -20,5 +21,6 @@ loop-shift-init c =
     let few : 2 ^ shift < 4294967296 = omega (arith, c.ilog2-shift.ensures.power_le, c.requires.most) in
     record {
       short = short_of shift few;
-      bounds = subst (HaveBounds c.args.list.now c.args.qs.now c.halve_bounds.new.bases) (omega (arith, few)) c.halve_bounds.ensures;
+      bounds = subst (HaveBounds c.args.list.now c.args.qs.now c.halve_bounds.new.bases)
+          (omega (arith, few)) c.halve_bounds.ensures;
     }

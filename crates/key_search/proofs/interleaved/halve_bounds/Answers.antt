@@ -16,12 +16,18 @@ loop-lane-preserved c =
     let base = slice_index bases lane in
     let here : HasBound list q base c.args.count = inv.rest lane (omega arith) c.loop-lane-test.true in
     let value : HasBound list q c.if-sorted-middle.bases (c.args.count - c.args.half) = elim c.if-sorted-middle.branch [
-      | then-sorted-middle w ↦ rw w.bases-is (HasBound-upper list q base c.args.count c.args.half c.args.sorted.never_falls c.requires.some c.requires.half here w.if-sorted-middle.true)
-      | else-sorted-middle w ↦ rw w.bases-is (HasBound-lower list q base c.args.count c.args.half c.args.sorted.never_falls c.requires.some c.requires.most here w.if-sorted-middle.false)
+      | then-sorted-middle w ↦ rw w.bases-is
+          (HasBound-upper list q base c.args.count
+          c.args.half c.args.sorted.never_falls c.requires.some c.requires.half here w.if-sorted-middle.true)
+      | else-sorted-middle w ↦ rw w.bases-is
+          (HasBound-lower list q base c.args.count
+          c.args.half c.args.sorted.never_falls c.requires.some c.requires.most here w.if-sorted-middle.false)
     ] in
     record {
       lanes = length-set bases lane c.if-sorted-middle.bases ∙ inv.lanes;
-      done = lane_done (λ (k b : ℕ). HasBound list (slice_index c.args.qs.now k) b (c.args.count - c.args.half)) bases lane c.if-sorted-middle.bases
+      done = lane_done (λ (k b : ℕ). HasBound list (slice_index c.args.qs.now k) b (c.args.count - c.args.half))
+          bases lane c.if-sorted-middle.bases
           (omega (arith, inv.lanes, c.loop-lane-test.true)) inv.done value;
-      rest = lane_rest (λ (k b : ℕ). HasBound list (slice_index c.args.qs.now k) b c.args.count) bases lane c.if-sorted-middle.bases inv.rest;
+      rest = lane_rest (λ (k b : ℕ). HasBound list (slice_index c.args.qs.now k) b c.args.count)
+          bases lane c.if-sorted-middle.bases inv.rest;
     }

@@ -14,7 +14,9 @@ loop-lane-preserved c =
     let half = 2 ^ c.args.shift in
     record {
       lanes = length-set bases lane c.halved_evenly.result ∙ inv.lanes;
-      done = lane_done (λ (k b : ℕ). HasBound list (slice_index c.args.qs.now k) b half) bases lane c.halved_evenly.result
+      done =
+          lane_done (λ (k b : ℕ). HasBound list (slice_index c.args.qs.now k) b half) bases lane c.halved_evenly.result
           (omega (arith, inv.lanes, c.loop-lane-test.true)) inv.done c.halved_evenly.ensures;
-      rest = lane_rest (λ (k b : ℕ). HasBound list (slice_index c.args.qs.now k) b (2 * half)) bases lane c.halved_evenly.result inv.rest;
+      rest = lane_rest (λ (k b : ℕ). HasBound list (slice_index c.args.qs.now k) b (2 * half))
+          bases lane c.halved_evenly.result inv.rest;
     }

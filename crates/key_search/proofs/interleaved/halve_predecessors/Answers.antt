@@ -16,12 +16,17 @@ loop-lane-preserved c =
     let base = slice_index bases lane in
     let here : IsAmong list q base c.args.count = inv.rest lane (omega arith) c.loop-lane-test.true in
     let value : IsAmong list q c.if-sorted-middle.bases (c.args.count - c.args.half) = elim c.if-sorted-middle.branch [
-      | then-sorted-middle w ↦ rw w.bases-is (IsAmong-upper list q base c.args.count c.args.half c.requires.half here w.if-sorted-middle.true)
-      | else-sorted-middle w ↦ rw w.bases-is (IsAmong-lower list q base c.args.count c.args.half c.args.sorted.never_falls c.requires.most here w.if-sorted-middle.false)
+      | then-sorted-middle w ↦ rw w.bases-is
+          (IsAmong-upper list q base c.args.count c.args.half c.requires.half here w.if-sorted-middle.true)
+      | else-sorted-middle w ↦ rw w.bases-is
+          (IsAmong-lower list
+          q base c.args.count c.args.half c.args.sorted.never_falls c.requires.most here w.if-sorted-middle.false)
     ] in
     record {
       lanes = length-set bases lane c.if-sorted-middle.bases ∙ inv.lanes;
-      done = lane_done (λ (k b : ℕ). IsAmong list (slice_index c.args.qs.now k) b (c.args.count - c.args.half)) bases lane c.if-sorted-middle.bases
+      done = lane_done (λ (k b : ℕ). IsAmong list (slice_index c.args.qs.now k) b (c.args.count - c.args.half))
+          bases lane c.if-sorted-middle.bases
           (omega (arith, inv.lanes, c.loop-lane-test.true)) inv.done value;
-      rest = lane_rest (λ (k b : ℕ). IsAmong list (slice_index c.args.qs.now k) b c.args.count) bases lane c.if-sorted-middle.bases inv.rest;
+      rest = lane_rest (λ (k b : ℕ). IsAmong list (slice_index c.args.qs.now k) b c.args.count)
+          bases lane c.if-sorted-middle.bases inv.rest;
     }

@@ -6,6 +6,7 @@ use Rattle.key_search.proofs.interleaved.halve_predecessors.Given as goal
 abbrev pub invariant-loop-lane : goal.invariant-loop-lane
 invariant-loop-lane l = record {
   lanes : length l.bases ≡ 16;
-  done : (k : ℕ) → k < l.lane → IsAmong l.sorted.keys.now (slice_index l.qs k) (slice_index l.bases k) (l.count - l.half);
+  done : (k : ℕ) →
+      k < l.lane → IsAmong l.sorted.keys.now (slice_index l.qs k) (slice_index l.bases k) (l.count - l.half);
   rest : (k : ℕ) → l.lane ≤ k → k < 16 → IsAmong l.sorted.keys.now (slice_index l.qs k) (slice_index l.bases k) l.count;
 }

@@ -9,4 +9,5 @@ returns c =
     let half = 2 ^ c.args.shift in
     let some = pow_pos c.args.shift in
     let few : half < 4294967296 = pow_below c.args.shift 32 c.requires.short in
-    HasBound-evenly c.args.sorted.keys.now c.args.q c.args.base half _ c.from.result c.args.sorted.never_falls some few c.requires.bound (omega arith) c.from.ensures
+    HasBound-evenly c.args.sorted.keys.now c.args.q c.args.base
+    half _ c.from.result c.args.sorted.never_falls some few c.requires.bound (omega arith) c.from.ensures

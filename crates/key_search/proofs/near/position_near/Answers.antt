@@ -3,4 +3,5 @@ use Rattle.window_search.proofs.CallerLemmas.{bracket-lb}
 use Rattle.key_search.proofs.near.position_near.Goals as goal
 
 pub returns-then-brackets-clause-found : goal.returns-then-brackets-clause-found
-returns-then-brackets-clause-found g c = bracket-lb _ _ _ (c.brackets.ensures.0 c.if-brackets.true) c.requires.never_falls
+returns-then-brackets-clause-found g c =
+    bracket-lb _ _ _ (c.brackets.ensures.0 c.if-brackets.true) c.requires.never_falls

@@ -22,5 +22,7 @@ returns-clause-found c = λ sorted. elim (cases_lt (c.args.question + 1) (2 ^ 64
   | inr many ↦
       let keys = c.args.keys.now in
       c.upper_bound.ensures.end many
-      ∙ sym (lb-is keys (c.args.question + 1) (length keys) (omega arith) (λ k inside. omega (arith, many, (c.type_inv.keys k).fits)) (λ k past inside. absurd (omega (arith, past, inside))))
+      ∙ sym (lb-is keys
+      (c.args.question + 1) (length keys) (omega arith) (λ k inside. omega (arith, many, (c.type_inv.keys k).fits))
+      (λ k past inside. absurd (omega (arith, past, inside))))
 ]

@@ -11,7 +11,13 @@ returns-then-pairs-place-clause-some c =
     record {
       some = omega arith;
       inside = omega (arith, c.loop-place-test.true, length-tuples pairs);
-      stalls = omega (arith, c.if-pairs-place.true, key-of pairs place c.loop-place-test.true, key-of pairs (place - 1) (omega (arith, c.loop-place-test.true)));
+      stalls =
+          omega (
+            arith,
+            c.if-pairs-place.true,
+            key-of pairs place c.loop-place-test.true,
+            key-of pairs (place - 1) (omega (arith, c.loop-place-test.true)),
+          );
       before = c.loop-place.invariant;
     }
 

@@ -6,4 +6,5 @@ use Rattle.kuldebiq.proofs.many.count_of.Goals as goal
 pub returns : goal.returns
 returns c =
     let keys = c.args.keys.now in
-    sym (lb-is keys (18446744073709551615 + 1) (length keys) (omega arith) (λ k inside. omega (arith, (c.type_inv.keys k).fits)) (λ k past inside. absurd (omega (arith, past, inside))))
+    sym (lb-is keys (18446744073709551615 + 1) (length keys) (omega arith)
+    (λ k inside. omega (arith, (c.type_inv.keys k).fits)) (λ k past inside. absurd (omega (arith, past, inside))))

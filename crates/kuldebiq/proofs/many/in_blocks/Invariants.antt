@@ -5,7 +5,8 @@ use Rattle.kuldebiq.proofs.many.in_blocks.Given as goal
 
 abbrev pub invariant-loop-from : goal.invariant-loop-from
 invariant-loop-from l =
-    (length l.positions ≡ length l.questions) × ((length l.questions ≤ vec_capacity l.found) ⊎ (4096 ≤ vec_capacity l.found))
+    (length l.positions ≡ length l.questions)
+    × ((length l.questions ≤ vec_capacity l.found) ⊎ (4096 ≤ vec_capacity l.found))
     × ((j : ℕ) → j < l.from → slice_index l.positions j ≡ lb l.index.keys (slice_index l.questions j))
 
 abbrev pub decreases-loop-from : goal.decreases-loop-from

@@ -5,4 +5,5 @@ use Rattle.kuldebiq.proofs.many.one_by_one.Given as goal
 
 abbrev pub invariant-loop-i : goal.invariant-loop-i
 invariant-loop-i l =
-    (length l.positions ≡ length l.questions) × ((j : ℕ) → j < l.i → slice_index l.positions j ≡ lb l.index.keys (slice_index l.questions j))
+    (length l.positions ≡ length l.questions)
+    × ((j : ℕ) → j < l.i → slice_index l.positions j ≡ lb l.index.keys (slice_index l.questions j))

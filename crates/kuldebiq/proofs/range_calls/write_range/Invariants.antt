@@ -9,7 +9,8 @@ use Rattle.kuldebiq.proofs.range_calls.write_range.Given as goal
 abbrev pub invariant-loop-count : goal.invariant-loop-count
 invariant-loop-count l =
     (length l.room ≡ length l.fn.room) × (l.count ≤ length l.room)
-    × ((updates : List Update) → StandsFor l.held updates → IsFilled (pairs_between (map_after updates) l.fn.low l.high) (pairs_between (map_after updates) l.from l.high) l.room l.fn.room l.count)
+    × ((updates : List Update) → StandsFor l.held updates → IsFilled (pairs_between (map_after updates) l.fn.low l.high)
+    (pairs_between (map_after updates) l.from l.high) l.room l.fn.room l.count)
 
 abbrev pub decreases-loop-count : goal.decreases-loop-count
 decreases-loop-count l = length l.room - l.count

@@ -13,7 +13,8 @@ invariant-loop-runs g l = record {
   above : 0 < length l.levels.items;
   last : (i : ℕ) → i + 1 ≡ length l.levels.items → length (level_at (segments_of l.levels.items) i) ≡ l.runs;
   base : level_at (segments_of l.levels.items) 0 ≡ l.fn.segments.items;
-  cost : l.steps + 12 * length (xs_of l.points) ≤ l.fn.steps + 12 * places_below l.points (segments_of l.levels.items) (length l.levels.items);
+  cost : l.steps + 12 * length (xs_of l.points)
+      ≤ l.fn.steps + 12 * places_below l.points (segments_of l.levels.items) (length l.levels.items);
 }
 
 abbrev pub decreases-loop-runs : goal.decreases-loop-runs

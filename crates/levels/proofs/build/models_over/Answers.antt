@@ -12,5 +12,6 @@ loop-run-preserved c =
     let is = c.in_ok-push.ensures.items in
     record {
       count = ap length is ∙ length-append models (model ∷ []) ∙ ap (λ n. n + 1) inv.count;
-      each = rw is (models_more c.args.points.xs.now c.args.points.ys.now c.args.segments.now c.args.eps c.loop-run.run models model inv.count inv.each c.model_at.ensures);
+      each = rw is (models_more c.args.points.xs.now c.args.points.ys.now
+          c.args.segments.now c.args.eps c.loop-run.run models model inv.count inv.each c.model_at.ensures);
     }

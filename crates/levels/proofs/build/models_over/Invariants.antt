@@ -9,5 +9,6 @@ abbrev pub invariant-loop-run : goal.invariant-loop-run
 invariant-loop-run l = record {
   count : length l.models.items ≡ l.run;
   each : (k e : ℕ) (d : Segment) (m : RunModel) → k < l.run → IsEndOf l.segments (length l.points.xs.now) k e →
-      IsModelOf (slice_index_or l.segments k d).line (slice_index l.points.xs.now (slice_index_or l.segments k d).start) (slice_index l.points.ys.now (e - 1)) l.eps (slice_index_or l.models.items k m);
+      IsModelOf (slice_index_or l.segments k d).line (slice_index l.points.xs.now (slice_index_or l.segments k d).start)
+      (slice_index l.points.ys.now (e - 1)) l.eps (slice_index_or l.models.items k m);
 }

@@ -8,4 +8,5 @@ pub models_over-requires-clause-segments : goal.models_over-requires-clause-segm
 models_over-requires-clause-segments g c =
     let points = c.args.points in
     rw c.deref.ensures.value
-    (IsLaid-from_piece (points_in points) c.args.eps 0 (length points.xs.now) c.in_ok-segments.segments.items (omega arith) c.in_ok-segments.ensures.least.segmentation)
+    (IsLaid-from_piece (points_in points) c.args.eps 0 (length points.xs.now) c.in_ok-segments.segments.items
+    (omega arith) c.in_ok-segments.ensures.least.segmentation)

@@ -17,8 +17,10 @@ loop-level-preserved c =
     record {
       from = omega (arith, inv.from);
       to = omega (arith, c.loop-level-test.true);
-      share = share-up (4 * (2 * c.args.eps_rec + 3)) c.loop-level._level c.loop-level.most c.saturating_mul-most.result inv.from inv.share
-          (omega (arith, c.saturating_mul-most.ensures, ap (λ e. c.loop-level.most * (4 * (2 * e + 3))) c.from.ensures));
+      share = share-up (4 * (2 * c.args.eps_rec + 3))
+          c.loop-level._level c.loop-level.most c.saturating_mul-most.result inv.from inv.share
+          (omega
+          (arith, c.saturating_mul-most.ensures, ap (λ e. c.loop-level.most * (4 * (2 * e + 3))) c.from.ensures));
     }
 
 pub returns : goal.returns

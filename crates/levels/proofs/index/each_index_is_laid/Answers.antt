@@ -6,4 +6,5 @@ pub returns-clause-index : goal.returns-clause-index
 returns-clause-index c = λ keys eps eps_rec levels index. IsLaidIndex-from_index keys eps eps_rec levels index
 
 pub returns-clause-relaxed : goal.returns-clause-relaxed
-returns-clause-relaxed c = λ keys eps eps_rec cuts levels are index. IsLaidIndex-from_relaxed keys eps eps_rec cuts levels are index
+returns-clause-relaxed c =
+    λ keys eps eps_rec cuts levels are index. IsLaidIndex-from_relaxed keys eps eps_rec cuts levels are index

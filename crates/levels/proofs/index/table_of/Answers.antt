@@ -14,17 +14,26 @@ use Rattle.levels.proofs.index.table_of.Goals as goal
 pub over-requires-clause-order : goal.over-requires-clause-order
 over-requires-clause-order c =
     let stored = c.requires.stored.1 in
-    subst IsNonDecreasing (sym (c.firsts_at.ensures c.args._keys.now c.requires.stored.0 c.args.eps_rec stored.first)) (first_x-order c.args._keys.now c.requires.stored.0 c.args.eps_rec (segments_of c.args.levels.now) stored.first.never_falls stored.index)
+    subst IsNonDecreasing (sym (c.firsts_at.ensures c.args._keys.now c.requires.stored.0 c.args.eps_rec stored.first))
+    (first_x-order c.args._keys.now c.requires.stored.0 c.args.eps_rec
+    (segments_of c.args.levels.now) stored.first.never_falls stored.index)
 
 pub over-requires-clause-few : goal.over-requires-clause-few
 over-requires-clause-few c =
     let stored = c.requires.stored.1 in
-    let here = ascends c.args._keys.now c.requires.stored.0 c.args.eps_rec (segments_of c.args.levels.now) stored.first.never_falls stored.index 1
+    let here = ascends c.args._keys.now c.requires.stored.0 c.args.eps_rec
+    (segments_of c.args.levels.now) stored.first.never_falls stored.index 1
     (omega (arith, segments_of-count c.args.levels.now, c.if-levels-lt2.false)) in
-    omega (arith, ap length (c.firsts_at.ensures c.args._keys.now c.requires.stored.0 c.args.eps_rec stored.first), here.few, stored.first.few)
+    omega (
+      arith,
+      ap length (c.firsts_at.ensures c.args._keys.now c.requires.stored.0 c.args.eps_rec stored.first),
+      here.few,
+      stored.first.few,
+    )
 
 pub returns-then-levels-lt2 : goal.returns-then-levels-lt2
-returns-then-levels-lt2 c = c.empty.ensures (xs_at c.args._keys.now (segments_of c.args.levels.now) 1) (share_of c.args.eps_rec (length c.args.levels.now))
+returns-then-levels-lt2 c = c.empty.ensures
+    (xs_at c.args._keys.now (segments_of c.args.levels.now) 1) (share_of c.args.eps_rec (length c.args.levels.now))
 
 pub returns : goal.returns
 returns c =

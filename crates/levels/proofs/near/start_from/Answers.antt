@@ -13,7 +13,10 @@ returns g c =
     let order : IsNonDecreasing keys = subst IsNonDecreasing file c.as_slice-keys.ensures.never_falls in
     let first = slice_index c.as_slice-keys.result.now 0 in
     let asked : c.max-asked.result ≡ max c.args.q first = omega (arith, c.max-asked.ensures) in
-    let count : c.min-count.result ≡ min (2 * c.args.index.now.eps + 3) (length keys + 1) = omega (arith, c.min-count.ensures, c.from.ensures, c.eps_of.ensures.bound, ap (λ (l : List ℕ). length l) file) in
-    let bound = subst (λ (q : ℕ). HasBound keys q c.start_bound.result c.min-count.result) asked c.start_bound.ensures in
+    let count : c.min-count.result ≡ min (2 * c.args.index.now.eps + 3) (length keys + 1) = omega
+    (arith, c.min-count.ensures, c.from.ensures, c.eps_of.ensures.bound, ap (λ (l : List ℕ). length l) file) in
+    let bound =
+    subst (λ (q : ℕ). HasBound keys q c.start_bound.result c.min-count.result) asked c.start_bound.ensures in
     subst (HasBound keys c.args.q c.start_bound.result) count
-    (HasBound-raised keys c.args.q first c.start_bound.result c.min-count.result order (ap (λ (l : List ℕ). slice_index l 0) file) bound)
+    (HasBound-raised keys c.args.q first c.start_bound.result c.min-count.result order
+    (ap (λ (l : List ℕ). slice_index l 0) file) bound)

@@ -15,7 +15,8 @@ halves q r less same =
     let high = mod_below r 2 (omega arith) in
     (omega arith, omega arith)
 
-at_end : (before after top : ℕ) → before / 2 ^ top < after / 2 ^ top → before / 2 ^ (top + 1) ≡ after / 2 ^ (top + 1) → (bit_at before top ≡ 0) × (bit_at after top ≡ 1)
+at_end : (before after top : ℕ) → before / 2 ^ top < after / 2 ^ top →
+    before / 2 ^ (top + 1) ≡ after / 2 ^ (top + 1) → (bit_at before top ≡ 0) × (bit_at after top ≡ 1)
 at_end before after top less same = halves _ _ less (sym (quotient-more top before) ∙ same ∙ quotient-more top after)
 
 pub returns-clause-inside : goal.returns-clause-inside
@@ -28,7 +29,9 @@ returns-clause-inside c = λ count few. elim (cases_lt c.loop-top.top count) [
 ]
 
 pub returns-clause-was_clear : goal.returns-clause-was_clear
-returns-clause-was_clear c = (at_end c.args.before c.args.after c.loop-top.top c.loop-top.invariant.differ c.loop-top-test.false).0
+returns-clause-was_clear c =
+    (at_end c.args.before c.args.after c.loop-top.top c.loop-top.invariant.differ c.loop-top-test.false).0
 
 pub returns-clause-is_set : goal.returns-clause-is_set
-returns-clause-is_set c = (at_end c.args.before c.args.after c.loop-top.top c.loop-top.invariant.differ c.loop-top-test.false).1
+returns-clause-is_set c =
+    (at_end c.args.before c.args.after c.loop-top.top c.loop-top.invariant.differ c.loop-top-test.false).1

@@ -3,4 +3,5 @@ use Rattle.std.proofs.Common.{◌≡◌, ◌+◌, ◌++◌, take, vec_len, vec_c
 use Rattle.log_levels.proofs.growth.push_each.Given as goal
 
 abbrev pub invariant-loop-entry : goal.invariant-loop-entry
-invariant-loop-entry l = (l.into.items ≡ l.initial.into.items ++ take l.entry-index l.new) × (vec_len l.into ≡ vec_len l.initial.into + l.entry-index) × (vec_capacity l.into ≡ vec_capacity l.initial.into)
+invariant-loop-entry l = (l.into.items ≡ l.initial.into.items ++ take l.entry-index l.new)
+    × (vec_len l.into ≡ vec_len l.initial.into + l.entry-index) × (vec_capacity l.into ≡ vec_capacity l.initial.into)

@@ -8,7 +8,9 @@ use Rattle.log_levels.proofs.log_map.one_map.Goals as goal
 
 pub returns : goal.returns
 returns c = record {
-  map = λ held one two stands_one stands_two. same-pairs 0 (map_after one) (map_after two) (rises-after one) (rises-after two)
-      (λ key. value-after one key ∙ one-value held (entries_of one) (entries_of two) key stands_one stands_two ∙ sym (value-after two key));
+  map = λ held one two stands_one stands_two.
+      same-pairs 0 (map_after one) (map_after two) (rises-after one) (rises-after two)
+      (λ key. value-after one key
+      ∙ one-value held (entries_of one) (entries_of two) key stands_one stands_two ∙ sym (value-after two key));
   accepted = λ held one two stands_one stands_two. sym stands_one.accepted ∙ stands_two.accepted;
 }

@@ -14,16 +14,20 @@ loop-entry-preserved c = record {
     | inr is ↦ subst (λ r. IfSome r (λ key. key ≤ c.args.bound)) (sym is) c.key_below.ensures.within
   ];
   greatest = λ key k d below above inside same. elim (cases_lt k c.loop-entry.entry-index) [
-    | inl earlier ↦ c.loop-entry.invariant.greatest key k d below (c.greater-greatest.ensures.one key above) earlier same
+    | inl earlier ↦
+        c.loop-entry.invariant.greatest key k d below (c.greater-greatest.ensures.one key above) earlier same
     | inr later ↦
         let at : k ≡ c.loop-entry.entry-index = omega arith in
         let fits : k < length c.args.entries.now = omega arith in
         let read : (slice_index_or c.args.entries.now c.loop-entry.entry-index no_entry).key ≡ key =
-        ap (λ i. (slice_index_or c.args.entries.now i no_entry).key) (sym at) ∙ ap (λ (e : Entry). e.key) (get_or_default c.args.entries.now k no_entry d fits) ∙ same in
-        let less = subst (IsAbove key) (c.key_below.ensures.greatest (omega arith)) (c.greater-greatest.ensures.other key above) in
+        ap (λ i. (slice_index_or c.args.entries.now i no_entry).key) (sym at)
+        ∙ ap (λ (e : Entry). e.key) (get_or_default c.args.entries.now k no_entry d fits) ∙ same in
+        let less = subst
+        (IsAbove key) (c.key_below.ensures.greatest (omega arith)) (c.greater-greatest.ensures.other key above) in
         omega arith
   ];
 }
 
 pub returns-clause-greatest : goal.returns-clause-greatest
-returns-clause-greatest c = λ key below above. last-absent c.args.entries.now key (λ k d inside same. c.loop-entry.invariant.greatest key k d below above (omega arith) same)
+returns-clause-greatest c = λ key below above. last-absent c.args.entries.now key
+    (λ k d inside same. c.loop-entry.invariant.greatest key k d below above (omega arith) same)

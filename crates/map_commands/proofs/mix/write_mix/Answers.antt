@@ -14,13 +14,16 @@ use Rattle.map_commands.proofs.MapLineLemmas.{is_mixed_text, whole_told}
 use Rattle.map_commands.proofs.mix.write_mix.Goals as goal
 
 -- an order of the same updates, as it is handed over
-ordered : {senders : ℕ} {xs ys mixed shown : List Update} {numbers told : List ℕ} → xs ≡ ys → told ≡ numbers → shown ≡ mixed → IsMix senders xs numbers mixed → IsMix senders ys told shown
+ordered : {senders : ℕ} {xs ys mixed shown : List Update} {numbers told : List ℕ} →
+    xs ≡ ys → told ≡ numbers → shown ≡ mixed → IsMix senders xs numbers mixed → IsMix senders ys told shown
 ordered {senders} {xs} {ys} {mixed} {shown} {numbers} {told} updates numbers_are mixed_are order =
     subst (λ (u : List Update). IsMix senders u told shown) updates
-    (subst (λ (n : List ℕ). IsMix senders xs n shown) (sym numbers_are) (subst (λ (m : List Update). IsMix senders xs numbers m) (sym mixed_are) order))
+    (subst (λ (n : List ℕ). IsMix senders xs n shown)
+    (sym numbers_are) (subst (λ (m : List Update). IsMix senders xs numbers m) (sym mixed_are) order))
 
 -- readings of the same updates and questions
-moved : {batches : List (List Update)} {rs ss : List Reading} {xs ys : List Update} {ps qs : List Question} → xs ≡ ys → ps ≡ qs → rs ≡ ss →
+moved : {batches : List (List Update)} {rs ss : List Reading} {xs ys : List Update} {ps qs : List Question} →
+    xs ≡ ys → ps ≡ qs → rs ≡ ss →
     All (IsWholeMixedReading batches xs ps) ss → All (IsWholeMixedReading batches ys qs) rs
 moved {batches} {rs} {ss} {xs} {ys} {ps} {qs} updates questions readings each =
     subst (All (IsWholeMixedReading batches ys qs)) (sym readings)
@@ -28,7 +31,8 @@ moved {batches} {rs} {ss} {xs} {ys} {ps} {qs} updates questions readings each =
     (subst (λ (q : List Question). All (IsWholeMixedReading batches xs q) ss) questions each))
 
 -- batches of the same updates
-cut_of : {most : ℕ} {xs ys : List Update} {batches : List (List Update)} → ys ≡ xs → AreCut most xs batches → AreCut most ys batches
+cut_of : {most : ℕ} {xs ys : List Update} {batches : List (List Update)} →
+    ys ≡ xs → AreCut most xs batches → AreCut most ys batches
 cut_of {most} {xs} {ys} {batches} same cut = subst (λ (u : List Update). AreCut most u batches) (sym same) cut
 
 pub write_lines-done-requires-clause-answers : goal.write_lines-done-requires-clause-answers
@@ -38,8 +42,10 @@ pub write_lines-done-requires-clause-each : goal.write_lines-done-requires-claus
 write_lines-done-requires-clause-each g c =
     let mixed = c.mixed-updates.result.now in
     let questions = c.deref-3.result.now in
-    All-weaker (IsWholeMixedReading c.in_ok-left.left.batches mixed questions) (IsTold mixed questions) (λ reading whole. whole_told mixed questions reading whole) c.readings.result.now
-    (moved (sym c.mixed-updates.ensures) (c.deref-2.ensures.value ∙ sym c.deref-3.ensures.value) c.readings.ensures c.in_ok-left.ensures.each)
+    All-weaker (IsWholeMixedReading c.in_ok-left.left.batches mixed questions)
+    (IsTold mixed questions) (λ reading whole. whole_told mixed questions reading whole) c.readings.result.now
+    (moved (sym c.mixed-updates.ensures)
+    (c.deref-2.ensures.value ∙ sym c.deref-3.ensures.value) c.readings.ensures c.in_ok-left.ensures.each)
 
 pub returns : goal.returns
 returns g c =
@@ -47,14 +53,19 @@ returns g c =
     let numbers = c.numbers-numbers.result.now in
     let mixed = c.mixed-updates.result.now in
     let readings = c.readings.result.now in
-    let each = moved (sym c.mixed-updates.ensures) c.deref-2.ensures.value c.readings.ensures c.in_ok-left.ensures.each in
+    let each =
+    moved (sym c.mixed-updates.ensures) c.deref-2.ensures.value c.readings.ensures c.in_ok-left.ensures.each in
     let left = c.in_ok-left.left in
     let cut = cut_of c.mixed-updates.ensures c.in_ok-left.ensures.batches in
     let count = ap (λ (r : List Reading). length r) c.readings.ensures ∙ c.in_ok-left.ensures.count in
-    let order = ordered c.deref.ensures.value c.numbers-numbers.ensures c.mixed-updates.ensures c.in_ok-left.ensures.mixed in (
+    let order =
+    ordered c.deref.ensures.value c.numbers-numbers.ensures c.mixed-updates.ensures c.in_ok-left.ensures.mixed in (
       all_lines numbers mixed history.questions.items readings,
-      is_mixed_text history.updates.items history.questions.items c.args.mixing.senders.count numbers mixed readings history.plan.readers left.batches history.plan.batch cut order count each,
-      subst (λ (q : List Question). Writes g.S.Sink c.args.out.now c.write_lines-done.new.out (all_lines numbers mixed q readings)) c.deref-3.ensures.value c.in_ok-done.ensures.ok,
+      is_mixed_text history.updates.items history.questions.items c.args.mixing.senders.count
+          numbers mixed readings history.plan.readers left.batches history.plan.batch cut order count each,
+      subst (λ (q : List Question).
+          Writes g.S.Sink c.args.out.now c.write_lines-done.new.out (all_lines numbers mixed q readings))
+          c.deref-3.ensures.value c.in_ok-done.ensures.ok,
     )
 
 pub returns-in_err-done : goal.returns-in_err-done
@@ -63,11 +74,17 @@ returns-in_err-done g c =
     let numbers = c.numbers-numbers.result.now in
     let mixed = c.mixed-updates.result.now in
     let readings = c.readings.result.now in
-    let each = moved (sym c.mixed-updates.ensures) c.deref-2.ensures.value c.readings.ensures c.in_ok-left.ensures.each in
+    let each =
+    moved (sym c.mixed-updates.ensures) c.deref-2.ensures.value c.readings.ensures c.in_ok-left.ensures.each in
     let left = c.in_ok-left.left in
     let cut = cut_of c.mixed-updates.ensures c.in_ok-left.ensures.batches in
     let count = ap (λ (r : List Reading). length r) c.readings.ensures ∙ c.in_ok-left.ensures.count in
-    let order = ordered c.deref.ensures.value c.numbers-numbers.ensures c.mixed-updates.ensures c.in_ok-left.ensures.mixed in
-    broken_text g.S.Sink c.args.out.now c.write_lines-done.new.out c.from_residual-in_err-done.result _ (all_lines numbers mixed history.questions.items readings) c.from_residual-in_err-done.ensures.1
-    (is_mixed_text history.updates.items history.questions.items c.args.mixing.senders.count numbers mixed readings history.plan.readers left.batches history.plan.batch cut order count each)
-    (subst (λ (q : List Question). BreaksOff g.S.Sink c.args.out.now c.write_lines-done.new.out (all_lines numbers mixed q readings)) c.deref-3.ensures.value c.in_err-done.ensures.err)
+    let order =
+    ordered c.deref.ensures.value c.numbers-numbers.ensures c.mixed-updates.ensures c.in_ok-left.ensures.mixed in
+    broken_text g.S.Sink c.args.out.now c.write_lines-done.new.out c.from_residual-in_err-done.result _
+    (all_lines numbers mixed history.questions.items readings) c.from_residual-in_err-done.ensures.1
+    (is_mixed_text history.updates.items history.questions.items c.args.mixing.senders.count
+    numbers mixed readings history.plan.readers left.batches history.plan.batch cut order count each)
+    (subst (λ (q : List Question).
+    BreaksOff g.S.Sink c.args.out.now c.write_lines-done.new.out (all_lines numbers mixed q readings))
+    c.deref-3.ensures.value c.in_err-done.ensures.err)

@@ -16,13 +16,15 @@ moved : (batch : ℕ) {rs ss : List Reading} {xs ys : List Update} {ps qs : List
     All (IsWholeReading xs batch ps) ss → All (IsWholeReading ys batch qs) rs
 moved batch {rs} {ss} {xs} {ys} {ps} {qs} updates questions readings each =
     subst (All (IsWholeReading ys batch qs)) (sym readings)
-    (subst (λ (u : List Update). All (IsWholeReading u batch qs) ss) updates (subst (λ (q : List Question). All (IsWholeReading xs batch q) ss) questions each))
+    (subst (λ (u : List Update). All (IsWholeReading u batch qs) ss) updates
+    (subst (λ (q : List Question). All (IsWholeReading xs batch q) ss) questions each))
 
 pub write_lines-done-requires-clause-each : goal.write_lines-done-requires-clause-each
 write_lines-done-requires-clause-each g c =
     let updates = c.deref.ensures.value ∙ sym c.deref-3.ensures.value in
     let questions = c.deref-2.ensures.value ∙ sym c.deref-4.ensures.value in
-    All-weaker (IsWholeReading _ c.args.history.now.plan.batch _) (IsTold _ _) (λ reading whole. whole_told _ _ reading whole) c.readings.result.now
+    All-weaker (IsWholeReading _ c.args.history.now.plan.batch _)
+    (IsTold _ _) (λ reading whole. whole_told _ _ reading whole) c.readings.result.now
     (moved _ updates questions c.readings.ensures c.in_ok-left.ensures.each)
 
 pub returns : goal.returns
@@ -32,8 +34,10 @@ returns g c =
     let each = moved _ c.deref.ensures.value c.deref-2.ensures.value c.readings.ensures c.in_ok-left.ensures.each in
     let count = ap (λ (r : List Reading). length r) c.readings.ensures ∙ c.in_ok-left.ensures.count in (
       all_lines [] history.updates.items history.questions.items readings,
-      is_replayed history.updates.items history.questions.items history.plan.batch readings history.plan.readers count each,
-      subst (Writes g.S.Sink c.args.out.now c.write_lines-done.new.out) (same_lines readings c.deref-3.ensures.value c.deref-4.ensures.value) c.in_ok-done.ensures.ok,
+      is_replayed
+          history.updates.items history.questions.items history.plan.batch readings history.plan.readers count each,
+      subst (Writes g.S.Sink c.args.out.now c.write_lines-done.new.out)
+          (same_lines readings c.deref-3.ensures.value c.deref-4.ensures.value) c.in_ok-done.ensures.ok,
     )
 
 pub returns-in_err-done : goal.returns-in_err-done
@@ -42,6 +46,9 @@ returns-in_err-done g c =
     let readings = c.readings.result.now in
     let each = moved _ c.deref.ensures.value c.deref-2.ensures.value c.readings.ensures c.in_ok-left.ensures.each in
     let count = ap (λ (r : List Reading). length r) c.readings.ensures ∙ c.in_ok-left.ensures.count in
-    broken_text g.S.Sink c.args.out.now c.write_lines-done.new.out c.from_residual-in_err-done.result _ (all_lines [] history.updates.items history.questions.items readings) c.from_residual-in_err-done.ensures.1
-    (is_replayed history.updates.items history.questions.items history.plan.batch readings history.plan.readers count each)
-    (subst (BreaksOff g.S.Sink c.args.out.now c.write_lines-done.new.out) (same_lines readings c.deref-3.ensures.value c.deref-4.ensures.value) c.in_err-done.ensures.err)
+    broken_text g.S.Sink c.args.out.now c.write_lines-done.new.out c.from_residual-in_err-done.result _
+    (all_lines [] history.updates.items history.questions.items readings) c.from_residual-in_err-done.ensures.1
+    (is_replayed
+    history.updates.items history.questions.items history.plan.batch readings history.plan.readers count each)
+    (subst (BreaksOff g.S.Sink c.args.out.now c.write_lines-done.new.out)
+    (same_lines readings c.deref-3.ensures.value c.deref-4.ensures.value) c.in_err-done.ensures.err)

@@ -13,7 +13,8 @@ returns g c =
     let questions = history.questions.items in (
       all_lines [] updates questions [],
       is_replayed updates questions history.plan.batch [] history.plan.readers (sym c.requires.alone) (All-nil _),
-      subst (Writes g.S.Sink c.args.out.now c.write_lines.new.out) (same_lines [] c.deref.ensures.value c.deref-2.ensures.value) c.in_ok-write_lines.ensures.ok,
+      subst (Writes g.S.Sink c.args.out.now c.write_lines.new.out)
+          (same_lines [] c.deref.ensures.value c.deref-2.ensures.value) c.in_ok-write_lines.ensures.ok,
     )
 
 pub returns-in_err-write_lines : goal.returns-in_err-write_lines
@@ -21,6 +22,8 @@ returns-in_err-write_lines g c =
     let history = c.args.history.now in
     let updates = history.updates.items in
     let questions = history.questions.items in
-    broken_text g.S.Sink c.args.out.now c.write_lines.new.out c.from_residual.result _ (all_lines [] updates questions []) c.from_residual.ensures.1
+    broken_text g.S.Sink c.args.out.now c.write_lines.new.out c.from_residual.result _
+    (all_lines [] updates questions []) c.from_residual.ensures.1
     (is_replayed updates questions history.plan.batch [] history.plan.readers (sym c.requires.alone) (All-nil _))
-    (subst (BreaksOff g.S.Sink c.args.out.now c.write_lines.new.out) (same_lines [] c.deref.ensures.value c.deref-2.ensures.value) c.in_err-write_lines.ensures.err)
+    (subst (BreaksOff g.S.Sink c.args.out.now c.write_lines.new.out)
+    (same_lines [] c.deref.ensures.value c.deref-2.ensures.value) c.in_err-write_lines.ensures.err)

@@ -7,4 +7,5 @@ use Rattle.map_commands.proofs.told.write_answers.Given as goal
 -- the answers to the questions before this place were written
 abbrev pub invariant-loop-i : goal.invariant-loop-i
 invariant-loop-i g l =
-    HasWritten g.S.Sink l.fn.out l.out (map (end_line (map_after l.updates)) l.questions) (map (end_line (map_after l.updates)) (drop l.i l.questions))
+    HasWritten g.S.Sink l.fn.out l.out
+    (map (end_line (map_after l.updates)) l.questions) (map (end_line (map_after l.updates)) (drop l.i l.questions))

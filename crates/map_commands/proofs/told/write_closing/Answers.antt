@@ -16,10 +16,12 @@ pub returns-clause-ok : goal.returns-clause-ok
 returns-clause-ok g c =
     ok_behind g.S.Sink c.args.out.now c.write_lasts.new.out c.write_ends.new.out
     (map (last_line (length c.args.updates.now)) (range_with_len 0 (length c.args.readings.now)))
-    (end_lines (map_after c.args.updates.now) c.args.questions.now) c.write_ends.result c.in_ok-write_lasts.ensures.ok c.write_ends.ensures.ok
+    (end_lines (map_after c.args.updates.now) c.args.questions.now)
+    c.write_ends.result c.in_ok-write_lasts.ensures.ok c.write_ends.ensures.ok
 
 pub returns-clause-err : goal.returns-clause-err
 returns-clause-err g c =
     err_behind g.S.Sink c.args.out.now c.write_lasts.new.out c.write_ends.new.out
     (map (last_line (length c.args.updates.now)) (range_with_len 0 (length c.args.readings.now)))
-    (end_lines (map_after c.args.updates.now) c.args.questions.now) c.write_ends.result c.in_ok-write_lasts.ensures.ok c.write_ends.ensures.err
+    (end_lines (map_after c.args.updates.now) c.args.questions.now)
+    c.write_ends.result c.in_ok-write_lasts.ensures.ok c.write_ends.ensures.err

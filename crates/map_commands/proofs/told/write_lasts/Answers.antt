@@ -11,7 +11,8 @@ use Rattle.written.proofs.WritingLemmas.{on_err}
 use Rattle.map_commands.proofs.told.write_lasts.Goals as goal
 
 pub loop-i-init : goal.loop-i-init
-loop-i-init g c = written_none g.S.Sink c.args.out.now (map (last_line (length c.args.updates.now)) (range_with_len 0 (length c.args.readings.now)))
+loop-i-init g c = written_none g.S.Sink c.args.out.now
+    (map (last_line (length c.args.updates.now)) (range_with_len 0 (length c.args.readings.now)))
 
 pub loop-i-preserved : goal.loop-i-preserved
 loop-i-preserved g c =
@@ -42,4 +43,5 @@ pub returns-clause-ok : goal.returns-clause-ok
 returns-clause-ok g c =
     let all = range_with_len 0 (length c.args.readings.now) in
     let past : length all ≤ c.loop-i.i = omega (arith, length-range_with_len 0 (length c.args.readings.now)) in
-    written_all g.S.Sink c.args.out.now c.loop-i.out _ _ (ap (map (last_line (length c.args.updates.now))) (drop_all c.loop-i.i all past)) c.loop-i.invariant
+    written_all g.S.Sink c.args.out.now c.loop-i.out _ _
+    (ap (map (last_line (length c.args.updates.now))) (drop_all c.loop-i.i all past)) c.loop-i.invariant

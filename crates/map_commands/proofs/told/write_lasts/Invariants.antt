@@ -6,5 +6,6 @@ use Rattle.map_commands.proofs.told.write_lasts.Given as goal
 
 -- the last lines of the readers before this one were written
 abbrev pub invariant-loop-i : goal.invariant-loop-i
-invariant-loop-i g l = HasWritten g.S.Sink l.fn.out l.out (map (last_line (length l.updates)) (range_with_len 0 (length l.readings)))
+invariant-loop-i g l =
+    HasWritten g.S.Sink l.fn.out l.out (map (last_line (length l.updates)) (range_with_len 0 (length l.readings)))
     (map (last_line (length l.updates)) (drop l.i (range_with_len 0 (length l.readings))))

@@ -17,14 +17,18 @@ pub returns-clause-ok : goal.returns-clause-ok
 returns-clause-ok g c =
     let updates = c.args.updates.now in
     ok_behind g.S.Sink c.args.out.now c.hand_over.new.out c.write_behind.new.out (updates_line (length updates) ∷ [])
-    (map from_line c.args.numbers.now ++ told_lines updates c.args.questions.now c.args.readings.now) c.write_behind.result
-    (head_written g.S.Sink c.args.out.now c.hand_over.new.out c.as_bytes.result.now (updates_line (length updates)) (c.as_bytes.ensures ∙ c.fill_count.ensures)
+    (map from_line c.args.numbers.now ++ told_lines updates c.args.questions.now c.args.readings.now)
+    c.write_behind.result
+    (head_written g.S.Sink c.args.out.now c.hand_over.new.out c.as_bytes.result.now
+    (updates_line (length updates)) (c.as_bytes.ensures ∙ c.fill_count.ensures)
     c.in_ok-hand_over.ensures.ok) c.write_behind.ensures.ok
 
 pub returns-clause-err : goal.returns-clause-err
 returns-clause-err g c =
     let updates = c.args.updates.now in
     err_behind g.S.Sink c.args.out.now c.hand_over.new.out c.write_behind.new.out (updates_line (length updates) ∷ [])
-    (map from_line c.args.numbers.now ++ told_lines updates c.args.questions.now c.args.readings.now) c.write_behind.result
-    (head_written g.S.Sink c.args.out.now c.hand_over.new.out c.as_bytes.result.now (updates_line (length updates)) (c.as_bytes.ensures ∙ c.fill_count.ensures)
+    (map from_line c.args.numbers.now ++ told_lines updates c.args.questions.now c.args.readings.now)
+    c.write_behind.result
+    (head_written g.S.Sink c.args.out.now c.hand_over.new.out c.as_bytes.result.now
+    (updates_line (length updates)) (c.as_bytes.ensures ∙ c.fill_count.ensures)
     c.in_ok-hand_over.ensures.ok) c.write_behind.ensures.err

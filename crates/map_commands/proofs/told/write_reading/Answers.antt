@@ -14,10 +14,12 @@ abbrev no_sighting : Sighting
 no_sighting = record { known = 0; length = 0; answer = Value None }
 
 pub loop-i-init : goal.loop-i-init
-loop-i-init g c = written_none g.S.Sink c.args.out.now (reader_lines c.args.updates.now c.args.reader c.args.questions.now c.args.sightings.now)
+loop-i-init g c = written_none g.S.Sink c.args.out.now
+    (reader_lines c.args.updates.now c.args.reader c.args.questions.now c.args.sightings.now)
 
 pub bounds-sightings-i : goal.bounds-sightings-i
-bounds-sightings-i g c = omega (arith, answers_count c.args.updates.now c.args.questions.now c.args.sightings.now c.requires)
+bounds-sightings-i g c =
+    omega (arith, answers_count c.args.updates.now c.args.questions.now c.args.sightings.now c.requires)
 
 pub loop-i-preserved : goal.loop-i-preserved
 loop-i-preserved g c =
@@ -29,7 +31,8 @@ loop-i-preserved g c =
     let seen : i < length sightings = omega (arith, answers_count updates questions sightings c.requires) in
     written_more g.S.Sink c.args.out.now c.loop-i.out c.hand_over.new.out _ _ _ (piece ∷ [])
     (reading_begins updates c.args.reader questions sightings i (Get 0) no_sighting piece (omega arith) seen
-    (c.as_bytes.ensures ∙ c.fill_sighting.ensures updates (answer_at updates questions sightings i (Get 0) no_sighting (omega arith) c.requires)))
+    (c.as_bytes.ensures ∙ c.fill_sighting.ensures updates
+    (answer_at updates questions sightings i (Get 0) no_sighting (omega arith) c.requires)))
     c.in_ok-hand_over.ensures.ok c.loop-i.invariant
 
 pub returns-in_err-hand_over-clause-err : goal.returns-in_err-hand_over-clause-err
@@ -43,11 +46,13 @@ returns-in_err-hand_over-clause-err g c =
     on_err c.from_residual.result _
     (breaks_off_there g.S.Sink c.args.out.now c.loop-i.out c.hand_over.new.out _ _ _ (piece ∷ [])
     (reading_begins updates c.args.reader questions sightings i (Get 0) no_sighting piece (omega arith) seen
-    (c.as_bytes.ensures ∙ c.fill_sighting.ensures updates (answer_at updates questions sightings i (Get 0) no_sighting (omega arith) c.requires)))
+    (c.as_bytes.ensures ∙ c.fill_sighting.ensures updates
+    (answer_at updates questions sightings i (Get 0) no_sighting (omega arith) c.requires)))
     c.in_err-hand_over.ensures.err c.loop-i.invariant)
 
 pub returns-clause-ok : goal.returns-clause-ok
 returns-clause-ok g c =
-    let none = ap (λ (q : List Question). reader_lines c.args.updates.now c.args.reader q (drop c.loop-i.i c.args.sightings.now))
+    let none = ap
+    (λ (q : List Question). reader_lines c.args.updates.now c.args.reader q (drop c.loop-i.i c.args.sightings.now))
     (drop_all c.loop-i.i c.args.questions.now (omega arith)) in
     written_all g.S.Sink c.args.out.now c.loop-i.out _ _ none c.loop-i.invariant

@@ -1,4 +1,5 @@
-use Rattle.std.proofs.Common.{◌≡◌, ◌+◌, ◌<◌, [], ◌∷◌, ◌++◌, ◌∙◌, ap, sym, drop, drop-cons, add-one, get_or, length, map, arith, ℕ, List}
+use Rattle.std.proofs.Common.{◌≡◌, ◌+◌, ◌<◌, [], ◌∷◌, ◌++◌, ◌∙◌, ap, sym, drop}
+use Rattle.std.proofs.Common.{drop-cons, add-one, get_or, length, map, arith, ℕ, List}
 use Rattle.std.proofs.lemmas.List.{drop_all}
 use Rattle.written.proofs.CallerLemmas.{written_none, written_more, written_all, breaks_off_there}
 use Rattle.map_commands.specs.Mix.{from_line}
@@ -9,7 +10,8 @@ use Rattle.map_commands.proofs.told.write_senders.Goals as goal
 begins : (numbers : List ℕ) (i : ℕ) (piece : List ℕ) → i < length numbers → piece ≡ from_line (get_or numbers i 0) →
     map from_line (drop i numbers) ≡ (piece ∷ []) ++ map from_line (drop (i + 1) numbers)
 begins numbers i piece there is =
-    ap (map from_line) (drop-cons numbers i 0 there ∙ ap (λ (n : ℕ). get_or numbers i 0 ∷ drop n numbers) (sym (add-one i)))
+    ap (map from_line)
+    (drop-cons numbers i 0 there ∙ ap (λ (n : ℕ). get_or numbers i 0 ∷ drop n numbers) (sym (add-one i)))
     ∙ ap (λ (line : List ℕ). line ∷ map from_line (drop (i + 1) numbers)) (sym is)
 
 pub loop-i-init : goal.loop-i-init
@@ -32,4 +34,5 @@ returns-in_err-hand_over-clause-err g c =
 
 pub returns-clause-ok : goal.returns-clause-ok
 returns-clause-ok g c =
-    written_all g.S.Sink c.args.out.now c.loop-i.out _ _ (ap (map from_line) (drop_all c.loop-i.i c.args.numbers.now (omega arith))) c.loop-i.invariant
+    written_all g.S.Sink c.args.out.now c.loop-i.out _ _
+    (ap (map from_line) (drop_all c.loop-i.i c.args.numbers.now (omega arith))) c.loop-i.invariant

@@ -6,4 +6,5 @@ use Rattle.map_replay.proofs.intake.serve.Goals as goal
 
 pub returns-in-Served : goal.returns-in-Served
 returns-in-Served g c = λ origin number is.
-    c.send_next.ensures origin number (subst (λ (s : StartedSender). IsStarted origin c.args.assignment number s) c.in-Served.is is)
+    c.send_next.ensures origin number
+    (subst (λ (s : StartedSender). IsStarted origin c.args.assignment number s) c.in-Served.is is)

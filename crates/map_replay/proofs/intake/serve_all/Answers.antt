@@ -20,6 +20,7 @@ loop-place-preserved g c =
       started = λ origin are.
           at_set (IsStartedAt origin c.args.assignment) items place c.serve.new.sender (inv.started origin are)
           (c.serve.ensures origin (senders - (place + 1))
-          (subst (λ (s : StartedSender). IsStarted origin c.args.assignment (senders - (place + 1)) s) there (inv.started origin are place one within)));
+          (subst (λ (s : StartedSender). IsStarted origin c.args.assignment (senders - (place + 1)) s) there
+          (inv.started origin are place one within)));
       count = inv.count;
     }

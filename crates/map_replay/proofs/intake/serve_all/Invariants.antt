@@ -6,6 +6,7 @@ use Rattle.map_replay.proofs.intake.serve_all.Given as goal
 
 abbrev pub invariant-loop-place : goal.invariant-loop-place
 invariant-loop-place g l = record {
-  started : (origin : Origin) → AreStarted origin l.assignment l.initial.started.items → AreStarted origin l.assignment l.started.items;
+  started : (origin : Origin) →
+      AreStarted origin l.assignment l.initial.started.items → AreStarted origin l.assignment l.started.items;
   count : vec_len l.started ≡ vec_len l.initial.started;
 }

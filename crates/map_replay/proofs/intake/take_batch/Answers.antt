@@ -4,14 +4,17 @@ use Rattle.std.proofs.lemmas.Bool.{false≢true, leb-false}
 use Rattle.map_replay.specs.declared.intake.Intake.{Intake}
 use Rattle.map_replay.specs.SenderStates.{IsIntake}
 use Rattle.map_replay.proofs.MixLemmas.{intake_more, kept_before, one_more}
-use Rattle.map_replay.proofs.intake.take_batch.Goals.{else-took-via-then-took+else-count-assignment, then-count-from, else-count-from, else-took-via-else-took}
+use Rattle.map_replay.proofs.intake.take_batch.Goals.{else-took-via-then-took+else-count-assignment}
+use Rattle.map_replay.proofs.intake.take_batch.Goals.{then-count-from, else-count-from, else-took-via-else-took}
 use Rattle.map_replay.proofs.intake.take_batch.Goals as goal
 
 pub returns-then-count-assignment-clause-started : goal.returns-then-count-assignment-clause-started
-returns-then-count-assignment-clause-started g c = c.serve_all.ensures.started c.args.intake.now.inbox.origin c.loop-turn.invariant.started
+returns-then-count-assignment-clause-started g c =
+    c.serve_all.ensures.started c.args.intake.now.inbox.origin c.loop-turn.invariant.started
 
 pub returns-then-count-from-2-clause-started : goal.returns-then-count-from-2-clause-started
-returns-then-count-from-2-clause-started g c = c.serve_all.ensures.started c.args.intake.now.inbox.origin c.loop-turn.invariant.started
+returns-then-count-from-2-clause-started g c =
+    c.serve_all.ensures.started c.args.intake.now.inbox.origin c.loop-turn.invariant.started
 
 pub loop-turn-preserved-then-not-took-2 : goal.loop-turn-preserved-then-not-took-2
 loop-turn-preserved-then-not-took-2 g c =
@@ -37,11 +40,22 @@ loop-turn-preserved g c =
     let before = c.loop-turn.intake in
     let after = c.take_next-took.new.intake in
     let took = c.take_next-took.ensures.took c.if-not-took-2.false in
-    let both : (length after.arrivals.updates.items < total) × (length after.arrivals.updates.items < c.len-from.result + c.args.size) = elim c.else-took.branch [
+    let both : (length after.arrivals.updates.items < total)
+    × (length after.arrivals.updates.items < c.len-from.result + c.args.size) = elim c.else-took.branch [
       | else-took-via-then-took+else-count-assignment w ↦ elim w.if-count-from.branch [
-        | then-count-from v ↦ absurd (omega (arith, leb-false c.args.size (c.len-count.result - c.len-from.result) (sym v.value-is ∙ w.if-count-assignment.false), v.if-count-from.true))
+        | then-count-from v ↦ absurd
+            (omega (
+              arith,
+              leb-false c.args.size (c.len-count.result - c.len-from.result)
+                  (sym v.value-is ∙ w.if-count-assignment.false),
+              v.if-count-from.true,
+            ))
         | else-count-from v ↦ (
-          omega (arith, leb-false total c.len-count.result (sym v.value-is ∙ w.if-count-assignment.false), after.arrivals.updates.ok.0),
+          omega (
+            arith,
+            leb-false total c.len-count.result (sym v.value-is ∙ w.if-count-assignment.false),
+            after.arrivals.updates.ok.0,
+          ),
           omega (arith, v.if-count-from.false, after.arrivals.updates.ok.0),
         )
       ]

@@ -9,8 +9,10 @@ invariant-loop-next g l = record {
   same : l.writer ≡ l.initial.writer;
   count : vec_len l.readings + vec_len l.finished ≡ vec_len l.fn.finished;
   room : vec_len l.fn.finished ≤ vec_capacity l.readings;
-  left : (questions : List Question) → All (HasAsked questions) l.fn.finished.items → All (HasAsked questions) l.finished.items;
-  each : (questions : List Question) → All (HasAsked questions) l.fn.finished.items → All (HasSeen l.fn.writer.history questions) l.readings.items;
+  left : (questions : List Question) →
+      All (HasAsked questions) l.fn.finished.items → All (HasAsked questions) l.finished.items;
+  each : (questions : List Question) →
+      All (HasAsked questions) l.fn.finished.items → All (HasSeen l.fn.writer.history questions) l.readings.items;
 }
 
 abbrev pub decreases-loop-next : goal.decreases-loop-next

@@ -13,5 +13,10 @@ publish_arrivals-requires-clause-ready g c κs within =
       own = ready.own;
       empty = ready.empty;
       none_staged = ready.none_staged;
-      fits = omega (arith, ready.fits, plain_entries updates (subst (λ (s : Source). AreForSource s updates) c.in-Assigned.is c.requires.ready.plain));
+      fits = omega (
+        arith,
+        ready.fits,
+        plain_entries updates
+            (subst (λ (s : Source). AreForSource s updates) c.in-Assigned.is c.requires.ready.plain),
+      );
     }

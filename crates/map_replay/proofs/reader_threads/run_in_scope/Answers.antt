@@ -9,6 +9,7 @@ returns g c =
     record {
       history = history;
       published = c.in_ok-arrivals.ensures.published;
-      end = subst (λ (n : ℕ). AreFinal history questions n c.take_last_looks-finals.result) (c.join_readers.ensures.count ∙ c.start_readers.ensures.count)
+      end = subst (λ (n : ℕ). AreFinal history questions n c.take_last_looks-finals.result)
+          (c.join_readers.ensures.count ∙ c.start_readers.ensures.count)
           (c.take_last_looks-finals.ensures questions c.join_readers.ensures.asked);
     }

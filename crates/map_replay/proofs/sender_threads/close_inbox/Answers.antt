@@ -10,9 +10,11 @@ returns-then-left-eq0-clause-mix g c =
     let taken = c.args.intake.inbox.taken in
     record {
       items = taken;
-      is_mixed = is_mixed c.args.intake.inbox.origin c.args.assignment c.args.done.items taken (omega (arith, c.args.assignment.dealing.senders.some))
+      is_mixed = is_mixed c.args.intake.inbox.origin c.args.assignment c.args.done.items taken
+          (omega (arith, c.args.assignment.dealing.senders.some))
           (omega (arith, c.requires.count, c.requires.senders, c.args.done.ok.0)) c.requires.done
-          (subst (λ (n : ℕ). All (λ (item : ℕ × Update). item.0 < n) taken) (sym c.requires.senders) c.requires.intake.known)
+          (subst (λ (n : ℕ). All (λ (item : ℕ × Update). item.0 < n) taken)
+          (sym c.requires.senders) c.requires.intake.known)
           (c.close-left.ensures.whole c.if-left-eq0.true);
       count = c.requires.all;
       numbers_are = c.requires.intake.numbers;

@@ -8,8 +8,10 @@ use Rattle.map_replay.specs.SenderStates.{IsOnItsWay, IsStarted, Keeps}
 use Rattle.map_replay.proofs.sender_threads.join_sender.Goals.{in-Running, in-Served}
 use Rattle.map_replay.proofs.sender_threads.join_sender.Goals as goal
 
-kept : (origin : Origin) (senders dealt_to : ℕ) (updates all : List Update) (number : ℕ) (before after : SenderProgress) → dealt_to ≡ senders → all ≡ updates →
-    Keeps dealt_to all before after → IsOnItsWay origin senders updates number before → IsOnItsWay origin senders updates number after
+kept : (origin : Origin) (senders dealt_to : ℕ)
+    (updates all : List Update) (number : ℕ) (before after : SenderProgress) → dealt_to ≡ senders → all ≡ updates →
+    Keeps dealt_to all before after →
+    IsOnItsWay origin senders updates number before → IsOnItsWay origin senders updates number after
 kept origin senders dealt_to updates all number before after same alike keeps is =
     let first = subst (λ (n : ℕ). Keeps n all before after) same keeps in
     let second = subst (λ (us : List Update). Keeps senders us before after) alike first in
@@ -25,7 +27,8 @@ returns g c = λ origin number is.
           let is_one = subst (λ (s : StartedSender). IsStarted origin c.args.assignment number s) w.in-Running.is is in
           let promise = w.in-Running.handle.promise in
           subst (λ (p : SenderProgress). IsOnItsWay origin senders updates number p) (sym w.progress-is)
-          (kept origin senders promise.assignment.dealing.senders.count updates promise.assignment.updates.now number promise.progress.value w.join-progress.result is_one.0 is_one.1 w.join-progress.ensures is_one.2)
+          (kept origin senders promise.assignment.dealing.senders.count updates promise.assignment.updates.now
+          number promise.progress.value w.join-progress.result is_one.0 is_one.1 w.join-progress.ensures is_one.2)
       | in-Served w ↦
           subst (λ (p : SenderProgress). IsOnItsWay origin senders updates number p) (sym w.progress-is)
           (subst (λ (s : StartedSender). IsStarted origin c.args.assignment number s) w.in-Served.is is)

@@ -27,9 +27,11 @@ loop-one-preserved g c =
       count = omega (arith, inv.count, c.in-Some.ensures.cases, c.push_reserved.ensures.len);
       room = omega (arith, inv.room, c.push_reserved.ensures.capacity);
       started = λ origin are.
-          (at_last (IsStartedAt origin c.args.assignment) c.loop-one.started.items before one c.in-Some.ensures.items (inv.started origin are)).0;
+          (at_last (IsStartedAt origin c.args.assignment) c.loop-one.started.items before one c.in-Some.ensures.items
+          (inv.started origin are)).0;
       done = λ origin are.
-          let last = (at_last (IsStartedAt origin c.args.assignment) c.loop-one.started.items before one c.in-Some.ensures.items (inv.started origin are)).1 in
+          let last = (at_last (IsStartedAt origin c.args.assignment)
+          c.loop-one.started.items before one c.in-Some.ensures.items (inv.started origin are)).1 in
           at_push (IsDone origin c.args.assignment) c.loop-one.done.items sender (inv.done origin are)
           (subst (λ (n : ℕ). IsDone origin c.args.assignment n sender)
           (omega (arith, inv.count, c.in-Some.ensures.cases, c.loop-one.done.ok.0, c.pop.new.self.ok.0))

@@ -15,9 +15,11 @@ pub close_inbox-arrivals-requires-clause-done : goal.close_inbox-arrivals-requir
 close_inbox-arrivals-requires-clause-done g c =
     let taken = c.publish_arriving-published in
     c.join_senders.ensures.done taken.new.intake.inbox.origin
-    (subst (λ (o : Origin). AreStarted o c.args.assignment taken.new.started.items) (sym taken.ensures.origin) taken.ensures.started)
+    (subst (λ (o : Origin). AreStarted o c.args.assignment taken.new.started.items)
+    (sym taken.ensures.origin) taken.ensures.started)
 
 pub returns-clause-published : goal.returns-clause-published
 returns-clause-published g c =
-    subst (λ (mixed : List Update). AreCut c.args.plan.batch mixed c.publish_arriving-published.new.writer.history) (sym c.close_inbox-arrivals.ensures.same)
+    subst (λ (mixed : List Update). AreCut c.args.plan.batch mixed c.publish_arriving-published.new.writer.history)
+    (sym c.close_inbox-arrivals.ensures.same)
     c.in_ok-published.ensures.published

@@ -1,5 +1,6 @@
 -- What is published with the batch that was taken is all that was taken.
-use Rattle.std.proofs.Common.{◌≡◌, ◌-◌, ◌≤◌, ◌++◌, [], ℕ, List, true, Result, Ok, Err, OnOk, is_ok, length, take, drop, ap, sym, subst, ◌∙◌, arith}
+use Rattle.std.proofs.Common.{◌≡◌, ◌-◌, ◌≤◌, ◌++◌, [], ℕ, List, true, Result, Ok, Err}
+use Rattle.std.proofs.Common.{OnOk, is_ok, length, take, drop, ap, sym, subst, ◌∙◌, arith}
 use Rattle.std.proofs.lemmas.Bool.{false≢true}
 use Rattle.std.proofs.lemmas.List.{append-nil, drop_all, length-drop, length-map, length-take}
 use Rattle.std.proofs.lemmas.List.Elements.{All-push}
@@ -20,7 +21,8 @@ where_ok (Ok x) ok holds = holds
 where_ok (Err e) ok holds = absurd (false≢true ok)
 
 -- the batch behind what is published, where the items are read from
-whole : (published before after items : List Update) (from : ℕ) → published ≡ before → items ≡ after → take from after ≡ before →
+whole : (published before after items : List Update) (from : ℕ) →
+    published ≡ before → items ≡ after → take from after ≡ before →
     published ++ take (length items - from) (drop from items) ≡ after
 whole published before after items from same is begins =
     let m = length items - from in
@@ -37,13 +39,28 @@ publish_batch-published-requires-clause-fits g c κs within =
     let after = c.take_batch.new.intake.arrivals.updates.items in
     let items = c.deref.result.now in
     let from = c.len-from.result in
-    let from_is : from ≡ length c.loop-rt.intake.arrivals.updates.items = omega (arith, c.loop-rt.intake.arrivals.updates.ok.0) in
-    let begins = subst (λ (n : ℕ). take n after ≡ c.loop-rt.intake.arrivals.updates.items) (sym from_is) c.take_batch.ensures.took.begins in
+    let from_is : from
+    ≡ length c.loop-rt.intake.arrivals.updates.items = omega (arith, c.loop-rt.intake.arrivals.updates.ok.0) in
+    let begins = subst (λ (n : ℕ). take n after ≡ c.loop-rt.intake.arrivals.updates.items)
+    (sym from_is) c.take_batch.ensures.took.begins in
     let same = where_ok c.loop-rt.published (sym c.is_ok.ensures.value ∙ c.if-is_ok.true) inv.published in
-    let all = whole (updates_of c.loop-rt.writer.history) c.loop-rt.intake.arrivals.updates.items after items from same.whole c.deref.ensures.value begins in
+    let all = whole (updates_of c.loop-rt.writer.history)
+    c.loop-rt.intake.arrivals.updates.items after items from same.whole c.deref.ensures.value begins in
     let plain = plain_entries after c.take_batch.ensures.intake.plain in
-    let few : length after ≤ length c.args.assignment.updates.now = omega (arith, c.take_batch.ensures.intake.within, ap (λ (l : List Update). length l) c.take_batch.ensures.intake.updates ∙ length-map c.take_batch.new.intake.inbox.taken (λ item. item.1)) in
-    omega (arith, ap (λ (l : List Update). length (entries_of l)) all, plain, few, c.requires.ready.fits, inv.same_map.capacity)
+    let few : length after ≤ length c.args.assignment.updates.now = omega (
+      arith,
+      c.take_batch.ensures.intake.within,
+      ap (λ (l : List Update). length l) c.take_batch.ensures.intake.updates
+          ∙ length-map c.take_batch.new.intake.inbox.taken (λ item. item.1),
+    ) in
+    omega (
+      arith,
+      ap (λ (l : List Update). length (entries_of l)) all,
+      plain,
+      few,
+      c.requires.ready.fits,
+      inv.same_map.capacity,
+    )
 
 pub loop-rt-preserved-then-is_ok : goal.loop-rt-preserved-then-is_ok
 loop-rt-preserved-then-is_ok g c =
@@ -53,13 +70,23 @@ loop-rt-preserved-then-is_ok g c =
     let from = c.len-from.result in
     let history = c.loop-rt.writer.history in
     let batch = take (length items - from) (drop from items) in
-    let from_is : from ≡ length c.loop-rt.intake.arrivals.updates.items = omega (arith, c.loop-rt.intake.arrivals.updates.ok.0) in
-    let begins = subst (λ (n : ℕ). take n after ≡ c.loop-rt.intake.arrivals.updates.items) (sym from_is) c.take_batch.ensures.took.begins in
+    let from_is : from
+    ≡ length c.loop-rt.intake.arrivals.updates.items = omega (arith, c.loop-rt.intake.arrivals.updates.ok.0) in
+    let begins = subst (λ (n : ℕ). take n after ≡ c.loop-rt.intake.arrivals.updates.items)
+    (sym from_is) c.take_batch.ensures.took.begins in
     let same = where_ok c.loop-rt.published (sym c.is_ok.ensures.value ∙ c.if-is_ok.true) inv.published in
-    let all = whole (updates_of history) c.loop-rt.intake.arrivals.updates.items after items from same.whole c.deref.ensures.value begins in
+    let all = whole (updates_of history)
+    c.loop-rt.intake.arrivals.updates.items after items from same.whole c.deref.ensures.value begins in
     let made = c.publish_batch-published.ensures in
     let few : length batch ≤ c.args.plan.batch =
-    omega (arith, length-take (length items - from) (drop from items), length-drop from items, ap (λ (l : List Update). length l) c.deref.ensures.value, c.take_batch.ensures.took.few, from_is) in
+    omega (
+      arith,
+      length-take (length items - from) (drop from items),
+      length-drop from items,
+      ap (λ (l : List Update). length l) c.deref.ensures.value,
+      c.take_batch.ensures.took.few,
+      from_is,
+    ) in
     record {
       same_map = record {
         origin = made.same_map.origin ∙ inv.same_map.origin;
@@ -67,7 +94,8 @@ loop-rt-preserved-then-is_ok g c =
       };
       origin = c.take_batch.ensures.took.own ∙ inv.origin;
       intake = c.take_batch.ensures.intake;
-      started = subst (λ (o : Origin). AreStarted o c.args.assignment c.take_batch.new.started.items) inv.origin c.take_batch.ensures.started;
+      started = subst (λ (o : Origin). AreStarted o c.args.assignment c.take_batch.new.started.items)
+          inv.origin c.take_batch.ensures.started;
       count = c.take_batch.ensures.count ∙ inv.count;
       number = omega (arith, inv.number, c.take_batch.ensures.took.more);
       staged = made.none_staged;

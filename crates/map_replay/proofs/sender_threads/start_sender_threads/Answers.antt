@@ -16,7 +16,8 @@ loop-sender-init g c =
       count = omega (arith, c.requires.count, c.args.started.now.ok.0, ap (λ l. length l) c.requires.none);
       room = c.requires.room;
       fresh = λ origin are place other below.
-          get_or_from_slice_get c.args.senders.items place (fresh_sender origin place) other (are.each place (omega (arith, below, are.all)));
+          get_or_from_slice_get c.args.senders.items place
+          (fresh_sender origin place) other (are.each place (omega (arith, below, are.all)));
       started = λ origin are. at_nil (IsStartedAt origin c.args.assignment) c.args.started.now.items c.requires.none;
     }
 
@@ -34,12 +35,15 @@ loop-sender-preserved g c =
       count = omega (arith, inv.count, c.in-Some.ensures.cases, c.push_reserved.ensures.len);
       room = omega (arith, inv.room, c.push_reserved.ensures.capacity);
       fresh = λ origin are.
-          (at_last (λ (place : ℕ) (s : Sending). s ≡ fresh_sender origin place) c.loop-sender.senders.items before sender c.in-Some.ensures.items (inv.fresh origin are)).0;
+          (at_last (λ (place : ℕ) (s : Sending). s ≡ fresh_sender origin place)
+          c.loop-sender.senders.items before sender c.in-Some.ensures.items (inv.fresh origin are)).0;
       started = λ origin are.
-          let is = (at_last (λ (place : ℕ) (s : Sending). s ≡ fresh_sender origin place) c.loop-sender.senders.items before sender c.in-Some.ensures.items (inv.fresh origin are)).1 in
+          let is = (at_last (λ (place : ℕ) (s : Sending). s ≡ fresh_sender origin place)
+          c.loop-sender.senders.items before sender c.in-Some.ensures.items (inv.fresh origin are)).1 in
           let place : ℕ = c.len.result in
           let place_is : number ≡ place = omega (arith, c.pop.new.self.ok.0) in
-          let below : place < senders = omega (arith, inv.count, c.in-Some.ensures.cases, c.pop.new.self.ok.0, place_is) in
+          let below :
+          place < senders = omega (arith, inv.count, c.in-Some.ensures.cases, c.pop.new.self.ok.0, place_is) in
           let fresh = subst (λ (n : ℕ). sender ≡ fresh_sender origin n) place_is is in
           at_push (IsStartedAt origin c.args.assignment) c.loop-sender.started.items one (inv.started origin are)
           (subst (λ (n : ℕ). IsStarted origin c.args.assignment n one)

@@ -8,8 +8,10 @@ abbrev pub invariant-loop-sender : goal.invariant-loop-sender
 invariant-loop-sender g l = record {
   count : vec_len l.started + vec_len l.senders ≡ l.assignment.dealing.senders.count;
   room : l.assignment.dealing.senders.count ≤ vec_capacity l.started;
-  fresh : (origin : Origin) → AreFresh origin l.assignment.dealing.senders.count l.fn.senders.items → AreAt (λ place sender. sender ≡ fresh_sender origin place) l.senders.items;
-  started : (origin : Origin) → AreFresh origin l.assignment.dealing.senders.count l.fn.senders.items → AreStarted origin l.assignment l.started.items;
+  fresh : (origin : Origin) → AreFresh origin l.assignment.dealing.senders.count l.fn.senders.items →
+      AreAt (λ place sender. sender ≡ fresh_sender origin place) l.senders.items;
+  started : (origin : Origin) → AreFresh origin l.assignment.dealing.senders.count l.fn.senders.items →
+      AreStarted origin l.assignment l.started.items;
 }
 
 abbrev pub decreases-loop-sender : goal.decreases-loop-sender

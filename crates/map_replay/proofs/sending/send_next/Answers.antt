@@ -13,9 +13,16 @@ returns g c = λ origin number here.
     let within : progress.place < length updates = grind (arith, common_steps) in
     let is : update ≡ get_or updates progress.place update = grind (arith, common_steps) in
     let same : c.pass_gate.new.progress.sender ≡ progress.sender = c.pass_gate.ensures.sender in
-    let sent : c.send.new.self.sent ≡ c.pass_gate.new.progress.sender.sent ++ update ∷ [] = grind (arith, common_steps) in
+    let sent : c.send.new.self.sent ≡ c.pass_gate.new.progress.sender.sent
+    ++ update ∷ [] = grind (arith, common_steps) in
     sent_on_its_way origin c.args.assignment.dealing.senders.count updates number progress
-    (record { sender = c.send.new.self; place = c.pass_gate.new.progress.place + c.args.assignment.dealing.senders.count; begun = false }) update
-    (omega (arith, c.args.assignment.dealing.senders.some)) within is (sent ∙ ap (λ (s : Sending). s.sent ++ update ∷ []) same)
-    (c.send.ensures.number ∙ ap (λ (s : Sending). s.number) same) (c.send.ensures.own ∙ ap (λ (s : Sending). s.origin) same)
+    (record {
+      sender = c.send.new.self;
+      place = c.pass_gate.new.progress.place + c.args.assignment.dealing.senders.count;
+      begun = false;
+    }) update
+    (omega (arith, c.args.assignment.dealing.senders.some)) within is
+    (sent ∙ ap (λ (s : Sending). s.sent ++ update ∷ []) same)
+    (c.send.ensures.number ∙ ap (λ (s : Sending). s.number) same)
+    (c.send.ensures.own ∙ ap (λ (s : Sending). s.origin) same)
     (omega (arith, c.pass_gate.ensures.place)) here

@@ -16,8 +16,14 @@ loop-c-preserved c = λ z code from to.
     let last = c.args.last in
     let n = 64 - leading_zeros w64 (bit_xor first last) in
     let free = (n + d - 1 - at) / d in
-    let alike = between_alike first last z n (begin_alike first last n (differing_bits first last (code_fits d first c.requires.dimension c.requires.code) c.ranges.last.fits)) from to in
+    let alike = between_alike first last z n
+    (begin_alike first last n
+    (differing_bits first last (code_fits d first c.requires.dimension c.requires.code) c.ranges.last.fits))
+    from to in
     let enough : n ≤ free * d + at = omega arith in
-    let same = coordinates_alike d at first z n free (omega arith) (code_fits d first c.requires.dimension c.requires.code) (code_fits d z c.requires.dimension code) alike enough in
-    let near = c.interval_distance.ensures (coordinate d at z) (same ∙ ap (λ (v : ℕ). v / 2 ^ free) (sym (c.decode-coords.ensures.coordinates at (omega arith)))) in
+    let same =
+    coordinates_alike d at first z n free (omega arith) (code_fits d first c.requires.dimension c.requires.code)
+    (code_fits d z c.requires.dimension code) alike enough in
+    let near = c.interval_distance.ensures (coordinate d at z)
+    (same ∙ ap (λ (v : ℕ). v / 2 ^ free) (sym (c.decode-coords.ensures.coordinates at (omega arith)))) in
     omega (arith, near, apart_from_distance d c.args.centre.now z at (omega arith), c.loop-c.invariant z code from to)

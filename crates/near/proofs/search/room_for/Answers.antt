@@ -8,5 +8,6 @@ use Rattle.near.proofs.search.room_for.Goals as goal
 pub returns-clause-answered : goal.returns-clause-answered
 returns-clause-answered c =
     let d = c.args.boxes.now.dims in
-    an_answer d c.args.centre.now c.codes.ensures.dimension (omega (arith, c.told-centre, c.codes.ensures.dimension)) c.args.boxes.now.codes c.args.k
+    an_answer d c.args.centre.now c.codes.ensures.dimension
+    (omega (arith, c.told-centre, c.codes.ensures.dimension)) c.args.boxes.now.codes c.args.k
     (subst (All (IsCode d)) c.codes.ensures.codes c.codes.ensures.each)

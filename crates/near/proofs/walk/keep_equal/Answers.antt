@@ -14,9 +14,11 @@ loop-code-init c = record { kept = kept_none c.args.kept.now c.requires.some c.r
 pub loop-code-preserved : goal.loop-code-preserved
 loop-code-preserved c =
     let z = get_or c.args.codes.now c.loop-code.code-index 0 in
-    let one = subst (λ (far : ℕ). AreKept c.loop-code.kept ((far, z) ∷ []) c.keep.new.kept) c.distance_from.ensures c.keep.ensures.kept in
+    let one = subst (λ (far : ℕ). AreKept c.loop-code.kept ((far, z) ∷ []) c.keep.new.kept)
+    c.distance_from.ensures c.keep.ensures.kept in
     record {
-      kept = kept_one_more c.args.d c.args.centre.now c.args.codes.now c.loop-code.code-index z c.args.kept.now c.loop-code.kept c.keep.new.kept c.loop-code-test.true refl
+      kept = kept_one_more c.args.d c.args.centre.now c.args.codes.now
+          c.loop-code.code-index z c.args.kept.now c.loop-code.kept c.keep.new.kept c.loop-code-test.true refl
           c.loop-code.invariant.kept one;
       heap = c.keep.ensures.heap;
     }
@@ -28,14 +30,18 @@ returns-then-not-stands_before-clause-kept c =
     let centre = c.args.centre.now in
     let z = get_or codes c.loop-code.code-index 0 in
     let kept = c.loop-code.kept in
-    let behind : rank_at kept 0 ≤ rank (c.distance_from.result, z) = elim (cases_lt (rank (c.distance_from.result, z)) (rank_at kept 0)) [
+    let behind : rank_at kept 0 ≤ rank (c.distance_from.result, z) =
+    elim (cases_lt (rank (c.distance_from.result, z)) (rank_at kept 0)) [
       | inl before ↦ absurd (iff_false c.stands_before.ensures c.if-not-stands_before.true before)
       | inr rest ↦ rest
     ] in
-    let equal : All (λ w. w ≡ z) codes = λ k e within. c.requires.equal k e within ∙ sym (c.requires.equal c.loop-code.code-index 0 c.loop-code-test.true) in
-    kept_no_equal d centre codes c.loop-code.code-index z c.args.kept.now kept equal (omega arith) c.loop-code.invariant.heap
+    let equal : All (λ w. w ≡ z) codes = λ k e within. c.requires.equal k e within
+    ∙ sym (c.requires.equal c.loop-code.code-index 0 c.loop-code-test.true) in
+    kept_no_equal d centre codes c.loop-code.code-index z c.args.kept.now kept equal
+    (omega arith) c.loop-code.invariant.heap
     (subst (λ (far : ℕ). rank_at kept 0 ≤ rank (far, z)) c.distance_from.ensures behind) c.loop-code.invariant.kept
 
 pub returns-clause-kept : goal.returns-clause-kept
-returns-clause-kept c = subst (λ (codes : List ℕ). AreKept c.args.kept.now (pairs_of c.args.d c.args.centre.now codes) c.loop-code.kept)
+returns-clause-kept c =
+    subst (λ (codes : List ℕ). AreKept c.args.kept.now (pairs_of c.args.d c.args.centre.now codes) c.loop-code.kept)
     (take_all c.loop-code.code-index c.args.codes.now (omega arith)) c.loop-code.invariant.kept

@@ -7,4 +7,6 @@ use Rattle.pgm_script.proofs.plain.plain_command.Goals as goal
 -- find
 pub returns-in-102-clause-command : goal.returns-in-102-clause-command
 returns-in-102-clause-command c =
-    begins c.args.kind ScriptKind.Find c.args.text.now (102 ∷ 105 ∷ 110 ∷ 100 ∷ []) find_command c.in-Find.is c.in-102.len_at_least (omega arith, (omega arith, (omega arith, (omega arith, tt)))) (omega arith) refl refl refl (omega arith, omega arith)
+    begins c.args.kind ScriptKind.Find c.args.text.now (102 ∷ 105 ∷ 110 ∷ 100 ∷ [])
+    find_command c.in-Find.is c.in-102.len_at_least (omega arith, (omega arith, (omega arith, (omega arith, tt))))
+    (omega arith) refl refl refl (omega arith, omega arith)

@@ -17,6 +17,7 @@ pub returns-else-end-text-clause-lines : goal.returns-else-end-text-clause-lines
 returns-else-end-text-clause-lines c =
     let text = c.args.text.now in
     let e = c.line_len-end.result in
-    let none : take (length text - e) (drop e text) ≡ [] = nil_from_length _ (omega (arith, length-take (length text - e) (drop e text), length-drop e text)) in
+    let none : take (length text - e) (drop e text)
+    ≡ [] = nil_from_length _ (omega (arith, length-take (length text - e) (drop e text), length-drop e text)) in
     lines-last text (omega arith) (λ k below. c.line_len-end.ensures.before k (omega arith))
     ∙ ap (λ (w : List ℕ). text ∷ lines_of w) (sym none)

@@ -10,7 +10,8 @@ returns-clause-none c none =
     let b = c.blank_len.result in
     let rest = take (length line - b) (drop b line) in
     let len = c.word_len-len.result in
-    no-word-in line rest b len (take_rest line b) c.blank_len.ensures.within c.blank_len.ensures.before c.blank_len.ensures.found
+    no-word-in line rest b len
+    (take_rest line b) c.blank_len.ensures.within c.blank_len.ensures.before c.blank_len.ensures.found
     (omega (arith, none, length-take len rest, c.word_len-len.ensures.within)) c.word_len-len.ensures.found
 
 pub returns-clause-some : goal.returns-clause-some
@@ -20,5 +21,6 @@ returns-clause-some c some =
     let rest = take (length line - b) (drop b line) in
     let len = c.word_len-len.result in
     some-word-in line rest b len (take_rest line b) c.blank_len.ensures.within c.blank_len.ensures.before
-    (omega (arith, some, length-take len rest)) c.word_len-len.ensures.within c.word_len-len.ensures.before c.word_len-len.ensures.found
+    (omega (arith, some, length-take len rest))
+    c.word_len-len.ensures.within c.word_len-len.ensures.before c.word_len-len.ensures.found
     ∙ ap (λ (w : List ℕ). take len rest ∷ words_of w) (sym (take_rest rest len))

@@ -12,7 +12,14 @@ returns-in_err-value-clause-none c =
     let byte = get_or line c.loop-i.i 0 in
     let digit : is_ascii_digit byte ≡ true = grind (arith, nat_tests) in
     let more = digits-more line c.loop-i.i c.loop-i.value byte c.loop-i.invariant (omega arith) refl digit in
-    if-none _ (HasTooGreat line) (record { len = c.loop-i.i + 1; value = c.loop-i.value * 10 + (byte - 48); read = more; within = omega arith; great = omega (arith, c.in_err-value.ensures) })
+    if-none _ (HasTooGreat line)
+    (record {
+      len = c.loop-i.i + 1;
+      value = c.loop-i.value * 10 + (byte - 48);
+      read = more;
+      within = omega arith;
+      great = omega (arith, c.in_err-value.ensures);
+    })
 
 pub loop-i-preserved : goal.loop-i-preserved
 loop-i-preserved c =

@@ -6,6 +6,7 @@ use Rattle.pgm_script.proofs.words.numbers.Given as goal
 
 abbrev pub invariant-loop-i : goal.invariant-loop-i
 invariant-loop-i l = record {
-  read : numbers_of l.most (words_of l.line) ≡ behind (take l.i l.numbers) (numbers_of (drop l.i l.most) (words_of l.rest));
+  read : numbers_of l.most (words_of l.line)
+      ≡ behind (take l.i l.numbers) (numbers_of (drop l.i l.most) (words_of l.rest));
   len : length l.numbers ≡ 8;
 }

@@ -14,11 +14,15 @@ loop-k-preserved c =
     let value : c.from.result * c.from-in-loop-k.result / c.from-in-loop-k-2.result ≡ even_place m pieces k = cc in
     record {
       places = rw (c.in_ok-add_cut.ensures, value)
-          (AreCutsAt-with_cut m k (even_place m pieces) items (omega arith) (λ j below. even-rises m pieces j k (omega arith) (omega arith)) (even-below m pieces k (omega arith)) inv.places);
-      count = rw (c.in_ok-add_cut.ensures, value) (omega (arith, length-with_cut items (even_place m pieces k), inv.count));
+          (AreCutsAt-with_cut m k
+          (even_place m pieces) items (omega arith) (λ j below. even-rises m pieces j k (omega arith) (omega arith))
+          (even-below m pieces k (omega arith)) inv.places);
+      count =
+          rw (c.in_ok-add_cut.ensures, value) (omega (arith, length-with_cut items (even_place m pieces k), inv.count));
     }
 
 pub returns-clause-places : goal.returns-clause-places
 returns-clause-places c =
     let at_end : c.loop-k.k ≡ c.args.pieces.count = omega (arith, c.loop-k.auto.k-end (omega arith)) in
-    subst (λ (n : ℕ). AreCutsAt c.args.m n (even_place c.args.m c.args.pieces.count) c.loop-k.cuts.items) at_end c.loop-k.invariant.places
+    subst (λ (n : ℕ). AreCutsAt c.args.m n (even_place c.args.m c.args.pieces.count) c.loop-k.cuts.items)
+    at_end c.loop-k.invariant.places

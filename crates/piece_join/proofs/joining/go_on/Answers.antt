@@ -15,7 +15,8 @@ take_rest-requires-clause-meets g c =
     rw (inv.bound, take_rest piece next) (
       c.loop-at.at,
       inv.begun,
-      IsSegmentation-met (points_in c.args.points) (bound_of c.args.hulls.now) c.args.end c.requires.piece.0 next c.loop-at.at piece _ c.if-next-piece.true
+      IsSegmentation-met (points_in c.args.points)
+          (bound_of c.args.hulls.now) c.args.end c.requires.piece.0 next c.loop-at.at piece _ c.if-next-piece.true
           c.if-piece-next.true c.requires.piece.1,
     )
 
@@ -25,7 +26,9 @@ returns-then-piece-next-clause-cost g c =
     let piece = c.args.piece.now in
     let next = c.first_from-next.result in
     let p = points_in c.args.points in
-    let met = IsSegmentation-met p (bound_of c.args.hulls.now) c.args.end c.requires.piece.0 next c.loop-at.at piece _ c.if-next-piece.true c.if-piece-next.true c.requires.piece.1 in
+    let met = IsSegmentation-met p (bound_of c.args.hulls.now) c.args.end
+    c.requires.piece.0 next c.loop-at.at piece _ c.if-next-piece.true c.if-piece-next.true c.requires.piece.1 in
     let cost = rw (inv.bound, take_rest piece next) at c.take_rest.ensures.cost in
-    so_far (λ (at : ℕ). IsSegmentation p (bound_of c.args.hulls.now) at c.args.end (drop next piece)) c.take_rest.result c.take_rest.new.steps c.loop-at.steps c.loop-at.at c.args.steps.now c.args.at
+    so_far (λ (at : ℕ). IsSegmentation p (bound_of c.args.hulls.now) at c.args.end (drop next piece))
+    c.take_rest.result c.take_rest.new.steps c.loop-at.steps c.loop-at.at c.args.steps.now c.args.at
     cost met inv.cost

@@ -15,4 +15,6 @@ returns-then-edge-to-clause-one_list c = λ others whole.
 pub returns-clause-one_list : goal.returns-clause-one_list
 returns-clause-one_list c =
     let p = points_in c.args.points in
-    IfOk-weaker c.join_from.result _ _ (λ segments own others whole. IsSegmentation-unique p c.args.eps 0 c.args.to segments.items others own whole) c.join_from.ensures
+    IfOk-weaker c.join_from.result _ _
+    (λ segments own others whole. IsSegmentation-unique p c.args.eps 0 c.args.to segments.items others own whole)
+    c.join_from.ensures

@@ -15,4 +15,5 @@ pub go_on-requires-clause-begun : goal.go_on-requires-clause-begun
 go_on-requires-clause-begun g c =
     let p = points_in c.args.points in
     let left = subst (IsSegmentation p c.args.eps 0 c.args._edge) c.in-Some.ensures.items c.requires.left in
-    rw c.in_ok-hulls.ensures.bound (IsBegun-front p c.args.eps 0 c.args._edge c.args.to c.pop.new.self.items c.in-Some.last (omega arith) left)
+    rw c.in_ok-hulls.ensures.bound
+    (IsBegun-front p c.args.eps 0 c.args._edge c.args.to c.pop.new.self.items c.in-Some.last (omega arith) left)

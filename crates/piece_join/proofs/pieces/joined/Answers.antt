@@ -6,7 +6,12 @@ use Rattle.piece_join.proofs.pieces.joined.Goals as goal
 pub go_on-requires-clause-end : goal.go_on-requires-clause-end
 go_on-requires-clause-end g c =
     let work = c.args.work.now in
-    omega (arith, c.edge-end.ensures, c.len-to.ensures, edge_next_within _ c.loop-number.number work.cuts.now work.inside (omega arith))
+    omega (
+      arith,
+      c.edge-end.ensures,
+      c.len-to.ensures,
+      edge_next_within _ c.loop-number.number work.cuts.now work.inside (omega arith),
+    )
 
 pub loop-number-preserved : goal.loop-number-preserved
 loop-number-preserved g c =

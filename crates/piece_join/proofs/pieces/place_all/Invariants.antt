@@ -9,9 +9,12 @@ abbrev pub invariant-loop-piece : goal.invariant-loop-piece
 invariant-loop-piece l = record {
   len : vec_len l.parts ≡ vec_len l.fn.parts;
   inside : All (λ piece. length piece.of.cuts.now < vec_len l.fn.parts) l.pieces.items;
-  same : (work : Work) → All (λ piece. piece.of ≡ work) l.fn.pieces.items → All (λ piece. piece.of ≡ work) l.pieces.items;
-  kept : (work : Work) (i : ℕ) → All (λ piece. piece.of ≡ work) l.fn.pieces.items → IsPlaced work l.fn.parts.items i → IsPlaced work l.parts.items i;
-  put : (work : Work) (i : ℕ) → All (λ piece. piece.of ≡ work) l.fn.pieces.items → 0 < times i (numbers_of l.fn.pieces.items) →
+  same : (work : Work) →
+      All (λ piece. piece.of ≡ work) l.fn.pieces.items → All (λ piece. piece.of ≡ work) l.pieces.items;
+  kept : (work : Work) (i : ℕ) → All (λ piece. piece.of ≡ work) l.fn.pieces.items →
+      IsPlaced work l.fn.parts.items i → IsPlaced work l.parts.items i;
+  put : (work : Work) (i : ℕ) →
+      All (λ piece. piece.of ≡ work) l.fn.pieces.items → 0 < times i (numbers_of l.fn.pieces.items) →
       (0 < times i (numbers_of l.pieces.items)) ⊎ IsPlaced work l.parts.items i;
 }
 

@@ -14,7 +14,8 @@ place_all-requires c =
     let work = c.args.work.now in
     let origin = c.args.claims.origin in
     let inv = c.loop-worked.invariant in
-    let left = All-pop (IsWorked work origin) c.loop-worked.done.items c.pop.new.self.items (Some c.in-Some.worked) c.in-Some.ensures.items inv.each in
+    let left = All-pop (IsWorked work origin) c.loop-worked.done.items c.pop.new.self.items
+    (Some c.in-Some.worked) c.in-Some.ensures.items inv.each in
     let done = IsDone-from_worked work origin c.in-Some.worked c.in_ok-pieces.field-0 c.in_ok-pieces.was left.1 in
     All-weaker (λ (p : Pieced). p.of ≡ work) (λ (p : Pieced). length p.of.cuts.now < vec_len c.loop-worked.parts)
     (λ p own. omega (arith, ap (λ (w : Work). length w.cuts.now) own, inv.parts)) c.in_ok-pieces.field-0.items done.same
@@ -27,7 +28,8 @@ loop-worked-preserved c =
     let seats = c.loop-worked.seats.items in
     let seat = c.in-Some.worked.seat in
     let pieces = c.in_ok-pieces.field-0.items in
-    let left = All-pop (IsWorked work origin) c.loop-worked.done.items c.pop.new.self.items (Some c.in-Some.worked) c.in-Some.ensures.items inv.each in
+    let left = All-pop (IsWorked work origin) c.loop-worked.done.items c.pop.new.self.items
+    (Some c.in-Some.worked) c.in-Some.ensures.items inv.each in
     let done = IsDone-from_worked work origin c.in-Some.worked c.in_ok-pieces.field-0 c.in_ok-pieces.was left.1 in
     let count = length_push seats seat in
     rw c.in_ok-push.ensures.items (record {
@@ -36,7 +38,8 @@ loop-worked-preserved c =
       own = All-push (λ (s : Drawn). s.origin ≡ origin) seats seat inv.own done.own;
       ended = omega (arith, ended_count-push seats seat done.ended, inv.ended, count);
       each = left.0;
-      put = one_done work origin c.loop-worked.parts.items c.place_all.new.parts.items seats seat pieces done (λ i before. c.place_all.ensures.kept work i done.same before)
+      put = one_done work origin c.loop-worked.parts.items c.place_all.new.parts.items seats seat pieces done
+          (λ i before. c.place_all.ensures.kept work i done.same before)
           (λ i some. c.place_all.ensures.placed work i done.same some) inv.put;
     })
 
@@ -45,5 +48,6 @@ returns c =
     let inv = c.loop-worked.invariant in
     let pieces = c.args.claims.origin.pieces in
     let none_left : vec_len c.loop-worked.done ≡ 0 = omega (arith, c.in_default.ensures.cases) in
-    all_placed c.args.work.now c.loop-worked.parts.items c.loop-worked.seats.items c.close.result pieces (omega (arith, inv.count, c.requires.staffed)) c.requires.pieces
+    all_placed c.args.work.now c.loop-worked.parts.items c.loop-worked.seats.items c.close.result pieces
+    (omega (arith, inv.count, c.requires.staffed)) c.requires.pieces
     (omega (arith, inv.parts, c.loop-worked.parts.ok.0)) inv.ended c.close.ensures.once c.close.ensures.word inv.put

@@ -9,4 +9,6 @@ pub returns-clause-one_list : goal.returns-clause-one_list
 returns-clause-one_list g c =
     let points = c.args.points in
     IfOk-weaker c.joined_from.result _ _
-    (λ segments own others whole. IsSegmentation-unique (points_in points) c.args.eps 0 (length points.xs.now) segments.items others own whole) c.joined_from.ensures
+    (λ segments own others whole.
+    IsSegmentation-unique (points_in points) c.args.eps 0 (length points.xs.now) segments.items others own whole)
+    c.joined_from.ensures

@@ -9,5 +9,6 @@ abbrev pub invariant-loop-number : goal.invariant-loop-number
 invariant-loop-number l = record {
   none : l.number ≡ 0 → l.whole.items ≡ [];
   some : (k : ℕ) → l.number ≡ suc k →
-      IsRelaxed (points_in l.work.points) l.work.eps 0 (edge_of (length l.work.points.xs.now) l.work.cuts.now l.number) (take k l.work.cuts.now) l.whole.items;
+      IsRelaxed (points_in l.work.points) l.work.eps 0
+      (edge_of (length l.work.points.xs.now) l.work.cuts.now l.number) (take k l.work.cuts.now) l.whole.items;
 }

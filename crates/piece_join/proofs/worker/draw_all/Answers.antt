@@ -25,7 +25,10 @@ loop-number-preserved g c =
     record {
       own = c.in-Some.ensures.own ∙ inv.own;
       drawn = rw (c.in_ok-push.ensures.items, more)
-          (map-append (λ (p : Pieced). p.number) pieces (piece ∷ []) ∙ ap (λ l. l ++ piece.number ∷ []) inv.drawn ∙ ap (λ (n : ℕ). c.loop-number.seat.drawn ++ n ∷ []) c.in_ok-segmented.ensures.number);
-      same = rw c.in_ok-push.ensures.items (All-push (λ (p : Pieced). p.of ≡ c.args.work.now) pieces piece inv.same c.in_ok-segmented.ensures.of);
-      few = subst AreFew (sym more) (AreFew-more c.loop-number.seat.drawn c.in-Some.number inv.few c.in-Some.ensures.rises);
+          (map-append (λ (p : Pieced). p.number) pieces (piece ∷ []) ∙ ap (λ l. l ++ piece.number ∷ []) inv.drawn
+          ∙ ap (λ (n : ℕ). c.loop-number.seat.drawn ++ n ∷ []) c.in_ok-segmented.ensures.number);
+      same = rw c.in_ok-push.ensures.items
+          (All-push (λ (p : Pieced). p.of ≡ c.args.work.now) pieces piece inv.same c.in_ok-segmented.ensures.of);
+      few = subst AreFew
+          (sym more) (AreFew-more c.loop-number.seat.drawn c.in-Some.number inv.few c.in-Some.ensures.rises);
     }

@@ -11,7 +11,8 @@ use Rattle.program.proofs.history.map_questions_in.Goals as goal
 one_more : (lines : List ScriptLine) (i : ℕ) (d : ScriptLine) → i < length lines →
     map_questions_in (take i lines) ++ map_questions_in (get_or lines i d ∷ []) ≡ map_questions_in (take (i + 1) lines)
 one_more lines i d there =
-    sym (filter_map-append map_question_in (take i lines) (get_or lines i d ∷ [])) ∙ ap map_questions_in (sym (take_more lines i d there))
+    sym (filter_map-append map_question_in (take i lines) (get_or lines i d ∷ []))
+    ∙ ap map_questions_in (sym (take_more lines i d there))
 
 pub loop-i-preserved : goal.loop-i-preserved
 loop-i-preserved c =

@@ -11,7 +11,8 @@ use Rattle.program.proofs.history.updates_in.Goals as goal
 one_more : (lines : List ScriptLine) (i : ℕ) (d : ScriptLine) → i < length lines →
     updates_in (take i lines) ++ updates_in (get_or lines i d ∷ []) ≡ updates_in (take (i + 1) lines)
 one_more lines i d there =
-    sym (filter_map-append update_in (take i lines) (get_or lines i d ∷ [])) ∙ ap updates_in (sym (take_more lines i d there))
+    sym (filter_map-append update_in (take i lines) (get_or lines i d ∷ []))
+    ∙ ap updates_in (sym (take_more lines i d there))
 
 pub loop-i-preserved : goal.loop-i-preserved
 loop-i-preserved c =

@@ -15,13 +15,16 @@ use Rattle.program.proofs.inputs.centres_in.Goals as goal
 one_more : (lines : List ScriptLine) (i : ℕ) (d : ScriptLine) → i < length lines →
     centres_in (take i lines) ++ centres_in (get_or lines i d ∷ []) ≡ centres_in (take (i + 1) lines)
 one_more lines i d there =
-    sym (filter_map-append centre_in (take i lines) (get_or lines i d ∷ [])) ∙ ap centres_in (sym (take_more lines i d there))
+    sym (filter_map-append centre_in (take i lines) (get_or lines i d ∷ []))
+    ∙ ap centres_in (sym (take_more lines i d there))
 
 -- the lines of a script of centres hold such centres
-each_is : (d : ℕ) (lines : List ScriptLine) → All (IsLineOf (ScriptKind.Near d)) lines → All (λ centre. IsInRange d centre.place) (centres_in lines)
+each_is : (d : ℕ) (lines : List ScriptLine) →
+    All (IsLineOf (ScriptKind.Near d)) lines → All (λ centre. IsInRange d centre.place) (centres_in lines)
 each_is d [] each = All-nil _
 each_is d (near_line place count ∷ lines) each =
-    All-cons (λ (centre : Centre). IsInRange d centre.place) (record { place = place; count = count }) (centres_in lines)
+    All-cons
+    (λ (centre : Centre). IsInRange d centre.place) (record { place = place; count = count }) (centres_in lines)
     (All-head (IsLineOf (ScriptKind.Near d)) (near_line place count) lines each)
     (each_is d lines (All-tail (IsLineOf (ScriptKind.Near d)) (near_line place count) lines each))
 each_is d (line ∷ lines) each = absurd (All-head (IsLineOf (ScriptKind.Near d)) line lines each)
@@ -37,5 +40,6 @@ returns-clause-centres c = c.loop-i.invariant ∙ ap centres_in (take_all c.loop
 
 pub returns-clause-each : goal.returns-clause-each
 returns-clause-each c =
-    subst (All (λ (centre : Centre). IsInRange c.args.d centre.place)) (sym (c.loop-i.invariant ∙ ap centres_in (take_all c.loop-i.i c.args.lines.now (omega arith))))
+    subst (All (λ (centre : Centre). IsInRange c.args.d centre.place))
+    (sym (c.loop-i.invariant ∙ ap centres_in (take_all c.loop-i.i c.args.lines.now (omega arith))))
     (each_is c.args.d c.args.lines.now c.requires)

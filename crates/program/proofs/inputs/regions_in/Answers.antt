@@ -15,13 +15,16 @@ use Rattle.program.proofs.inputs.regions_in.Goals as goal
 one_more : (lines : List ScriptLine) (i : ℕ) (d : ScriptLine) → i < length lines →
     regions_in (take i lines) ++ regions_in (get_or lines i d ∷ []) ≡ regions_in (take (i + 1) lines)
 one_more lines i d there =
-    sym (filter_map-append region_in (take i lines) (get_or lines i d ∷ [])) ∙ ap regions_in (sym (take_more lines i d there))
+    sym (filter_map-append region_in (take i lines) (get_or lines i d ∷ []))
+    ∙ ap regions_in (sym (take_more lines i d there))
 
 -- the lines of a script of regions hold such regions
-each_is : (d : ℕ) (lines : List ScriptLine) → All (IsLineOf (ScriptKind.Region d)) lines → All (IsRegionOf d) (regions_in lines)
+each_is : (d : ℕ) (lines : List ScriptLine) →
+    All (IsLineOf (ScriptKind.Region d)) lines → All (IsRegionOf d) (regions_in lines)
 each_is d [] each = All-nil _
 each_is d (region_line region ∷ lines) each =
-    All-cons (IsRegionOf d) region (regions_in lines) (All-head (IsLineOf (ScriptKind.Region d)) (region_line region) lines each)
+    All-cons (IsRegionOf d) region
+    (regions_in lines) (All-head (IsLineOf (ScriptKind.Region d)) (region_line region) lines each)
     (each_is d lines (All-tail (IsLineOf (ScriptKind.Region d)) (region_line region) lines each))
 each_is d (line ∷ lines) each = absurd (All-head (IsLineOf (ScriptKind.Region d)) line lines each)
 
@@ -36,5 +39,6 @@ returns-clause-regions c = c.loop-i.invariant ∙ ap regions_in (take_all c.loop
 
 pub returns-clause-each : goal.returns-clause-each
 returns-clause-each c =
-    subst (All (IsRegionOf c.args.d)) (sym (c.loop-i.invariant ∙ ap regions_in (take_all c.loop-i.i c.args.lines.now (omega arith))))
+    subst (All (IsRegionOf c.args.d))
+    (sym (c.loop-i.invariant ∙ ap regions_in (take_all c.loop-i.i c.args.lines.now (omega arith))))
     (each_is c.args.d c.args.lines.now c.requires)

@@ -17,7 +17,8 @@ use Rattle.program.proofs.tasks.box_task.Goals as goal
 
 -- the task of points and regions that were read
 searched : (files : Files) (searching : Searching) (coords : List ℕ) (lines : List ScriptLine) (regions : List Region) →
-    reads_points searching.dims files searching.file (Ok coords) → reads_script (ScriptKind.Region searching.dims) files searching.script (Ok lines) →
+    reads_points searching.dims files searching.file (Ok coords) →
+    reads_script (ScriptKind.Region searching.dims) files searching.script (Ok lines) →
     regions ≡ regions_in lines → reads files (search searching) (Ok (box searching.dims coords regions))
 searched files searching coords lines regions points script is =
     (coords, points, (lines, script, ap (λ (r : List Region). Ok (box searching.dims coords r)) is))
@@ -46,7 +47,9 @@ returns-clause-answer g c =
     let quiet = two.answer.unfaulted ∙ one.answer.unfaulted in
     record {
       ok = (searched _ (searched_of searching) coords lines _ one.answer.ok
-          (subst (λ (files : Files). reads_script (ScriptKind.Region searching.dims) files searching.script.now (Ok lines)) one.files two.answer.ok)
+          (subst
+          (λ (files : Files). reads_script (ScriptKind.Region searching.dims) files searching.script.now (Ok lines))
+          one.files two.answer.ok)
           (c.in_ok-regions.ensures.regions ∙ ap regions_in c.deref.ensures.value));
       unfaulted = quiet;
       stopped = tt;
@@ -63,9 +66,15 @@ returns-in_err-lines-clause-answer g c =
     let searching = searched_of c.args.searching in
     let stopped = c.in_err-lines.field-0.0 in
     let one = c.in_ok-coords.ensures in
-    let two = subst (λ (f : Files). Answers {B = Vec ScriptLine Global} (reads_script (ScriptKind.Region searching.dims) f searching.script) (λ lines. lines.items) middle after (Err stopped)) one.files c.in_err-lines.ensures.answer in
+    let two = subst (λ (f : Files).
+    Answers {B = Vec ScriptLine Global} (reads_script (ScriptKind.Region searching.dims) f searching.script)
+    (λ lines. lines.items) middle after (Err stopped))
+    one.files c.in_err-lines.ensures.answer in
     (subst (Answers (reads files (search searching)) task_of before after)
     (sym (handed_on _ stopped c.from_residual-in_err-lines.ensures.1))
-    (second_stops (reads_points searching.dims files searching.file) (λ coords. reads_script (ScriptKind.Region searching.dims) files searching.script)
-    (λ coords lines. gives (tasks.Task.box searching.dims coords (regions_in lines))) (λ (coords : Vec ℕ Global). coords.items)
-    (λ (lines : Vec ScriptLine Global). lines.items) task_of before middle after c.in_ok-coords.coords stopped one.answer two))
+    (second_stops (reads_points searching.dims files searching.file)
+    (λ coords. reads_script (ScriptKind.Region searching.dims) files searching.script)
+    (λ coords lines. gives (tasks.Task.box searching.dims coords (regions_in lines)))
+    (λ (coords : Vec ℕ Global). coords.items)
+    (λ (lines : Vec ScriptLine Global). lines.items)
+    task_of before middle after c.in_ok-coords.coords stopped one.answer two))

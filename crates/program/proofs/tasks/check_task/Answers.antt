@@ -20,10 +20,14 @@ returns-clause-answer g c =
     let keys = c.in_ok-keys.keys in
     let saved = c.in_ok-saved.saved in
     let one = c.in_ok-keys.ensures in
-    let two = subst (λ (f : Files). Answers {B = SavedIndex} (reads_saved f checking.index) (λ read. read) middle after (Ok saved)) one.files c.in_ok-saved.ensures.answer in
-    (then_goes_on (reads_keys (not checking.narrow) files checking.file) (λ numbers. then (reads_saved files checking.index) (λ read. judges numbers read))
+    let two = subst
+    (λ (f : Files). Answers {B = SavedIndex} (reads_saved f checking.index) (λ read. read) middle after (Ok saved))
+    one.files c.in_ok-saved.ensures.answer in
+    (then_goes_on (reads_keys (not checking.narrow) files checking.file)
+    (λ numbers. then (reads_saved files checking.index) (λ read. judges numbers read))
     (λ sorted. sorted.keys.items) task_of before after middle keys c.judged.result one.answer
-    (then_goes_on (reads_saved files checking.index) (λ read. judges keys.keys.items read) (λ read. read) task_of middle after after saved c.judged.result two (c.judged.ensures after)))
+    (then_goes_on (reads_saved files checking.index) (λ read. judges keys.keys.items read)
+    (λ read. read) task_of middle after after saved c.judged.result two (c.judged.ensures after)))
 
 pub returns-in_err-saved-clause-answer : goal.returns-in_err-saved-clause-answer
 returns-in_err-saved-clause-answer g c =
@@ -34,7 +38,9 @@ returns-in_err-saved-clause-answer g c =
     let checking = checked_of c.args.checking in
     let stopped = c.in_err-saved.field-0.0 in
     let one = c.in_ok-keys.ensures in
-    let two = subst (λ (f : Files). Answers {B = SavedIndex} (reads_saved f checking.index) (λ read. read) middle after (Err stopped)) one.files c.in_err-saved.ensures.answer in
+    let two = subst (λ (f : Files).
+    Answers {B = SavedIndex} (reads_saved f checking.index) (λ read. read) middle after (Err stopped))
+    one.files c.in_err-saved.ensures.answer in
     (subst (Answers (reads files (check checking)) task_of before after)
     (sym (handed_on _ stopped c.from_residual-in_err-saved.ensures.1))
     (second_stops (reads_keys (not checking.narrow) files checking.file) (λ numbers. reads_saved files checking.index)

@@ -20,12 +20,16 @@ returns-in_err-mixing-clause-answer g c =
     let files = g.F.Shelf.files c.args.files.now in
     let replaying = replayed_of c.args.replaying in
     let stopped = c.in_err-mixing.field-0.0 in
-    let two = subst (λ (lines : List ScriptLine). Answers {B = Mixing} (reads_mixing replaying c.args.senders.count lines) mix_of after after (Err stopped)) c.deref.ensures.value (c.in_err-mixing.ensures after) in
+    let two = subst (λ (lines : List ScriptLine).
+    Answers {B = Mixing} (reads_mixing replaying c.args.senders.count lines) mix_of after after (Err stopped))
+    c.deref.ensures.value (c.in_err-mixing.ensures after) in
     (subst (Answers (reads files (mix replaying c.args.senders.count)) task_of before after)
     (sym (handed_on _ stopped c.from_residual-in_err-mixing.ensures.1))
-    (then_goes_on (reads_script ScriptKind.Mix files replaying.script) (reads_mixing replaying c.args.senders.count) (λ (lines : Vec ScriptLine Global). lines.items) task_of
+    (then_goes_on (reads_script ScriptKind.Mix files replaying.script)
+    (reads_mixing replaying c.args.senders.count) (λ (lines : Vec ScriptLine Global). lines.items) task_of
     before after after c.in_ok-lines.lines (Err stopped) c.in_ok-lines.ensures.answer
-    (stopped_alike (reads_mixing replaying c.args.senders.count c.in_ok-lines.lines.items) mix_of task_of after after stopped two)))
+    (stopped_alike (reads_mixing replaying c.args.senders.count c.in_ok-lines.lines.items)
+    mix_of task_of after after stopped two)))
 
 pub returns-clause-answer : goal.returns-clause-answer
 returns-clause-answer g c =
@@ -34,7 +38,16 @@ returns-clause-answer g c =
     let files = g.F.Shelf.files c.args.files.now in
     let replaying = replayed_of c.args.replaying in
     let mixing = c.in_ok-mixing.mixing in
-    let two = subst (λ (lines : List ScriptLine). Answers {B = Mixing} (reads_mixing replaying c.args.senders.count lines) mix_of after after (Ok mixing)) c.deref.ensures.value (c.in_ok-mixing.ensures after) in
-    (then_goes_on (reads_script ScriptKind.Mix files replaying.script) (reads_mixing replaying c.args.senders.count) (λ (lines : Vec ScriptLine Global). lines.items) task_of
+    let two = subst (λ (lines : List ScriptLine).
+    Answers {B = Mixing} (reads_mixing replaying c.args.senders.count lines) mix_of after after (Ok mixing))
+    c.deref.ensures.value (c.in_ok-mixing.ensures after) in
+    (then_goes_on (reads_script ScriptKind.Mix files replaying.script)
+    (reads_mixing replaying c.args.senders.count) (λ (lines : Vec ScriptLine Global). lines.items) task_of
     before after after c.in_ok-lines.lines (Ok (declared_task.Mix mixing)) c.in_ok-lines.ensures.answer
-    (record { ok = two.ok; unfaulted = two.unfaulted; stopped = tt; faulted = λ rose. absurd (omega (arith, rose)); never_falls = two.never_falls }))
+    (record {
+      ok = two.ok;
+      unfaulted = two.unfaulted;
+      stopped = tt;
+      faulted = λ rose. absurd (omega (arith, rose));
+      never_falls = two.never_falls;
+    }))

@@ -16,8 +16,10 @@ use Rattle.program.proofs.InputLemmas.{second_stops, handed_on}
 use Rattle.program.proofs.tasks.near_task.Goals as goal
 
 -- the task of points and centres that were read
-neighbours_of : (files : Files) (searching : Searching) (coords : List ℕ) (lines : List ScriptLine) (centres : List Centre) →
-    reads_points searching.dims files searching.file (Ok coords) → reads_script (ScriptKind.Near searching.dims) files searching.script (Ok lines) →
+neighbours_of :
+    (files : Files) (searching : Searching) (coords : List ℕ) (lines : List ScriptLine) (centres : List Centre) →
+    reads_points searching.dims files searching.file (Ok coords) →
+    reads_script (ScriptKind.Near searching.dims) files searching.script (Ok lines) →
     centres ≡ centres_in lines → reads files (near searching) (Ok (neighbours searching.dims coords centres))
 neighbours_of files searching coords lines centres points script is =
     (coords, points, (lines, script, ap (λ (cs : List Centre). Ok (neighbours searching.dims coords cs)) is))
@@ -46,7 +48,9 @@ returns-clause-answer g c =
     let quiet = two.answer.unfaulted ∙ one.answer.unfaulted in
     record {
       ok = (neighbours_of _ (searched_of searching) coords lines _ one.answer.ok
-          (subst (λ (files : Files). reads_script (ScriptKind.Near searching.dims) files searching.script.now (Ok lines)) one.files two.answer.ok)
+          (subst
+          (λ (files : Files). reads_script (ScriptKind.Near searching.dims) files searching.script.now (Ok lines))
+          one.files two.answer.ok)
           (c.in_ok-centres.ensures.centres ∙ ap centres_in c.deref.ensures.value));
       unfaulted = quiet;
       stopped = tt;
@@ -63,9 +67,15 @@ returns-in_err-lines-clause-answer g c =
     let searching = searched_of c.args.searching in
     let stopped = c.in_err-lines.field-0.0 in
     let one = c.in_ok-coords.ensures in
-    let two = subst (λ (f : Files). Answers {B = Vec ScriptLine Global} (reads_script (ScriptKind.Near searching.dims) f searching.script) (λ lines. lines.items) middle after (Err stopped)) one.files c.in_err-lines.ensures.answer in
+    let two = subst (λ (f : Files).
+    Answers {B = Vec ScriptLine Global} (reads_script (ScriptKind.Near searching.dims) f searching.script)
+    (λ lines. lines.items) middle after (Err stopped))
+    one.files c.in_err-lines.ensures.answer in
     (subst (Answers (reads files (near searching)) task_of before after)
     (sym (handed_on _ stopped c.from_residual-in_err-lines.ensures.1))
-    (second_stops (reads_points searching.dims files searching.file) (λ coords. reads_script (ScriptKind.Near searching.dims) files searching.script)
-    (λ coords lines. gives (tasks.Task.near searching.dims coords (centres_in lines))) (λ (coords : Vec ℕ Global). coords.items)
-    (λ (lines : Vec ScriptLine Global). lines.items) task_of before middle after c.in_ok-coords.coords stopped one.answer two))
+    (second_stops (reads_points searching.dims files searching.file)
+    (λ coords. reads_script (ScriptKind.Near searching.dims) files searching.script)
+    (λ coords lines. gives (tasks.Task.near searching.dims coords (centres_in lines)))
+    (λ (coords : Vec ℕ Global). coords.items)
+    (λ (lines : Vec ScriptLine Global). lines.items)
+    task_of before middle after c.in_ok-coords.coords stopped one.answer two))

@@ -13,8 +13,10 @@ use Rattle.program.proofs.InputLemmas.{second_stops, handed_on}
 use Rattle.program.proofs.Questions.{questions_in-finds}
 use Rattle.program.proofs.tasks.query_task.Goals as goal
 
-asked : (files : Files) (building : Building) (name keys questions : List ℕ) (bounds : tasks.Bounds) (windows : Bool) (bits : ℕ) →
-    reads_index files building (Ok keys) → bounds ≡ bounds_in building → reads_script ScriptKind.Find files name (Ok (map Find questions)) →
+asked : (files : Files)
+    (building : Building) (name keys questions : List ℕ) (bounds : tasks.Bounds) (windows : Bool) (bits : ℕ) →
+    reads_index files building (Ok keys) →
+    bounds ≡ bounds_in building → reads_script ScriptKind.Find files name (Ok (map Find questions)) →
     reads files (query building name windows bits) (Ok (tasks.Task.query keys bounds questions windows bits))
 asked files building name keys questions bounds windows bits index is script = (
   keys,
@@ -23,7 +25,8 @@ asked files building name keys questions bounds windows bits index is script = (
     map Find questions,
     script,
     ap (λ (b : tasks.Bounds). Ok (tasks.Task.query keys b questions windows bits)) is
-        ∙ ap (λ (q : List ℕ). Ok (tasks.Task.query keys (bounds_in building) q windows bits)) (sym (questions_in-finds questions)),
+        ∙ ap (λ (q : List ℕ). Ok (tasks.Task.query keys (bounds_in building) q windows bits))
+        (sym (questions_in-finds questions)),
   ),
 )
 
@@ -37,7 +40,8 @@ returns-clause-answer g c =
     let quiet = two.answer.unfaulted ∙ one.answer.unfaulted in
     record {
       ok = (asked _ building name _ questions _ c.args.windows c.args.table.bits one.answer.ok one.bounds
-          (subst (λ (files : Files). reads_script ScriptKind.Find files name (Ok (map Find questions))) one.files two.answer.ok));
+          (subst (λ (files : Files). reads_script ScriptKind.Find files name (Ok (map Find questions)))
+          one.files two.answer.ok));
       unfaulted = quiet;
       stopped = tt;
       faulted = λ rose. absurd (omega (arith, rose, quiet));
@@ -54,9 +58,14 @@ returns-in_err-finds-clause-answer g c =
     let name = c.args.script.now in
     let stopped = c.in_err-finds.field-0.0 in
     let one = c.in_ok-indexing.ensures in
-    let two = subst (λ (f : Files). Answers {B = Finds} (reads_script ScriptKind.Find f name) (λ finds. map Find finds.numbers.items) middle after (Err stopped)) one.files c.in_err-finds.ensures.answer in
+    let two = subst (λ (f : Files). Answers {B = Finds}
+    (reads_script ScriptKind.Find f name) (λ finds. map Find finds.numbers.items) middle after (Err stopped))
+    one.files c.in_err-finds.ensures.answer in
     (subst (Answers (reads files (query building name c.args.windows c.args.table.bits)) task_of before after)
     (sym (handed_on _ stopped c.from_residual-in_err-finds.ensures.1))
     (second_stops (reads_index files building) (λ keys. reads_script ScriptKind.Find files name)
-    (λ keys lines. gives (tasks.Task.query keys (bounds_in building) (questions_in lines) c.args.windows c.args.table.bits)) (λ indexing. indexing.sorted.keys.items)
-    (λ (finds : Finds). map Find finds.numbers.items) task_of before middle after c.in_ok-indexing.indexing stopped one.answer two))
+    (λ keys lines.
+    gives (tasks.Task.query keys (bounds_in building) (questions_in lines) c.args.windows c.args.table.bits))
+    (λ indexing. indexing.sorted.keys.items)
+    (λ (finds : Finds). map Find finds.numbers.items)
+    task_of before middle after c.in_ok-indexing.indexing stopped one.answer two))

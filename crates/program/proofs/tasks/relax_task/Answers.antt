@@ -13,8 +13,10 @@ use Rattle.program.proofs.InputLemmas.{second_stops, handed_on}
 use Rattle.program.proofs.Questions.{questions_in-finds}
 use Rattle.program.proofs.tasks.relax_task.Goals as goal
 
-asked_relaxed : (files : Files) (building : Building) (name keys questions : List ℕ) (bounds : tasks.Bounds) (pieces : ℕ) →
-    reads_index files building (Ok keys) → bounds ≡ bounds_in building → reads_script ScriptKind.Find files name (Ok (map Find questions)) →
+asked_relaxed :
+    (files : Files) (building : Building) (name keys questions : List ℕ) (bounds : tasks.Bounds) (pieces : ℕ) →
+    reads_index files building (Ok keys) →
+    bounds ≡ bounds_in building → reads_script ScriptKind.Find files name (Ok (map Find questions)) →
     reads files (relax building name pieces) (Ok (tasks.Task.relax keys bounds pieces questions))
 asked_relaxed files building name keys questions bounds pieces index is script = (
   keys,
@@ -23,7 +25,8 @@ asked_relaxed files building name keys questions bounds pieces index is script =
     map Find questions,
     script,
     ap (λ (b : tasks.Bounds). Ok (tasks.Task.relax keys b pieces questions)) is
-        ∙ ap (λ (q : List ℕ). Ok (tasks.Task.relax keys (bounds_in building) pieces q)) (sym (questions_in-finds questions)),
+        ∙ ap (λ (q : List ℕ). Ok (tasks.Task.relax keys (bounds_in building) pieces q))
+        (sym (questions_in-finds questions)),
   ),
 )
 
@@ -37,7 +40,8 @@ returns-clause-answer g c =
     let quiet = two.answer.unfaulted ∙ one.answer.unfaulted in
     record {
       ok = (asked_relaxed _ building name _ questions _ _ one.answer.ok one.bounds
-          (subst (λ (files : Files). reads_script ScriptKind.Find files name (Ok (map Find questions))) one.files two.answer.ok));
+          (subst (λ (files : Files). reads_script ScriptKind.Find files name (Ok (map Find questions)))
+          one.files two.answer.ok));
       unfaulted = quiet;
       stopped = tt;
       faulted = λ rose. absurd (omega (arith, rose, quiet));
@@ -54,9 +58,13 @@ returns-in_err-finds-clause-answer g c =
     let name = c.args.script.now in
     let stopped = c.in_err-finds.field-0.0 in
     let one = c.in_ok-indexing.ensures in
-    let two = subst (λ (f : Files). Answers {B = Finds} (reads_script ScriptKind.Find f name) (λ finds. map Find finds.numbers.items) middle after (Err stopped)) one.files c.in_err-finds.ensures.answer in
+    let two = subst (λ (f : Files). Answers {B = Finds}
+    (reads_script ScriptKind.Find f name) (λ finds. map Find finds.numbers.items) middle after (Err stopped))
+    one.files c.in_err-finds.ensures.answer in
     (subst (Answers (reads files (relax building name c.args.pieces.count)) task_of before after)
     (sym (handed_on _ stopped c.from_residual-in_err-finds.ensures.1))
     (second_stops (reads_index files building) (λ keys. reads_script ScriptKind.Find files name)
-    (λ keys lines. gives (tasks.Task.relax keys (bounds_in building) c.args.pieces.count (questions_in lines))) (λ indexing. indexing.sorted.keys.items)
-    (λ (finds : Finds). map Find finds.numbers.items) task_of before middle after c.in_ok-indexing.indexing stopped one.answer two))
+    (λ keys lines. gives (tasks.Task.relax keys (bounds_in building) c.args.pieces.count (questions_in lines)))
+    (λ indexing. indexing.sorted.keys.items)
+    (λ (finds : Finds). map Find finds.numbers.items)
+    task_of before middle after c.in_ok-indexing.indexing stopped one.answer two))

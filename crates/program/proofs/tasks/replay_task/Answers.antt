@@ -20,10 +20,13 @@ returns-in_err-history-clause-answer g c =
     let files = g.F.Shelf.files c.args.files.now in
     let replaying = replayed_of c.args.replaying in
     let stopped = c.in_err-history.field-0.0 in
-    let two = subst (λ (lines : List ScriptLine). Answers {B = History} (reads_history replaying lines) replay_of after after (Err stopped)) c.deref.ensures.value (c.in_err-history.ensures after) in
+    let two = subst (λ (lines : List ScriptLine).
+    Answers {B = History} (reads_history replaying lines) replay_of after after (Err stopped))
+    c.deref.ensures.value (c.in_err-history.ensures after) in
     (subst (Answers (reads files (replay replaying)) task_of before after)
     (sym (handed_on _ stopped c.from_residual-in_err-history.ensures.1))
-    (then_goes_on (reads_script ScriptKind.Replay files replaying.script) (reads_history replaying) (λ (lines : Vec ScriptLine Global). lines.items) task_of
+    (then_goes_on (reads_script ScriptKind.Replay files replaying.script)
+    (reads_history replaying) (λ (lines : Vec ScriptLine Global). lines.items) task_of
     before after after c.in_ok-lines.lines (Err stopped) c.in_ok-lines.ensures.answer
     (stopped_alike (reads_history replaying c.in_ok-lines.lines.items) replay_of task_of after after stopped two)))
 
@@ -34,7 +37,16 @@ returns-clause-answer g c =
     let files = g.F.Shelf.files c.args.files.now in
     let replaying = replayed_of c.args.replaying in
     let history = c.in_ok-history.history in
-    let two = subst (λ (lines : List ScriptLine). Answers {B = History} (reads_history replaying lines) replay_of after after (Ok history)) c.deref.ensures.value (c.in_ok-history.ensures after) in
-    (then_goes_on (reads_script ScriptKind.Replay files replaying.script) (reads_history replaying) (λ (lines : Vec ScriptLine Global). lines.items) task_of
+    let two = subst (λ (lines : List ScriptLine).
+    Answers {B = History} (reads_history replaying lines) replay_of after after (Ok history))
+    c.deref.ensures.value (c.in_ok-history.ensures after) in
+    (then_goes_on (reads_script ScriptKind.Replay files replaying.script)
+    (reads_history replaying) (λ (lines : Vec ScriptLine Global). lines.items) task_of
     before after after c.in_ok-lines.lines (Ok (declared_task.Replay history)) c.in_ok-lines.ensures.answer
-    (record { ok = two.ok; unfaulted = two.unfaulted; stopped = tt; faulted = λ rose. absurd (omega (arith, rose)); never_falls = two.never_falls }))
+    (record {
+      ok = two.ok;
+      unfaulted = two.unfaulted;
+      stopped = tt;
+      faulted = λ rose. absurd (omega (arith, rose));
+      never_falls = two.never_falls;
+    }))

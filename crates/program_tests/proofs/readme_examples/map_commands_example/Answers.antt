@@ -12,6 +12,7 @@ put_del = refl
 
 pub invariant_of-history : goal.invariant_of-history
 invariant_of-history g c = record {
-  fits = omega (arith, ap (λ (updates : List Update). length (entries_of updates)) c.in_ok-updates.ensures.items, put_del);
+  fits =
+      omega (arith, ap (λ (updates : List Update). length (entries_of updates)) c.in_ok-updates.ensures.items, put_del);
   after = λ held others is. absurd (cc is);
 }

@@ -10,7 +10,8 @@ publish_as-requires g c = λ next is.
     let inv = c.loop-turn.invariant in
     let now = c.loop-turn.copies.desk.shown.value in
     let same : last.0 ≡ next = sym (is ∙ is_last now _ _ last.0 inv.queue last.1) in
-    let from : GoesOn now last.0 = subst (λ (f : Front). GoesOn f last.0) (sym inv.shown) (c.requires.more last.0 last.1) in
+    let from :
+    GoesOn now last.0 = subst (λ (f : Front). GoesOn f last.0) (sym inv.shown) (c.requires.more last.0 last.1) in
     sees _ _ now next (subst (λ (f : Front). GoesOn now f) same from)
 
 pub returns-in_default-Ok-clause-shown : goal.returns-in_default-Ok-clause-shown

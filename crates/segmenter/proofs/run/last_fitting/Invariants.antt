@@ -1,4 +1,5 @@
--- Some line fits up to `fitting` and none up to `refused`; each test so far has doubled the way from `from`, or else, after the first refusal, has brought the two nearer.
+-- Some line fits up to `fitting` and none up to `refused`; each test so far has doubled
+-- the way from `from`, or else, after the first refusal, has brought the two nearer.
 use Rattle.std.proofs.Common.{◌⊎◌, ℕ, ◌+◌, ◌*◌, ◌-◌, ◌<◌, ◌≤◌}
 use Rattle.exact_cross.specs.PointLists.{points_in}
 use Rattle.exact_cross.specs.Lines.{SomeLineFits}
@@ -11,9 +12,12 @@ invariant-loop-fitting g l = record {
   onward : l.from ≤ l.fitting;
   apart : l.fitting < l.refused;
   within : l.refused ≤ l.end;
-  fits : (s : ℕ) → IsInStretch l.hulls (points_in l.points) (bound_of l.hulls) s l.from l.end → SomeLineFits (points_in l.points) (bound_of l.hulls) s (l.fitting + 1);
-  fits_not : (s : ℕ) → IsInStretch l.hulls (points_in l.points) (bound_of l.hulls) s l.from l.end → SomeLineFits (points_in l.points) (bound_of l.hulls) s (l.refused + 1) → ⊥;
-  cost : (l.steps + 2 * l.from ≤ l.fn.steps + 2 * l.fitting) ⊎ (l.steps + 2 * (l.refused - l.fitting) + 4 * l.from ≤ l.fn.steps + 4 * l.fitting + 4);
+  fits : (s : ℕ) → IsInStretch l.hulls (points_in l.points) (bound_of l.hulls) s l.from l.end →
+      SomeLineFits (points_in l.points) (bound_of l.hulls) s (l.fitting + 1);
+  fits_not : (s : ℕ) → IsInStretch l.hulls (points_in l.points) (bound_of l.hulls) s l.from l.end →
+      SomeLineFits (points_in l.points) (bound_of l.hulls) s (l.refused + 1) → ⊥;
+  cost : (l.steps + 2 * l.from ≤ l.fn.steps + 2 * l.fitting)
+      ⊎ (l.steps + 2 * (l.refused - l.fitting) + 4 * l.from ≤ l.fn.steps + 4 * l.fitting + 4);
 }
 
 abbrev pub decreases-loop-fitting : goal.decreases-loop-fitting

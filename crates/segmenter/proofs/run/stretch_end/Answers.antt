@@ -7,7 +7,8 @@ use Rattle.segmenter.proofs.Stretched.{AreEven-two}
 use Rattle.segmenter.proofs.run.stretch_end.Goals as goal
 
 -- what holds up to `end` at this step holds up to the next place
-one_more : (at : ℕ → ℕ) (from end step : ℕ) → from < end → ((k : ℕ) → from ≤ k → k ≤ end → at k ≡ at from + (k - from) * step) → at (end + 1) ≡ at end + step →
+one_more : (at : ℕ → ℕ) (from end step : ℕ) →
+    from < end → ((k : ℕ) → from ≤ k → k ≤ end → at k ≡ at from + (k - from) * step) → at (end + 1) ≡ at end + step →
     (k : ℕ) → from ≤ k → k ≤ end + 1 → at k ≡ at from + (k - from) * step
 one_more at from end step some so_far next k low high = elim (cases_lt k (end + 1)) [
   | inl before ↦ so_far k low (omega arith)
@@ -27,8 +28,12 @@ loop-end-preserved c =
     record {
       further = omega arith;
       within = omega arith;
-      x = one_more (slice_index c.args.points.xs.now) c.args.from end (slice_index c.args.points.xs.now (c.args.from + 1) - slice_index c.args.points.xs.now c.args.from) so_far.further so_far.x (omega arith);
-      y = one_more (slice_index c.args.points.ys.now) c.args.from end (slice_index c.args.points.ys.now (c.args.from + 1) - slice_index c.args.points.ys.now c.args.from) so_far.further so_far.y (omega arith);
+      x = one_more (slice_index c.args.points.xs.now) c.args.from end
+          (slice_index c.args.points.xs.now (c.args.from + 1) - slice_index c.args.points.xs.now c.args.from)
+          so_far.further so_far.x (omega arith);
+      y = one_more (slice_index c.args.points.ys.now) c.args.from end
+          (slice_index c.args.points.ys.now (c.args.from + 1) - slice_index c.args.points.ys.now c.args.from)
+          so_far.further so_far.y (omega arith);
     }
 
 pub returns-then-end-from-clause-even : goal.returns-then-end-from-clause-even
@@ -57,4 +62,5 @@ pub returns-then-not-may_begin_stretch-clause-even : goal.returns-then-not-may_b
 returns-then-not-may_begin_stretch-clause-even c =
     let ascends = IsAscending-points_in c.args.points in
     let right = ascends.x_rises c.args.from (c.args.from + 1) (omega arith) (omega arith) in
-    AreEven-two (points_in c.args.points) c.args.from (omega (arith, right)) (ascends.y_never_falls c.args.from (c.args.from + 1) (omega arith) (omega arith))
+    AreEven-two (points_in c.args.points) c.args.from
+    (omega (arith, right)) (ascends.y_never_falls c.args.from (c.args.from + 1) (omega arith) (omega arith))

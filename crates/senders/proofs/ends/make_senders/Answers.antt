@@ -7,4 +7,5 @@ use Rattle.senders.proofs.ends.make_senders.Goals as goal
 pub another-theirs-requires-clause-rule : goal.another-theirs-requires-clause-rule
 another-theirs-requires-clause-rule c =
     let inv = c.loop-number.invariant in
-    makes_one _ _ (ap (λ (v : View). v.takes) inv.made) (omega (arith, ap (λ (v : View). v.made) inv.made, ap (λ (v : View). v.senders) inv.made))
+    makes_one _ _ (ap (λ (v : View). v.takes) inv.made)
+    (omega (arith, ap (λ (v : View). v.made) inv.made, ap (λ (v : View). v.senders) inv.made))

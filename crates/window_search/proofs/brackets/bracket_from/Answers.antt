@@ -8,5 +8,6 @@ returns-clause-found g c = λ order. bracket-lb _ _ _ c.halve.ensures.bracket or
 pub returns-clause-cost : goal.returns-clause-cost
 returns-clause-cost g c =
     let reached = c.reach_from-low.ensures.reached in
-    let near = reads_near _ _ _ c.halve.result _ _ _ reached c.halve.ensures.from c.halve.ensures.to c.halve.ensures.cost in
+    let near =
+    reads_near _ _ _ c.halve.result _ _ _ reached c.halve.ensures.from c.halve.ensures.to c.halve.ensures.cost in
     rw (c.min-from.ensures, c.len.ensures) at near

@@ -19,7 +19,9 @@ loop-more-preserved-then-read-q g c =
         before = λ some. omega (arith, ap (slice_index c.args.keys.now) read, c.read.ensures.key);
         at = rw end inv.held.at;
       };
-      halved = rw c.read.ensures.cost (halved_to c.args.steps.now c.loop-more.steps (c.args.high - c.args.low + 1) (more + 1) (more - (more / 2 + 1) + 1) (omega arith) (omega arith) inv.halved);
+      halved = rw c.read.ensures.cost
+          (halved_to c.args.steps.now c.loop-more.steps (c.args.high - c.args.low + 1)
+          (more + 1) (more - (more / 2 + 1) + 1) (omega arith) (omega arith) inv.halved);
     }
 
 pub loop-more-preserved : goal.loop-more-preserved
@@ -35,5 +37,7 @@ loop-more-preserved g c =
         before = inv.held.before;
         at = λ inside. omega (arith, c.read.ensures.key);
       };
-      halved = rw c.read.ensures.cost (halved_to c.args.steps.now c.loop-more.steps (c.args.high - c.args.low + 1) (more + 1) (more / 2 + 1) (omega arith) (omega arith) inv.halved);
+      halved = rw c.read.ensures.cost
+          (halved_to c.args.steps.now c.loop-more.steps
+          (c.args.high - c.args.low + 1) (more + 1) (more / 2 + 1) (omega arith) (omega arith) inv.halved);
     }

@@ -19,18 +19,22 @@ returns-then-read-q-clause-held g c =
 pub returns-then-read-q-clause-reached : goal.returns-then-read-q-clause-reached
 returns-then-read-q-clause-reached g c =
     let inv = c.loop-high.invariant in
-    rw c.read.ensures.cost (reached (c.args.from - c.loop-high.high + 1) _ _ _ _ _ (doubled_to _ _ _ inv.doubled) (omega (arith, inv.within)) (λ place from to. omega (arith, inv.within)))
+    rw c.read.ensures.cost
+    (reached (c.args.from - c.loop-high.high + 1) _ _ _ _ _
+    (doubled_to _ _ _ inv.doubled) (omega (arith, inv.within)) (λ place from to. omega (arith, inv.within)))
 
 pub returns-clause-reached : goal.returns-clause-reached
 returns-clause-reached g c =
     let inv = c.loop-high.invariant in
-    reached (c.args.from - c.loop-high.high + 1) _ _ _ _ _ (doubled_at_end _ _ _ inv.doubled) (omega (arith, inv.within)) (λ place from to. omega (arith, inv.within))
+    reached (c.args.from - c.loop-high.high + 1) _ _ _ _ _
+    (doubled_at_end _ _ _ inv.doubled) (omega (arith, inv.within)) (λ place from to. omega (arith, inv.within))
 
 pub loop-high-preserved : goal.loop-high-preserved
 loop-high-preserved g c =
     let inv = c.loop-high.invariant in
     let high = c.loop-high.high in
-    let next : c.args.from - (high - (c.args.from - high) - 1) + 1 ≡ (c.args.from - high + 1) * 2 = omega (arith, inv.within) in
+    let next : c.args.from - (high - (c.args.from - high) - 1) + 1
+    ≡ (c.args.from - high + 1) * 2 = omega (arith, inv.within) in
     record {
       within = omega (arith, inv.within);
       at = λ inside. omega (arith, c.read.ensures.key);

@@ -16,12 +16,15 @@ returns-then-read-q-clause-held g c =
 pub returns-then-read-q-clause-reached : goal.returns-then-read-q-clause-reached
 returns-then-read-q-clause-reached g c =
     let inv = c.loop-low.invariant in
-    rw c.read.ensures.cost (reached (c.loop-low.low - c.args.from) _ _ _ _ _ (doubled_to _ _ _ inv.doubled) (omega (arith, inv.behind)) (λ place from to. omega (arith, inv.behind)))
+    rw c.read.ensures.cost
+    (reached (c.loop-low.low - c.args.from) _ _ _ _ _
+    (doubled_to _ _ _ inv.doubled) (omega (arith, inv.behind)) (λ place from to. omega (arith, inv.behind)))
 
 pub returns-clause-reached : goal.returns-clause-reached
 returns-clause-reached g c =
     let inv = c.loop-low.invariant in
-    reached (c.loop-low.low - c.args.from) _ _ _ _ _ (doubled_at_end _ _ _ inv.doubled) (omega (arith, inv.behind)) (λ place from to. omega (arith, inv.behind))
+    reached (c.loop-low.low - c.args.from) _ _ _ _ _
+    (doubled_at_end _ _ _ inv.doubled) (omega (arith, inv.behind)) (λ place from to. omega (arith, inv.behind))
 
 pub loop-low-preserved : goal.loop-low-preserved
 loop-low-preserved g c =

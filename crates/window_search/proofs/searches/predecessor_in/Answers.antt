@@ -16,7 +16,8 @@ loop-count-preserved-then-read-q g c =
       within = omega (arith, inv.within);
       first = omega (arith, inv.first);
       found = λ place here.
-          let from = predecessor_from keys c.args.q middle c.read.result place (omega arith) read c.if-read-q.true here in
+          let from =
+          predecessor_from keys c.args.q middle c.read.result place (omega arith) read c.if-read-q.true here in
           (omega arith, omega (arith, (inv.found place here).1));
       halved = rw c.read.ensures.cost (halved_to _ _ _ n (n - n / 2) c.loop-count-test.true (omega arith) inv.halved);
     }
@@ -33,7 +34,8 @@ loop-count-preserved g c =
       within = omega (arith, inv.within);
       first = omega (arith, inv.first);
       found = λ place here.
-          let before = predecessor_before keys c.args.q middle c.read.result place c.requires.order read c.if-read-q.false here in
+          let before = predecessor_before
+          keys c.args.q middle c.read.result place c.requires.order read c.if-read-q.false here in
           (omega (arith, (inv.found place here).0), omega arith);
       halved = rw c.read.ensures.cost (halved_to _ _ _ n (n / 2) c.loop-count-test.true (omega arith) inv.halved);
     }

@@ -14,7 +14,8 @@ loop-rest-preserved g c =
     let put = c.in-Ok.ensures in
     let tail = tail_is rest n put.within in
     handed_more g.S.Sink c.args.out.now c.loop-rest.out c.put.new.self c.args.piece.now rest _ (take n rest) n some tail
-    (sym (take-append-drop n rest) ∙ ap (λ (r : List ℕ). take n rest ++ r) (sym tail)) put.call put.taken put.cause.ok c.loop-rest.invariant
+    (sym (take-append-drop n rest) ∙ ap (λ (r : List ℕ). take n rest ++ r) (sym tail))
+    put.call put.taken put.cause.ok c.loop-rest.invariant
 
 pub returns-in-Err-clause-err : goal.returns-in-Err-clause-err
 returns-in-Err-clause-err g c =

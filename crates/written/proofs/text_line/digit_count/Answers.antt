@@ -6,4 +6,6 @@ pub returns-then-number-lt10 : goal.returns-then-number-lt10
 returns-then-number-lt10 c = search (rules, length-decimal-one)
 
 pub returns : goal.returns
-returns c = sym (length-decimal c.ilog10.result c.args.number c.ilog10.ensures.power_le c.ilog10.ensures.next_power_gt (omega arith))
+returns c =
+    sym (length-decimal c.ilog10.result c.args.number c.ilog10.ensures.power_le c.ilog10.ensures.next_power_gt
+    (omega arith))

@@ -15,7 +15,9 @@ returns-clause-lower c =
     record {
       len = long bit_xor c.args.a moved c.fits-a.0 long_moved;
       lanes = λ l h. lane bit_xor c.args.a moved c.fits-a.0 long_moved l h
-          ∙ ap (bit_xor (get_or c.args.a l 0)) (lane_with up t c.args.shift c.crossing_bits-crossing.ensures.len l h ∙ ap (λ n. up n c.args.shift) (c.crossing_bits-crossing.ensures.lanes l h));
+          ∙ ap (bit_xor (get_or c.args.a l 0))
+          (lane_with up t c.args.shift c.crossing_bits-crossing.ensures.len l h
+          ∙ ap (λ n. up n c.args.shift) (c.crossing_bits-crossing.ensures.lanes l h));
     }
 
 pub returns-clause-upper : goal.returns-clause-upper
@@ -23,5 +25,6 @@ returns-clause-upper c =
     let t = c.crossing_bits-crossing.result in
     record {
       len = long bit_xor c.args.b t c.fits-b.0 c.crossing_bits-crossing.ensures.len;
-      lanes = λ l h. lane bit_xor c.args.b t c.fits-b.0 c.crossing_bits-crossing.ensures.len l h ∙ ap (bit_xor (get_or c.args.b l 0)) (c.crossing_bits-crossing.ensures.lanes l h);
+      lanes = λ l h. lane bit_xor c.args.b t c.fits-b.0 c.crossing_bits-crossing.ensures.len l h
+          ∙ ap (bit_xor (get_or c.args.b l 0)) (c.crossing_bits-crossing.ensures.lanes l h);
     }

@@ -9,14 +9,18 @@ pub loop-i-preserved : goal.loop-i-preserved
 loop-i-preserved c =
     let i = c.loop-i.i in
     let codes = c.args.codes.now in
-    let second : c.gather-in-loop-i.result ≡ coordinate 2 1 (get_or codes i 0) = c.gather-in-loop-i.ensures ∙ coordinate-shr 2 1 (get_or codes i 0) (lit< tt) (c.type_inv.codes i).fits in
+    let second : c.gather-in-loop-i.result ≡ coordinate 2 1 (get_or codes i 0) = c.gather-in-loop-i.ensures
+    ∙ coordinate-shr 2 1 (get_or codes i 0) (lit< tt) (c.type_inv.codes i).fits in
     record {
       firsts_before = λ k below.
           let apart : k ≢ i = omega arith in
           get_or-set_other c.loop-i.firsts i k c.gather.result 0 apart ∙ c.loop-i.invariant.firsts_before k below;
       seconds_before = λ k below.
           let apart : k ≢ i = omega arith in
-          get_or-set_other c.loop-i.seconds i k c.gather-in-loop-i.result 0 apart ∙ c.loop-i.invariant.seconds_before k below;
-      firsts = set_next c.loop-i.firsts (λ k. coordinate 2 0 (get_or codes k 0)) c.args.from i c.gather.result (omega arith) c.gather.ensures c.loop-i.invariant.firsts;
-      seconds = set_next c.loop-i.seconds (λ k. coordinate 2 1 (get_or codes k 0)) c.args.from i c.gather-in-loop-i.result (omega arith) second c.loop-i.invariant.seconds;
+          get_or-set_other c.loop-i.seconds i k c.gather-in-loop-i.result 0 apart
+          ∙ c.loop-i.invariant.seconds_before k below;
+      firsts = set_next c.loop-i.firsts (λ k. coordinate 2 0 (get_or codes k 0)) c.args.from i c.gather.result
+          (omega arith) c.gather.ensures c.loop-i.invariant.firsts;
+      seconds = set_next c.loop-i.seconds (λ k. coordinate 2 1 (get_or codes k 0))
+          c.args.from i c.gather-in-loop-i.result (omega arith) second c.loop-i.invariant.seconds;
     }

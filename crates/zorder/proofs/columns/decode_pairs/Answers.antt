@@ -10,8 +10,11 @@ loop-block-preserved c =
     let at = 4 * c.loop-block.block in
     let codes = c.args.codes.now in
     record {
-      firsts = λ i within. put_four c.loop-block.firsts c.four_pairs.result.0 (λ k. coordinate 2 0 (get_or codes k 0)) at c.four_pairs.ensures.long.0 (omega arith) c.loop-block.invariant.firsts
+      firsts = λ i within. put_four c.loop-block.firsts c.four_pairs.result.0 (λ k. coordinate 2 0 (get_or codes k 0))
+          at c.four_pairs.ensures.long.0 (omega arith) c.loop-block.invariant.firsts
           (λ k h. c.four_pairs.ensures.first k h ∙ ap (coordinate 2 0) (get_or-chunk at 4 codes k 0 h)) i (omega arith);
-      seconds = λ i within. put_four c.loop-block.seconds c.four_pairs.result.1 (λ k. coordinate 2 1 (get_or codes k 0)) at c.four_pairs.ensures.long.1 (omega arith) c.loop-block.invariant.seconds
-          (λ k h. c.four_pairs.ensures.second k h ∙ ap (coordinate 2 1) (get_or-chunk at 4 codes k 0 h)) i (omega arith);
+      seconds = λ i within. put_four c.loop-block.seconds c.four_pairs.result.1 (λ k. coordinate 2 1 (get_or codes k 0))
+          at c.four_pairs.ensures.long.1 (omega arith) c.loop-block.invariant.seconds
+          (λ k h. c.four_pairs.ensures.second k h ∙ ap (coordinate 2 1) (get_or-chunk at 4 codes k 0 h)) i
+          (omega arith);
     }

@@ -7,5 +7,7 @@ pub returns : goal.returns
 returns c =
     let d = c.args.d in
     masked d c.args.c c.args.z _ c.ranges.z.fits
-    (λ i within own. moved_one d c.args.c c.places.result (omega arith) c.requires.within i c.places.ensures.ones within own)
-    (λ i within other. moved_zero d c.args.c c.places.result (omega arith) c.requires.within i c.places.ensures.zeros within other)
+    (λ i within own.
+    moved_one d c.args.c c.places.result (omega arith) c.requires.within i c.places.ensures.ones within own)
+    (λ i within other.
+    moved_zero d c.args.c c.places.result (omega arith) c.requires.within i c.places.ensures.zeros within other)

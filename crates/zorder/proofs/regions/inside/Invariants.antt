@@ -4,4 +4,5 @@ use Rattle.zorder.proofs.regions.inside.Given as goal
 
 abbrev pub invariant-loop-c : goal.invariant-loop-c
 invariant-loop-c l =
-    (k : ℕ) → k < l.c → (slice_index l.region.low k ≤ slice_index l.coords k) × (slice_index l.coords k ≤ slice_index l.region.high k)
+    (k : ℕ) → k < l.c →
+    (slice_index l.region.low k ≤ slice_index l.coords k) × (slice_index l.coords k ≤ slice_index l.region.high k)

@@ -11,7 +11,10 @@ returns c =
     let fits : c.args.code < 2 ^ 64 = omega arith in
     let narrow = coordinate-lt 3 c.args.code (lit< tt) fits 22 (lit≤ tt) in
     let blocks_1 = first_spread 3 c.args.code (lit< tt) fits _ mask_1_3 in
-    let blocks_2 = join {block = 1} {stride = 3} 2 mask_2_6 (lit≤ tt) refl (short 3 22 (lit< tt) refl (lit≤ tt) narrow) blocks_1 c.join_blocks-blocks_2.ensures in
-    let blocks_4 = join {block = 2} {stride = 6} 4 mask_4_12 (lit≤ tt) refl (short 3 22 (lit< tt) refl (lit≤ tt) narrow) blocks_2 c.join_blocks-blocks_4.ensures in
-    let blocks_8 = join {block = 4} {stride = 12} 8 mask_8_24 (lit≤ tt) refl (short 3 22 (lit< tt) refl (lit≤ tt) narrow) blocks_4 c.join_blocks-blocks_8.ensures in
+    let blocks_2 = join {block = 1} {stride = 3} 2 mask_2_6
+    (lit≤ tt) refl (short 3 22 (lit< tt) refl (lit≤ tt) narrow) blocks_1 c.join_blocks-blocks_2.ensures in
+    let blocks_4 = join {block = 2} {stride = 6} 4 mask_4_12
+    (lit≤ tt) refl (short 3 22 (lit< tt) refl (lit≤ tt) narrow) blocks_2 c.join_blocks-blocks_4.ensures in
+    let blocks_8 = join {block = 4} {stride = 12} 8 mask_8_24
+    (lit≤ tt) refl (short 3 22 (lit< tt) refl (lit≤ tt) narrow) blocks_4 c.join_blocks-blocks_8.ensures in
     bytes_gathered (coordinate 3 0 c.args.code) c.join_blocks-blocks_8.result narrow blocks_8

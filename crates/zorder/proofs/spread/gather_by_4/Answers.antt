@@ -11,9 +11,14 @@ returns c =
     let fits : c.args.code < 2 ^ 64 = omega arith in
     let narrow = coordinate-lt 4 c.args.code (lit< tt) fits 16 (lit≤ tt) in
     let blocks_1 = first_spread 4 c.args.code (lit< tt) fits _ mask_1_4 in
-    let blocks_2 = join {block = 1} {stride = 4} 3 mask_2_8 (lit≤ tt) refl (short 4 16 (lit< tt) refl (lit≤ tt) narrow) blocks_1 c.join_blocks-blocks_2.ensures in
-    let blocks_4 = join {block = 2} {stride = 8} 6 mask_4_16 (lit≤ tt) refl (short 4 16 (lit< tt) refl (lit≤ tt) narrow) blocks_2 c.join_blocks-blocks_4.ensures in
-    let blocks_8 = join {block = 4} {stride = 16} 12 mask_8_32 (lit≤ tt) refl (short 4 16 (lit< tt) refl (lit≤ tt) narrow) blocks_4 c.join_blocks-blocks_8.ensures in
-    let blocks_16 = join {block = 8} {stride = 32} 24 mask_16_64 (lit≤ tt) refl (short 4 16 (lit< tt) refl (lit≤ tt) narrow) blocks_8 c.join_blocks.ensures in
+    let blocks_2 = join {block = 1} {stride = 4} 3 mask_2_8
+    (lit≤ tt) refl (short 4 16 (lit< tt) refl (lit≤ tt) narrow) blocks_1 c.join_blocks-blocks_2.ensures in
+    let blocks_4 = join {block = 2} {stride = 8} 6 mask_4_16
+    (lit≤ tt) refl (short 4 16 (lit< tt) refl (lit≤ tt) narrow) blocks_2 c.join_blocks-blocks_4.ensures in
+    let blocks_8 = join {block = 4} {stride = 16} 12 mask_8_32
+    (lit≤ tt) refl (short 4 16 (lit< tt) refl (lit≤ tt) narrow) blocks_4 c.join_blocks-blocks_8.ensures in
+    let blocks_16 = join {block = 8} {stride = 32} 24 mask_16_64
+    (lit≤ tt) refl (short 4 16 (lit< tt) refl (lit≤ tt) narrow) blocks_8 c.join_blocks.ensures in
     let wide : coordinate 4 0 c.args.code < 2 ^ 16 = omega arith in
-    gathered 16 64 (coordinate 4 0 c.args.code) c.join_blocks.result (lit≤ tt) wide (masked-lt 16 _ _ c.join_blocks.result (lit< tt) c.join_blocks.ensures) blocks_16
+    gathered 16 64 (coordinate 4 0 c.args.code) c.join_blocks.result
+    (lit≤ tt) wide (masked-lt 16 _ _ c.join_blocks.result (lit< tt) c.join_blocks.ensures) blocks_16

@@ -12,34 +12,45 @@ returns-then-z-corners-clause-skipped c =
     let region = c.args.region.now in
     let codes = c.args.self.now.codes in
     let is = c.codes-codes.ensures.codes in
-    let of = of_region region codes _ _ is c.requires.dims c.codes-codes.ensures.never_falls c.codes-codes.ensures.each in
+    let of =
+    of_region region codes _ _ is c.requires.dims c.codes-codes.ensures.never_falls c.codes-codes.ensures.each in
     let past : code region.d region.high < slice_index codes c.args.at =
     omega (arith, c.if-z-corners.true, c.requires.corners.high, ap (λ xs. slice_index xs c.args.at) is) in
-    λ j after before looked. none_past region codes of c.requires.region c.args.at past j after (omega (arith, before, ap length is)) looked
+    λ j after before looked.
+    none_past region codes of c.requires.region c.args.at past j after (omega (arith, before, ap length is)) looked
 
 pub returns-in-None-clause-skipped : goal.returns-in-None-clause-skipped
 returns-in-None-clause-skipped c =
     let region = c.args.region.now in
     let codes = c.args.self.now.codes in
     let is = c.codes-codes.ensures.codes in
-    let of = of_region region codes _ _ is c.requires.dims c.codes-codes.ensures.never_falls c.codes-codes.ensures.each in
+    let of =
+    of_region region codes _ _ is c.requires.dims c.codes-codes.ensures.never_falls c.codes-codes.ensures.each in
     let none = subst (HasNoNext region) (ap (λ xs. slice_index xs c.args.at) is) c.in-None.ensures.none in
-    λ j after before looked. none_left region codes of c.args.at none c.requires.outside j after (omega (arith, before, ap length is)) looked
+    λ j after before looked.
+    none_left region codes of c.args.at none c.requires.outside j after (omega (arith, before, ap length is)) looked
 
 pub returns-in-Some-clause-onwards : goal.returns-in-Some-clause-onwards
 returns-in-Some-clause-onwards c =
     let region = c.args.region.now in
     let codes = c.args.self.now.codes in
     let is = c.codes-codes.ensures.codes in
-    let of = of_region region codes _ _ is c.requires.dims c.codes-codes.ensures.never_falls c.codes-codes.ensures.each in
-    let next = subst (λ z. IsNextInBox region z c.in-Some.next) (ap (λ xs. slice_index xs c.args.at) is) c.in-Some.ensures.next in
-    omega (arith, c.lower_bound_past.ensures, bound_beyond region codes of c.args.at c.in-Some.next c.requires.here next.above)
+    let of =
+    of_region region codes _ _ is c.requires.dims c.codes-codes.ensures.never_falls c.codes-codes.ensures.each in
+    let next = subst
+    (λ z. IsNextInBox region z c.in-Some.next) (ap (λ xs. slice_index xs c.args.at) is) c.in-Some.ensures.next in
+    omega (
+      arith,
+      c.lower_bound_past.ensures,
+      bound_beyond region codes of c.args.at c.in-Some.next c.requires.here next.above,
+    )
 
 pub returns-in-Some-clause-within : goal.returns-in-Some-clause-within
 returns-in-Some-clause-within c =
     let codes = c.args.self.now.codes in
     let is = c.codes-codes.ensures.codes in
-    let of = of_region c.args.region.now codes _ _ is c.requires.dims c.codes-codes.ensures.never_falls c.codes-codes.ensures.each in
+    let of = of_region
+    c.args.region.now codes _ _ is c.requires.dims c.codes-codes.ensures.never_falls c.codes-codes.ensures.each in
     omega (arith, c.lower_bound_past.ensures, (IsLowerBound-lb codes c.in-Some.next of.order).within)
 
 pub returns-in-Some-clause-skipped : goal.returns-in-Some-clause-skipped
@@ -47,16 +58,22 @@ returns-in-Some-clause-skipped c =
     let region = c.args.region.now in
     let codes = c.args.self.now.codes in
     let is = c.codes-codes.ensures.codes in
-    let of = of_region region codes _ _ is c.requires.dims c.codes-codes.ensures.never_falls c.codes-codes.ensures.each in
-    let next = subst (λ z. IsNextInBox region z c.in-Some.next) (ap (λ xs. slice_index xs c.args.at) is) c.in-Some.ensures.next in
-    λ j after before looked. none_between region codes of c.args.at c.in-Some.next next c.requires.outside j after (omega (arith, before, c.lower_bound_past.ensures)) looked
+    let of =
+    of_region region codes _ _ is c.requires.dims c.codes-codes.ensures.never_falls c.codes-codes.ensures.each in
+    let next = subst
+    (λ z. IsNextInBox region z c.in-Some.next) (ap (λ xs. slice_index xs c.args.at) is) c.in-Some.ensures.next in
+    λ j after before looked. none_between region codes of c.args.at c.in-Some.next next c.requires.outside j after
+    (omega (arith, before, c.lower_bound_past.ensures)) looked
 
 pub returns-in-Some-clause-due : goal.returns-in-Some-clause-due
 returns-in-Some-clause-due c =
     let region = c.args.region.now in
     let codes = c.args.self.now.codes in
     let is = c.codes-codes.ensures.codes in
-    let of = of_region region codes _ _ is c.requires.dims c.codes-codes.ensures.never_falls c.codes-codes.ensures.each in
-    let next = subst (λ z. IsNextInBox region z c.in-Some.next) (ap (λ xs. slice_index xs c.args.at) is) c.in-Some.ensures.next in
+    let of =
+    of_region region codes _ _ is c.requires.dims c.codes-codes.ensures.never_falls c.codes-codes.ensures.each in
+    let next = subst
+    (λ z. IsNextInBox region z c.in-Some.next) (ap (λ xs. slice_index xs c.args.at) is) c.in-Some.ensures.next in
     λ within. subst (IsLookedAt region codes) (sym c.lower_bound_past.ensures)
-    (looked_at_bound region codes of c.in-Some.next next.code next.inside (omega (arith, within, c.lower_bound_past.ensures)))
+    (looked_at_bound region codes of c.in-Some.next next.code next.inside
+    (omega (arith, within, c.lower_bound_past.ensures)))

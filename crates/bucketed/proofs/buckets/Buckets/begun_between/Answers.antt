@@ -12,7 +12,10 @@ returns-clause-between c =
     let value = c.index.result.now in
     let own = c.args.self.now.bits in
     let runs = c.runs-runs.ensures in
-    let order = order_of index value c.index.ensures (first_x-order value.keys value.eps value.eps_rec value.levels runs.never_falls runs.index) in
-    let bucket : c.args.q / 2 ^ (64 - c.bits.result) ≡ bucket_of own c.args.q = ap (λ (b : ℕ). c.args.q / 2 ^ (64 - b)) c.bits.ensures.bits in
+    let order = order_of index value c.index.ensures
+    (first_x-order value.keys value.eps value.eps_rec value.levels runs.never_falls runs.index) in
+    let bucket : c.args.q / 2 ^ (64 - c.bits.result)
+    ≡ bucket_of own c.args.q = ap (λ (b : ℕ). c.args.q / 2 ^ (64 - b)) c.bits.ensures.bits in
     IsBetween-bucket own (xs_at index.keys index.levels 1) c.args.q c.entry.result c.entry-2.result order
-    (c.entry.ensures ∙ ap (entry_at index own) bucket) (c.entry-2.ensures ∙ ap (λ (h : ℕ). entry_at index own (h + 1)) bucket)
+    (c.entry.ensures ∙ ap (entry_at index own) bucket)
+    (c.entry-2.ensures ∙ ap (λ (h : ℕ). entry_at index own (h + 1)) bucket)

@@ -13,7 +13,10 @@ returns-clause-positions c =
     let bounds = c.lower_bounds_between in
     let places = bounds.new.places in
     let all = take_all c.loop-place.place-index places (omega (arith, bounds.ensures.lanes, c.loop-place-test.false)) in
-    let found = ext_get_or 0 places (map (lb keys) qs) (omega (arith, bounds.ensures.lanes, c.requires.sixteen, length-map qs (lb keys))) (λ k inside.
-    bounds.ensures.found k (omega (arith, bounds.ensures.lanes)) ∙ ap (λ (i : PgmIndex). lb i.keys (slice_index c.loop-lane.asked k)) c.index-index.ensures
-    ∙ ap (lb keys) (c.loop-lane.invariant.done k (omega (arith, bounds.ensures.lanes, c.loop-lane-test.false))) ∙ sym (get_or-map (lb keys) qs k 0 0 (omega (arith, bounds.ensures.lanes, c.requires.sixteen)))) in
+    let found = ext_get_or 0 places (map (lb keys) qs)
+    (omega (arith, bounds.ensures.lanes, c.requires.sixteen, length-map qs (lb keys))) (λ k inside.
+    bounds.ensures.found k (omega (arith, bounds.ensures.lanes))
+    ∙ ap (λ (i : PgmIndex). lb i.keys (slice_index c.loop-lane.asked k)) c.index-index.ensures
+    ∙ ap (lb keys) (c.loop-lane.invariant.done k (omega (arith, bounds.ensures.lanes, c.loop-lane-test.false)))
+    ∙ sym (get_or-map (lb keys) qs k 0 0 (omega (arith, bounds.ensures.lanes, c.requires.sixteen)))) in
     inv.places ∙ ap (λ (l : List ℕ). c.args.into.now.items ++ l) (all ∙ found)

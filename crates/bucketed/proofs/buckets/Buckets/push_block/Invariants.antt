@@ -11,7 +11,8 @@ invariant-loop-lane l = record {
   lows : length l.least ≡ 16;
   highs : length l.most ≡ 16;
   done : (k : ℕ) → k < l.lane → slice_index l.asked k ≡ slice_index l.qs k;
-  between : (k : ℕ) → k < l.lane → IsBetween (xs_at l.self.index.keys l.self.index.levels 1) (slice_index l.qs k) (slice_index l.least k) (slice_index l.most k);
+  between : (k : ℕ) → k < l.lane → IsBetween (xs_at l.self.index.keys l.self.index.levels 1)
+      (slice_index l.qs k) (slice_index l.least k) (slice_index l.most k);
 }
 
 abbrev pub invariant-loop-place : goal.invariant-loop-place

@@ -5,5 +5,9 @@ use Rattle.claims.proofs.seats.Claims.new.Goals as goal
 
 pub split_seat-seat-requires : goal.split_seat-seat-requires
 split_seat-seat-requires c =
-    let inv = c.loop-seated.invariant in
-    (inv.table, search rules, splits c.in_ok-table.table.shared.key c.loop-seated.rest.id c.loop-seated.rest.me.0 (omega (arith, inv.left)) inv.live inv.fresh)
+    let inv = c.loop-seated.invariant in (
+      inv.table,
+      search rules,
+      splits c.in_ok-table.table.shared.key c.loop-seated.rest.id c.loop-seated.rest.me.0
+          (omega (arith, inv.left)) inv.live inv.fresh,
+    )

@@ -14,7 +14,11 @@ returns-then-self-q c =
     let climb = line.rise * (c.args.q - line.x0) in
     let small : climb < 2 ^ 97 = climb_below line.rise (c.args.q - line.x0) (omega arith) (omega arith) in
     let less = div-le_self climb line.run in
-    record { exact = rw (c.from-rise.ensures, c.from.ensures, c.from-run.ensures, c.from-then-self-q.ensures) (IsFloorAt-right line c.args.q (c.args.q - line.x0) (climb / line.run) _ c.requires.in_range.positive (omega arith) refl (omega (arith, ints))) }
+    record {
+      exact = rw (c.from-rise.ensures, c.from.ensures, c.from-run.ensures, c.from-then-self-q.ensures)
+          (IsFloorAt-right line c.args.q (c.args.q - line.x0)
+          (climb / line.run) _ c.requires.in_range.positive (omega arith) refl (omega (arith, ints)));
+    }
 
 pub returns-else-self-q : goal.returns-else-self-q
 returns-else-self-q c =
@@ -23,4 +27,9 @@ returns-else-self-q c =
     let fall = line.rise * (line.x0 - c.args.q) in
     let small : fall < 2 ^ 97 = climb_below line.rise (line.x0 - c.args.q) (omega arith) (omega arith) in
     let less = div-le_self (fall + (line.run - 1)) line.run in
-    record { exact = rw (c.from-rise.ensures, c.from-else-self-q.ensures, c.from-run.ensures, c.from-else-self-q-2.ensures) (IsFloorAt-left line c.args.q (line.x0 - c.args.q) ((fall + (line.run - 1)) / line.run) _ c.requires.in_range.positive (omega arith) refl (omega (arith, ints))) }
+    record {
+      exact =
+          rw (c.from-rise.ensures, c.from-else-self-q.ensures, c.from-run.ensures, c.from-else-self-q-2.ensures)
+          (IsFloorAt-left line c.args.q (line.x0 - c.args.q) ((fall + (line.run - 1)) / line.run)
+          _ c.requires.in_range.positive (omega arith) refl (omega (arith, ints)));
+    }

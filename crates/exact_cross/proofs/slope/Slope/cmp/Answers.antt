@@ -11,7 +11,8 @@ abs_within (pos n) fits = omega arith
 abs_within (negsuc n) fits = omega arith
 
 -- the conversion to 128 bits keeps a number of 64 bits
-widened : (z z' : ℤ) → FitsSigned w64 z → z' ≡ cast_signed w64 (cast_unsigned w64 z) → cast_signed w128 (cast_unsigned w128 z') ≡ z
+widened : (z z' : ℤ) →
+    FitsSigned w64 z → z' ≡ cast_signed w64 (cast_unsigned w64 z) → cast_signed w128 (cast_unsigned w128 z') ≡ z
 widened z z' fits e =
     let e' : z' ≡ z = e ∙ to_z-of_z w64 z fits in
     let fits' : FitsSigned w128 z = fits_signed_from_abs w128 z (omega (arith, abs_within z fits)) in
@@ -24,10 +25,14 @@ widened_run n z small e =
     ap (λ (x : ℤ). cast_signed w128 (cast_unsigned w128 x)) e ∙ to_z-of_z w128 (pos n) fits
 
 -- the product of a rise and a run, as the code makes it
-product : (rise rise' run' : ℤ) (run : ℕ) → FitsSigned w64 rise → run < 2 ^ 64 → rise' ≡ cast_signed w64 (cast_unsigned w64 rise) → run' ≡ pos run →
-    cast_signed w128 (cast_unsigned w128 (cast_signed w128 (cast_unsigned w128 rise') *ℤ cast_signed w128 (cast_unsigned w128 run'))) ≡ rise *ℤ pos run
+product : (rise rise' run' : ℤ) (run : ℕ) →
+    FitsSigned w64 rise → run < 2 ^ 64 → rise' ≡ cast_signed w64 (cast_unsigned w64 rise) → run' ≡ pos run →
+    cast_signed w128
+    (cast_unsigned w128 (cast_signed w128 (cast_unsigned w128 rise') *ℤ cast_signed w128 (cast_unsigned w128 run')))
+    ≡ rise *ℤ pos run
 product rise rise' run' run fits small e f =
-    let whole : FitsSigned w128 (rise *ℤ pos run) = fits_signed_mul w128 rise (pos run) (2 ^ 63) (2 ^ 64 - 1) (abs_within rise fits) (omega arith) (omega arith) in
+    let whole : FitsSigned w128 (rise *ℤ pos run) =
+    fits_signed_mul w128 rise (pos run) (2 ^ 63) (2 ^ 64 - 1) (abs_within rise fits) (omega arith) (omega arith) in
     rw (widened rise rise' fits e, widened_run run run' small f) (to_z-of_z w128 (rise *ℤ pos run) whole)
 
 pub returns : goal.returns
@@ -36,6 +41,8 @@ returns c =
     let that = c.args.other.now in
     let fits_this : FitsSigned w64 this.rise = search rules in
     let fits_that : FitsSigned w64 that.rise = search rules in
-    let left = product this.rise c.from.result c.from-2.result that.run fits_this (omega arith) c.from.ensures c.from-2.ensures in
-    let right = product that.rise c.from-3.result c.from-4.result this.run fits_that (omega arith) c.from-3.ensures c.from-4.ensures in
+    let left = product this.rise c.from.result c.from-2.result that.run fits_this
+    (omega arith) c.from.ensures c.from-2.ensures in
+    let right = product that.rise c.from-3.result c.from-4.result this.run fits_that
+    (omega arith) c.from-3.ensures c.from-4.ensures in
     record { order = rw (← left, ← right) c.cmp.ensures }

@@ -13,4 +13,6 @@ pub bounds-lines-place : goal.bounds-lines-place
 bounds-lines-place c = first_inside c.args.self.now.lines.now c.args.place c.requires
 
 pub returns : goal.returns
-returns c = sym (first_xs-at c.args.self.now.lines.now c.args.place (omega (arith, length-first_xs c.args.self.now.lines.now, c.requires)))
+returns c =
+    sym (first_xs-at c.args.self.now.lines.now c.args.place
+    (omega (arith, length-first_xs c.args.self.now.lines.now, c.requires)))

@@ -7,9 +7,23 @@ use Rattle.key_points.proofs.keys.Keys.of.Goals as goal
 
 pub overflow_cast-result : goal.overflow_cast-result
 overflow_cast-result c =
-    omega (arith, c.count_distinct-distinct.ensures, distinct_of-few c.deref.result.now, ap length c.deref.ensures.value, c.args.sorted.ok.0, c.requires.few)
+    omega (
+      arith,
+      c.count_distinct-distinct.ensures,
+      distinct_of-few c.deref.result.now,
+      ap length c.deref.ensures.value,
+      c.args.sorted.ok.0,
+      c.requires.few,
+    )
 
 pub overflow_cast-result-2 : goal.overflow_cast-result-2
 overflow_cast-result-2 c =
     let order = subst IsNonDecreasing (sym c.deref-2.ensures.value) c.requires.never_falls in
-    omega (arith, c.count_points-points.ensures, xs-few c.deref-2.result.now order, ap length c.deref-2.ensures.value, c.args.sorted.ok.0, c.requires.few)
+    omega (
+      arith,
+      c.count_points-points.ensures,
+      xs-few c.deref-2.result.now order,
+      ap length c.deref-2.ensures.value,
+      c.args.sorted.ok.0,
+      c.requires.few,
+    )

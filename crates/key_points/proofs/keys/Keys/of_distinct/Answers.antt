@@ -8,7 +8,8 @@ use Rattle.key_points.proofs.keys.Keys.of_distinct.Goals as goal
 pub invariant_of-result : goal.invariant_of-result
 invariant_of-result c =
     let keys = c.args.rising.items in
-    let order : IsNonDecreasing keys = IsNonDecreasing-from_neighbours keys (λ k inside. omega (arith, c.requires.rises k inside)) in
+    let order : IsNonDecreasing keys =
+    IsNonDecreasing-from_neighbours keys (λ k inside. omega (arith, c.requires.rises k inside)) in
     let alone = distinct_of-rising keys c.requires.rises in
     record {
       never_falls = order;

@@ -18,11 +18,13 @@ use Rattle.kuldebiq.specs.Owned.{owned}
 use Rattle.kuldebiq.specs.contracts.index_handle.IndexHandle.{the_row, the_type}
 use Rattle.kuldebiq.proofs.IndexHandles.{R, Z}
 
-keyless : IsSend R → Frees ghosts ghosts.dealloc_token → (a : Z.Denot) (p : Ptr) (x : Option R.Denot) → Keyless (owned R a p x)
+keyless : IsSend R →
+    Frees ghosts ghosts.dealloc_token → (a : Z.Denot) (p : Ptr) (x : Option R.Denot) → Keyless (owned R a p x)
 keyless s f a p None = tt
 keyless s f a p (Some x) = (lies R s p x, f.frees a (raw (lone R.mir)) p)
 
 pub send : IsSend the_row
-send = let s : IsSend R = the_send in let sa : IsSend (heap.the_field).row = search sendable in let ps : IsSend RawPtr = search sendable in
+send = let s : IsSend R = the_send in
+    let sa : IsSend (heap.the_field).row = search sendable in let ps : IsSend RawPtr = search sendable in
     owning_send the_type (ps, (sa, tt)) (λ d. keyless s frees d.alloc d.at d.index)
     (λ k. quiet (to the_type) (exits_of k (fields the_type)) ((struct_send (shape the_type) (ps, (sa, tt))).leaving k))

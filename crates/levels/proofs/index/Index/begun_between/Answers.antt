@@ -14,6 +14,10 @@ returns-in-Some-clause-between c =
     let levels = own.stored.items in
     let stored = c.self.invariant.stored in
     let near : IsBetween (xs_at value.keys value.levels 1) c.args.q c.in-Some.from c.in-Some.to =
-    rw (← c.self.view_is) (c.in-Some.ensures.between (xs_at own.keys (segments_of levels) 1) (share_of own.bounds.eps_rec (length levels))
-    (first_x-order own.keys own.bounds.eps own.bounds.eps_rec (segments_of levels) stored.first.never_falls stored.index) c.self.invariant.table_of) in
-    narrowed (xs_at value.keys value.levels 1) c.args.q c.args.least c.args.most c.in-Some.from c.in-Some.to c.max.result c.min.result c.requires.between near c.max.ensures c.min.ensures
+    rw (← c.self.view_is)
+    (c.in-Some.ensures.between (xs_at own.keys (segments_of levels) 1) (share_of own.bounds.eps_rec (length levels))
+    (first_x-order own.keys own.bounds.eps own.bounds.eps_rec
+    (segments_of levels) stored.first.never_falls stored.index)
+    c.self.invariant.table_of) in
+    narrowed (xs_at value.keys value.levels 1) c.args.q c.args.least c.args.most
+    c.in-Some.from c.in-Some.to c.max.result c.min.result c.requires.between near c.max.ensures c.min.ensures

@@ -9,5 +9,6 @@ abbrev pub invariant-loop-lane : goal.invariant-loop-lane
 invariant-loop-lane l = record {
   lanes : length l.runs ≡ 16;
   done : (k : ℕ) → k < l.lane → HasBound l.self.keys (slice_index l.qs k) (slice_index l.runs k) l.count;
-  rest : (k : ℕ) → l.lane ≤ k → k < 16 → IsPredecessor (xs_at l.self.keys l.self.levels 1) (slice_index l.qs k) (slice_index l.runs k);
+  rest : (k : ℕ) → l.lane ≤ k →
+      k < 16 → IsPredecessor (xs_at l.self.keys l.self.levels 1) (slice_index l.qs k) (slice_index l.runs k);
 }

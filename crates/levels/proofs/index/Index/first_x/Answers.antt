@@ -20,7 +20,9 @@ returns c =
     let value = c.args.self.now in
     let there = level_of-run value.keys value.levels c.args.run c.requires in
     let runs = c.runs-runs.ensures in
-    let ends = run_ends value.keys value.eps value.eps_rec value.levels runs.never_falls runs.index 0 c.args.run no_segment there.0 there.1 in
+    let ends = run_ends value.keys
+    value.eps value.eps_rec value.levels runs.never_falls runs.index 0 c.args.run no_segment there.0 there.1 in
     let end = end_at (level_at value.levels 0) c.args.run (length (xs_at value.keys value.levels 0)) in
     (c.model_of.ensures end no_segment ends).starts
-    ∙ sym (ap (λ (l : List ℕ). slice_index l c.args.run) (xs_at-above value.keys value.levels 0) ∙ first_x_at (xs_at value.keys value.levels 0) (level_at value.levels 0) c.args.run no_segment there.1)
+    ∙ sym (ap (λ (l : List ℕ). slice_index l c.args.run) (xs_at-above value.keys value.levels 0)
+    ∙ first_x_at (xs_at value.keys value.levels 0) (level_at value.levels 0) c.args.run no_segment there.1)

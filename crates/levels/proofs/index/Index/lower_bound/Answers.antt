@@ -10,7 +10,8 @@ use Rattle.levels.proofs.index.Index.lower_bound.Goals as goal
 
 none_below : (keys : List ℕ) (q : ℕ) → IsNonDecreasing keys → (0 < length keys → q ≤ slice_index keys 0) → 0 ≡ lb keys q
 none_below keys q order first =
-    sym (lb-is keys q 0 (omega arith) (λ k less. absurd (omega arith)) (λ k low inside. omega (arith, first (omega arith), order 0 k 0 low inside)))
+    sym (lb-is keys q 0 (omega arith)
+    (λ k less. absurd (omega arith)) (λ k low inside. omega (arith, first (omega arith), order 0 k 0 low inside)))
 
 pub returns-then-q-first-clause-found : goal.returns-then-q-first-clause-found
 returns-then-q-first-clause-found g c =
@@ -21,7 +22,8 @@ returns-then-q-first-clause-found g c =
 pub returns-then-q-first-clause-cost : goal.returns-then-q-first-clause-cost
 returns-then-q-first-clause-cost g c = λ some.
     let value = c.args.self.now in
-    lookup-one value.eps value.eps_rec (length value.levels) c.args.steps.now c.read-first.new.steps c.read-first.ensures.cost
+    lookup-one value.eps value.eps_rec
+    (length value.levels) c.args.steps.now c.read-first.new.steps c.read-first.ensures.cost
 
 pub run_of-run-requires-clause-from_first : goal.run_of-run-requires-clause-from_first
 run_of-run-requires-clause-from_first g c =
@@ -35,5 +37,7 @@ returns-clause-cost g c = λ some.
     let narrow = c.window_by_model-low.ensures.narrow in
     let last : TakesAtMost (2 * (2 * value.eps + 3)) c.run_of-run.new.steps c.lower_in.new.steps =
     record { t = steps.0; taken = steps.1; within = omega (arith, steps.2, narrow) } in
-    let above = lookup-entry (4 * (2 * value.eps_rec + 3)) (length value.levels - 1) c.args.steps.now c.read-first.new.steps c.run_of-run.new.steps c.read-first.ensures.cost c.run_of-run.ensures.cost in
-    lookup-last value.eps value.eps_rec (length value.levels) (length value.levels - 1) c.args.steps.now c.run_of-run.new.steps c.lower_in.new.steps (omega arith) above last
+    let above = lookup-entry (4 * (2 * value.eps_rec + 3)) (length value.levels - 1) c.args.steps.now
+    c.read-first.new.steps c.run_of-run.new.steps c.read-first.ensures.cost c.run_of-run.ensures.cost in
+    lookup-last value.eps value.eps_rec (length value.levels)
+    (length value.levels - 1) c.args.steps.now c.run_of-run.new.steps c.lower_in.new.steps (omega arith) above last

@@ -12,7 +12,8 @@ overflow_cast-result c =
     let levels = segments_of own.stored.items in
     let first = c.self.invariant.stored.first in
     let inside : c.args.i < length levels = rw (← c.self.view_is) at c.requires in
-    let here = ascends own.keys own.bounds.eps own.bounds.eps_rec levels first.never_falls c.self.invariant.stored.index c.args.i (omega (arith, inside)) in
+    let here = ascends own.keys own.bounds.eps
+    own.bounds.eps_rec levels first.never_falls c.self.invariant.stored.index c.args.i (omega (arith, inside)) in
     let is : c.firsts.result.now ≡ xs_at own.keys levels c.args.i = rw (← c.self.view_is) at c.firsts.ensures in
     omega (arith, ap length is, here.few, first.few)
 

@@ -7,7 +7,8 @@ use Rattle.levels.proofs.index.Index.positions.Given as goal
 abbrev pub invariant-loop-rest : goal.invariant-loop-rest
 invariant-loop-rest l = record {
   some : 0 < length l.self.keys;
-  before : (before : List ℕ) × (l.fn.qs ≡ before ++ l.rest) × (l.into.items ≡ l.fn.into.items ++ map (lb l.self.keys) before);
+  before : (before : List ℕ)
+      × (l.fn.qs ≡ before ++ l.rest) × (l.into.items ≡ l.fn.into.items ++ map (lb l.self.keys) before);
   room : vec_len l.into + length l.rest ≤ vec_capacity l.into;
   capacity : vec_capacity l.fn.into ≤ vec_capacity l.into;
 }

@@ -19,6 +19,7 @@ loop-level-preserved g c =
     record {
       inside = omega (arith, inv.inside);
       run = rw down c.predecessor_below-run.ensures.found;
-      cost = level-more value.eps_rec (length value.levels - 1 - level) (length value.levels - 1 - (level - 1)) c.args.steps.now c.loop-level.steps c.predecessor_below-run.new.steps
+      cost = level-more value.eps_rec (length value.levels - 1 - level)
+          (length value.levels - 1 - (level - 1)) c.args.steps.now c.loop-level.steps c.predecessor_below-run.new.steps
           (omega (arith, inv.inside, c.loop-level-test.true)) inv.cost c.predecessor_below-run.ensures.cost;
     }

@@ -8,6 +8,8 @@ use Rattle.levels.proofs.index.Index.runs_below.Given as goal
 abbrev pub invariant-loop-lane : goal.invariant-loop-lane
 invariant-loop-lane l = record {
   lanes : length l.runs ≡ 16;
-  done : (k : ℕ) → k < l.lane → IsAmong (xs_at l.self.keys l.self.levels l.level) (slice_index l.qs k) (slice_index l.runs k) l.count;
-  rest : (k : ℕ) → l.lane ≤ k → k < 16 → IsPredecessor (xs_at l.self.keys l.self.levels (l.level + 1)) (slice_index l.qs k) (slice_index l.runs k);
+  done : (k : ℕ) → k < l.lane →
+      IsAmong (xs_at l.self.keys l.self.levels l.level) (slice_index l.qs k) (slice_index l.runs k) l.count;
+  rest : (k : ℕ) → l.lane ≤ k → k < 16 →
+      IsPredecessor (xs_at l.self.keys l.self.levels (l.level + 1)) (slice_index l.qs k) (slice_index l.runs k);
 }

@@ -12,5 +12,8 @@ returns c =
     let own = c.self.inside in
     let levels = own.stored.items in
     let stored = c.self.invariant.stored in
-    rw (← c.self.view_is, segments_of-count levels) (c.places.ensures (xs_at own.keys (segments_of levels) 1) (share_of own.bounds.eps_rec (length levels))
-    (first_x-order own.keys own.bounds.eps own.bounds.eps_rec (segments_of levels) stored.first.never_falls stored.index) c.self.invariant.table_of)
+    rw (← c.self.view_is, segments_of-count levels)
+    (c.places.ensures (xs_at own.keys (segments_of levels) 1) (share_of own.bounds.eps_rec (length levels))
+    (first_x-order own.keys own.bounds.eps own.bounds.eps_rec
+    (segments_of levels) stored.first.never_falls stored.index)
+    c.self.invariant.table_of)

@@ -12,11 +12,16 @@ pub returns-clause-shown : goal.returns-clause-shown
 returns-clause-shown c =
     let own = c.self.inside in
     let levels = own.stored.items in
-    let inside : c.args.i < length levels = omega (arith, segments_of-count levels, rw (← c.self.view_is) at c.requires) in
+    let inside :
+    c.args.i < length levels = omega (arith, segments_of-count levels, rw (← c.self.view_is) at c.requires) in
     let here : c.deref.result.now ≡ level_at (segments_of levels) c.args.i =
-    c.deref.ensures.value ∙ ap (λ (l : Level). l.segments.items) c.index-level.ensures ∙ sym (level_at-kept levels c.args.i c.index-level.result.now inside) in
-    rw (← c.self.view_is, here) (laid-shown own.keys own.bounds.eps own.bounds.eps_rec (segments_of levels) c.self.invariant.stored.first.never_falls c.self.invariant.stored.index c.self.invariant.stored.first.few
-    c.self.invariant.stored.first.bounded c.self.invariant.stored.first.bounded_rec c.args.i (omega (arith, inside, segments_of-count levels)))
+    c.deref.ensures.value ∙ ap (λ (l : Level). l.segments.items) c.index-level.ensures
+    ∙ sym (level_at-kept levels c.args.i c.index-level.result.now inside) in
+    rw (← c.self.view_is, here)
+    (laid-shown own.keys own.bounds.eps own.bounds.eps_rec (segments_of levels)
+    c.self.invariant.stored.first.never_falls c.self.invariant.stored.index c.self.invariant.stored.first.few
+    c.self.invariant.stored.first.bounded c.self.invariant.stored.first.bounded_rec c.args.i
+    (omega (arith, inside, segments_of-count levels)))
 
 pub returns-clause-above : goal.returns-clause-above
 returns-clause-above c =
@@ -29,27 +34,38 @@ pub returns-clause-least : goal.returns-clause-least
 returns-clause-least c =
     let own = c.self.inside in
     let levels = own.stored.items in
-    let inside : c.args.i < length levels = omega (arith, segments_of-count levels, rw (← c.self.view_is) at c.requires) in
+    let inside :
+    c.args.i < length levels = omega (arith, segments_of-count levels, rw (← c.self.view_is) at c.requires) in
     let here : c.deref.result.now ≡ level_at (segments_of levels) c.args.i =
-    c.deref.ensures.value ∙ ap (λ (l : Level). l.segments.items) c.index-level.ensures ∙ sym (level_at-kept levels c.args.i c.index-level.result.now inside) in
+    c.deref.ensures.value ∙ ap (λ (l : Level). l.segments.items) c.index-level.ensures
+    ∙ sym (level_at-kept levels c.args.i c.index-level.result.now inside) in
     rw (← c.self.view_is, here) (IsLevel-least own.keys own.bounds.eps own.bounds.eps_rec (segments_of levels) c.args.i)
 
 pub returns-clause-checked : goal.returns-clause-checked
 returns-clause-checked c =
     let own = c.self.inside in
     let levels = own.stored.items in
-    let inside : c.args.i < length levels = omega (arith, segments_of-count levels, rw (← c.self.view_is) at c.requires) in
+    let inside :
+    c.args.i < length levels = omega (arith, segments_of-count levels, rw (← c.self.view_is) at c.requires) in
     let here : c.deref.result.now ≡ level_at (segments_of levels) c.args.i =
-    c.deref.ensures.value ∙ ap (λ (l : Level). l.segments.items) c.index-level.ensures ∙ sym (level_at-kept levels c.args.i c.index-level.result.now inside) in
-    rw (← c.self.view_is, here) (laid-checked own.keys own.bounds.eps own.bounds.eps_rec (segments_of levels) c.self.invariant.stored.first.never_falls c.self.invariant.stored.index c.self.invariant.stored.first.few
-    c.self.invariant.stored.first.bounded c.self.invariant.stored.first.bounded_rec c.args.i (omega (arith, inside, segments_of-count levels)))
+    c.deref.ensures.value ∙ ap (λ (l : Level). l.segments.items) c.index-level.ensures
+    ∙ sym (level_at-kept levels c.args.i c.index-level.result.now inside) in
+    rw (← c.self.view_is, here)
+    (laid-checked own.keys own.bounds.eps own.bounds.eps_rec (segments_of levels)
+    c.self.invariant.stored.first.never_falls c.self.invariant.stored.index c.self.invariant.stored.first.few
+    c.self.invariant.stored.first.bounded c.self.invariant.stored.first.bounded_rec c.args.i
+    (omega (arith, inside, segments_of-count levels)))
 
 pub returns-clause-long : goal.returns-clause-long
 returns-clause-long c =
     let own = c.self.inside in
     let levels = own.stored.items in
-    let inside : c.args.i < length levels = omega (arith, segments_of-count levels, rw (← c.self.view_is) at c.requires) in
+    let inside :
+    c.args.i < length levels = omega (arith, segments_of-count levels, rw (← c.self.view_is) at c.requires) in
     let here : c.deref.result.now ≡ level_at (segments_of levels) c.args.i =
-    c.deref.ensures.value ∙ ap (λ (l : Level). l.segments.items) c.index-level.ensures ∙ sym (level_at-kept levels c.args.i c.index-level.result.now inside) in
+    c.deref.ensures.value ∙ ap (λ (l : Level). l.segments.items) c.index-level.ensures
+    ∙ sym (level_at-kept levels c.args.i c.index-level.result.now inside) in
     rw (← c.self.view_is, here)
-    (long_level own.keys own.bounds.eps own.bounds.eps_rec (segments_of levels) c.self.invariant.stored.first.never_falls c.self.invariant.stored.index c.args.i (omega (arith, inside, segments_of-count levels)))
+    (long_level own.keys own.bounds.eps own.bounds.eps_rec
+    (segments_of levels) c.self.invariant.stored.first.never_falls c.self.invariant.stored.index c.args.i
+    (omega (arith, inside, segments_of-count levels)))

@@ -9,5 +9,7 @@ invariant-loop-lane l = record {
   lanes : length l.lows ≡ 16;
   some : 1 ≤ l.count;
   most : l.count ≤ length (xs_at l.self.keys l.self.levels 1);
-  each : (k : ℕ) → k < l.lane → (place : ℕ) → IsPredecessor (xs_at l.self.keys l.self.levels 1) (slice_index l.qs k) place → (slice_index l.lows k ≤ place) × (place < slice_index l.lows k + l.count);
+  each : (k : ℕ) →
+      k < l.lane → (place : ℕ) → IsPredecessor (xs_at l.self.keys l.self.levels 1) (slice_index l.qs k) place →
+      (slice_index l.lows k ≤ place) × (place < slice_index l.lows k + l.count);
 }

@@ -6,5 +6,6 @@ use Rattle.levels.proofs.index.Index.start_among.Goals as goal
 pub overflow_cast-firsts : goal.overflow_cast-firsts
 overflow_cast-firsts c =
     let value = c.args.self.now in
-    let here = ascends value.keys value.eps value.eps_rec value.levels c.requires.laid.never_falls c.requires.laid.index c.args.level (omega (arith, c.requires.inside)) in
+    let here = ascends value.keys value.eps value.eps_rec value.levels
+    c.requires.laid.never_falls c.requires.laid.index c.args.level (omega (arith, c.requires.inside)) in
     omega (arith, ap length c.firsts.ensures, here.few, c.requires.laid.few)

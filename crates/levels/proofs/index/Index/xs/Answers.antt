@@ -6,4 +6,5 @@ use Rattle.levels.proofs.index.Index.xs.Goals as goal
 
 pub returns-then-i-eq0 : goal.returns-then-i-eq0
 returns-then-i-eq0 c =
-    rw (c.if-i-eq0.true, xs_at-base, ← c.self.view_is) (c.in_ok-from_slice.ensures.items ∙ c.points-list.ensures.xs ∙ ap xs_of c.in_ok-points.ensures)
+    rw (c.if-i-eq0.true, xs_at-base, ← c.self.view_is)
+    (c.in_ok-from_slice.ensures.items ∙ c.points-list.ensures.xs ∙ ap xs_of c.in_ok-points.ensures)

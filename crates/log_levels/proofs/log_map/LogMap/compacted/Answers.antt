@@ -7,7 +7,8 @@ use Rattle.log_levels.proofs.log_map.LogMap.compacted.Goals as goal
 
 pub returns-in-Ok-clause-made : goal.returns-in-Ok-clause-made
 returns-in-Ok-clause-made c = λ updates stands.
-    subst (λ (pairs : List (ℕ × ℕ)). IsMapOf c.args.levels pairs c.in-Ok.map) (c.deref.ensures.value ∙ c.in_ok-pairs.ensures updates stands) c.in-Ok.ensures.made
+    subst (λ (pairs : List (ℕ × ℕ)). IsMapOf c.args.levels pairs c.in-Ok.map)
+    (c.deref.ensures.value ∙ c.in_ok-pairs.ensures updates stands) c.in-Ok.ensures.made
 
 pub returns-in_err-pairs-clause-same : goal.returns-in_err-pairs-clause-same
 returns-in_err-pairs-clause-same c = λ updates. map-puts (map_after updates) (rises-after updates)
@@ -26,4 +27,5 @@ unreachable-requires c =
     let (updates, stands) = c.accepted.ensures.stands in
     let stall = c.of_sorted.ensures.unsorted_only c.in-Err-Unsorted.field-0-0 cc in
     no-stall (map_after updates) c.in-Err-Unsorted.field-0-0 (rises-after updates)
-    (subst (λ (pairs : List (ℕ × ℕ)). IsFirstStall pairs c.in-Err-Unsorted.field-0-0) (c.deref.ensures.value ∙ c.in_ok-pairs.ensures updates stands) stall)
+    (subst (λ (pairs : List (ℕ × ℕ)). IsFirstStall pairs c.in-Err-Unsorted.field-0-0)
+    (c.deref.ensures.value ∙ c.in_ok-pairs.ensures updates stands) stall)

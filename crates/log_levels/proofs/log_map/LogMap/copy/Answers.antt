@@ -6,13 +6,28 @@ use Rattle.log_levels.proofs.HeldLemmas.{length-levels_of, held-same}
 use Rattle.log_levels.proofs.log_map.LogMap.copy.Goals as goal
 
 count : (c : goal.In_ok-extend_from_slice) → length (levels_of c.loop-i.stored.items) ≡ length c.args.self.now.levels
-count c = omega (arith, length-levels_of c.loop-i.stored.items, c.loop-i.invariant.count, c.loop-i.auto.i-end, c.len-count.ensures, c.self.inside.stored.ok.0, length-levels_of c.self.inside.stored.items, ap (λ (held : Held). length held.levels) c.self.view_is)
+count c =
+    omega (
+      arith,
+      length-levels_of c.loop-i.stored.items,
+      c.loop-i.invariant.count,
+      c.loop-i.auto.i-end,
+      c.len-count.ensures,
+      c.self.inside.stored.ok.0,
+      length-levels_of c.self.inside.stored.items,
+      ap (λ (held : Held). length held.levels) c.self.view_is,
+    )
 
-same : (c : goal.In_ok-extend_from_slice) → held_of c.self.inside.accepted c.extend_from_slice.new.self.items c.loop-i.stored.items ≡ c.args.self.now
-same c = held-same c.args.self.now c.self.inside.accepted c.extend_from_slice.new.self.items (levels_of c.loop-i.stored.items)
+same : (c : goal.In_ok-extend_from_slice) →
+    held_of c.self.inside.accepted c.extend_from_slice.new.self.items c.loop-i.stored.items ≡ c.args.self.now
+same c = held-same c.args.self.now c.self.inside.accepted c.extend_from_slice.new.self.items
+    (levels_of c.loop-i.stored.items)
     (ap (λ (held : Held). held.accepted) c.self.view_is)
-    (c.in_ok-extend_from_slice.ensures.items ∙ ap (λ (list : List Entry). list ++ c.deref.result.now) c.in_ok-buffer.ensures.items ∙ c.deref.ensures.value ∙ ap (λ (held : Held). held.buffer) c.self.view_is)
-    (count c) (λ i inside. c.loop-i.invariant.same i (omega (arith, length-levels_of c.loop-i.stored.items, c.loop-i.invariant.count)))
+    (c.in_ok-extend_from_slice.ensures.items
+    ∙ ap (λ (list : List Entry). list ++ c.deref.result.now) c.in_ok-buffer.ensures.items
+    ∙ c.deref.ensures.value ∙ ap (λ (held : Held). held.buffer) c.self.view_is)
+    (count c) (λ i inside.
+    c.loop-i.invariant.same i (omega (arith, length-levels_of c.loop-i.stored.items, c.loop-i.invariant.count)))
 
 pub invariant_of-result : goal.invariant_of-result
 invariant_of-result c =

@@ -26,14 +26,23 @@ loop-key-init c = record {
 
 pub returns-then-key-high : goal.returns-then-key-high
 returns-then-key-high c = λ updates stands.
-    let past = count-past updates c.loop-key.from c.args.high c.in-Some.key c.in-Some.field-0-1 (c.in-Some.ensures.live (entries_of updates) stands) c.if-key-high.true in
+    let past = count-past updates c.loop-key.from c.args.high c.in-Some.key c.in-Some.field-0-1
+    (c.in-Some.ensures.live (entries_of updates) stands) c.if-key-high.true in
     omega (arith, c.loop-key.invariant.sum updates stands)
 
 pub overflow_add-count : goal.overflow_add-count
 overflow_add-count c =
     let (updates, stands) = c.accepted.ensures.stands in
-    let found = count-found updates c.loop-key.from c.args.high c.in-Some.key c.in-Some.field-0-1 (c.in-Some.ensures.live (entries_of updates) stands) c.if-key-high.false in
-    omega (arith, c.loop-key.invariant.sum updates stands, count-few updates c.args.low c.args.high, stands.accepted, c.accepted.ensures.count, c.accepted.type_inv)
+    let found = count-found updates c.loop-key.from c.args.high c.in-Some.key c.in-Some.field-0-1
+    (c.in-Some.ensures.live (entries_of updates) stands) c.if-key-high.false in
+    omega (
+      arith,
+      c.loop-key.invariant.sum updates stands,
+      count-few updates c.args.low c.args.high,
+      stands.accepted,
+      c.accepted.ensures.count,
+      c.accepted.type_inv,
+    )
 
 pub loop-key-preserved : goal.loop-key-preserved
 loop-key-preserved c =
@@ -42,7 +51,8 @@ loop-key-preserved c =
       at = subst (λ k. IsLeft c.args.self.now c.next_pair.new.walk (k + 1)) (sym same) c.in-Some.ensures.left;
       few = omega arith;
       sum = λ updates stands.
-          let found = count-found updates c.loop-key.from c.args.high c.in-Some.key c.in-Some.field-0-1 (c.in-Some.ensures.live (entries_of updates) stands) c.if-key-high.false in
+          let found = count-found updates c.loop-key.from c.args.high c.in-Some.key c.in-Some.field-0-1
+          (c.in-Some.ensures.live (entries_of updates) stands) c.if-key-high.false in
           let next = ap (λ k. count_between (map_after updates) (k + 1) c.args.high) same in
           omega (arith, c.loop-key.invariant.sum updates stands);
     }

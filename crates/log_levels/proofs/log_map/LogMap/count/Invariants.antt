@@ -9,7 +9,8 @@ abbrev pub invariant-loop-key : goal.invariant-loop-key
 invariant-loop-key l = record {
   at : IsLeft l.self l.walk l.from;
   few : l.from ≤ 2 ^ 64;
-  sum : (updates : List Update) → StandsFor l.self updates → count_between (map_after updates) l.low l.high ≡ l.count + count_between (map_after updates) l.from l.high;
+  sum : (updates : List Update) → StandsFor l.self updates →
+      count_between (map_after updates) l.low l.high ≡ l.count + count_between (map_after updates) l.from l.high;
 }
 
 abbrev pub decreases-loop-key : goal.decreases-loop-key

@@ -19,13 +19,18 @@ loop-key-init c = record {
       (λ key above below. bare (entries_of updates) key stands (c.behind-start.ensures.bare key above below)) in
       ap (λ (pairs : List (ℕ × ℕ)). map del_entry (keys_of pairs)) same
       ∙ ap (λ k. map del_entry (keys_between (map_after updates) k c.args.high)) (sym c.from-from.ensures)
-      ∙ ap (λ (list : List Entry). list ++ map del_entry (keys_between (map_after updates) c.from-from.result c.args.high)) (sym c.in_ok-deletions.ensures.items);
+      ∙ ap (λ (list : List Entry). list
+      ++ map del_entry (keys_between (map_after updates) c.from-from.result c.args.high))
+      (sym c.in_ok-deletions.ensures.items);
 }
 
 pub returns-then-key-high : goal.returns-then-key-high
 returns-then-key-high c = λ updates stands.
-    let past = pairs-past updates c.loop-key.from c.args.high c.in-Some.key c.in-Some.field-0-1 (c.in-Some.ensures.live (entries_of updates) stands) c.if-key-high.true in
-    sym (c.loop-key.invariant.list updates stands ∙ ap (λ (pairs : List (ℕ × ℕ)). c.loop-key.deletions.items ++ map del_entry (keys_of pairs)) past ∙ append-nil c.loop-key.deletions.items)
+    let past = pairs-past updates c.loop-key.from c.args.high c.in-Some.key c.in-Some.field-0-1
+    (c.in-Some.ensures.live (entries_of updates) stands) c.if-key-high.true in
+    sym (c.loop-key.invariant.list updates stands
+    ∙ ap (λ (pairs : List (ℕ × ℕ)). c.loop-key.deletions.items ++ map del_entry (keys_of pairs)) past
+    ∙ append-nil c.loop-key.deletions.items)
 
 pub loop-key-preserved : goal.loop-key-preserved
 loop-key-preserved c =
@@ -34,15 +39,20 @@ loop-key-preserved c =
       at = subst (λ k. IsLeft c.args.self.now c.next_pair.new.walk (k + 1)) (sym same) c.in-Some.ensures.left;
       few = omega arith;
       list = λ updates stands.
-          let found = pairs-found updates c.loop-key.from c.args.high c.in-Some.key c.in-Some.field-0-1 (c.in-Some.ensures.live (entries_of updates) stands) c.if-key-high.false in
+          let found = pairs-found updates c.loop-key.from c.args.high c.in-Some.key c.in-Some.field-0-1
+          (c.in-Some.ensures.live (entries_of updates) stands) c.if-key-high.false in
           let later = map del_entry (keys_between (map_after updates) (c.in-Some.key + 1) c.args.high) in
-          c.loop-key.invariant.list updates stands ∙ ap (λ (pairs : List (ℕ × ℕ)). c.loop-key.deletions.items ++ map del_entry (keys_of pairs)) found
+          c.loop-key.invariant.list updates stands
+          ∙ ap (λ (pairs : List (ℕ × ℕ)). c.loop-key.deletions.items ++ map del_entry (keys_of pairs)) found
           ∙ sym (append_assoc c.loop-key.deletions.items (del_entry c.in-Some.key ∷ []) later)
           ∙ ap (λ (list : List Entry). list ++ later) (sym c.in_ok-push.ensures.items)
-          ∙ ap (λ k. c.push.new.self.items ++ map del_entry (keys_between (map_after updates) (k + 1) c.args.high)) (sym same);
+          ∙ ap (λ k. c.push.new.self.items ++ map del_entry (keys_between (map_after updates) (k + 1) c.args.high))
+          (sym same);
     }
 
 pub returns : goal.returns
 returns c = λ updates stands.
     let none = pairs-none updates c.loop-key.from c.args.high (c.in_default.ensures.live (entries_of updates) stands) in
-    sym (c.loop-key.invariant.list updates stands ∙ ap (λ (pairs : List (ℕ × ℕ)). c.loop-key.deletions.items ++ map del_entry (keys_of pairs)) none ∙ append-nil c.loop-key.deletions.items)
+    sym (c.loop-key.invariant.list updates stands
+    ∙ ap (λ (pairs : List (ℕ × ℕ)). c.loop-key.deletions.items ++ map del_entry (keys_of pairs)) none
+    ∙ append-nil c.loop-key.deletions.items)

@@ -11,7 +11,8 @@ invariant-loop-key l = record {
   at : IsLeft l.self l.walk l.from;
   few : l.from ≤ 2 ^ 64;
   list : (updates : List Update) → StandsFor l.self updates →
-      map del_entry (keys_between (map_after updates) l.low l.high) ≡ l.deletions.items ++ map del_entry (keys_between (map_after updates) l.from l.high);
+      map del_entry (keys_between (map_after updates) l.low l.high) ≡ l.deletions.items
+      ++ map del_entry (keys_between (map_after updates) l.from l.high);
 }
 
 abbrev pub decreases-loop-key : goal.decreases-loop-key

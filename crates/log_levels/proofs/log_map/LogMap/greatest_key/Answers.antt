@@ -7,11 +7,19 @@ use Rattle.log_levels.proofs.log_map.LogMap.greatest_key.Goals as goal
 
 pub offset_bounds-places-i : goal.offset_bounds-places-i
 offset_bounds-places-i c =
-    omega (arith, bit-within c.loop-rest.rest (length c.args.self.now.levels) c.lowest_and_rest-i.result.0 c.loop-rest.invariant.within c.lowest_and_rest-i.ensures.set)
+    omega (
+      arith,
+      bit-within c.loop-rest.rest (length c.args.self.now.levels)
+          c.lowest_and_rest-i.result.0 c.loop-rest.invariant.within c.lowest_and_rest-i.ensures.set,
+    )
 
 pub bounds-places-i : goal.bounds-places-i
 bounds-places-i c =
-    omega (arith, bit-within c.loop-rest.rest (length c.args.self.now.levels) c.lowest_and_rest-i.result.0 c.loop-rest.invariant.within c.lowest_and_rest-i.ensures.set)
+    omega (
+      arith,
+      bit-within c.loop-rest.rest (length c.args.self.now.levels)
+          c.lowest_and_rest-i.result.0 c.loop-rest.invariant.within c.lowest_and_rest-i.ensures.set,
+    )
 
 pub loop-rest-preserved : goal.loop-rest-preserved
 loop-rest-preserved c = record {
@@ -22,9 +30,12 @@ loop-rest-preserved c = record {
   ];
   buffer = λ key below above. c.loop-rest.invariant.buffer key below (c.greater-greatest.ensures.one key above);
   levels = λ key i level below above inside clear is.
-      elim (bit-behind c.loop-rest.rest c.lowest_and_rest-i.result.0 i c.lowest_and_rest-i.ensures.lowest (ap (λ n. bit_at n i) (sym c.lowest_and_rest-i.ensures.rest) ∙ clear)) [
-        | inl earlier ↦ c.loop-rest.invariant.levels key i level below (c.greater-greatest.ensures.one key above) inside earlier is
-        | inr at ↦ c.key_in_level_to.ensures.greatest key level below (c.greater-greatest.ensures.other key above) (ap (level_of c.args.self.now) (sym at) ∙ is)
+      elim (bit-behind c.loop-rest.rest c.lowest_and_rest-i.result.0 i c.lowest_and_rest-i.ensures.lowest
+      (ap (λ n. bit_at n i) (sym c.lowest_and_rest-i.ensures.rest) ∙ clear)) [
+        | inl earlier ↦
+            c.loop-rest.invariant.levels key i level below (c.greater-greatest.ensures.one key above) inside earlier is
+        | inr at ↦ c.key_in_level_to.ensures.greatest key level below
+            (c.greater-greatest.ensures.other key above) (ap (level_of c.args.self.now) (sym at) ∙ is)
       ];
 }
 
@@ -32,5 +43,6 @@ pub returns-clause-greatest : goal.returns-clause-greatest
 returns-clause-greatest c = λ key below above. record {
   buffer = c.loop-rest.invariant.buffer key below above;
   levels = λ i level inside is.
-      c.loop-rest.invariant.levels key i level below above inside (ap (λ n. bit_at n i) c.loop-rest-test.false ∙ bit_at-zero i) is;
+      c.loop-rest.invariant.levels key i level below above inside
+      (ap (λ n. bit_at n i) c.loop-rest-test.false ∙ bit_at-zero i) is;
 }

@@ -11,7 +11,8 @@ invariant-loop-rest l = record {
   within : l.rest < 2 ^ length l.self.levels;
   within_bound : IfSome l.greatest (λ key. key ≤ l.bound);
   buffer : (key : ℕ) → key ≤ l.bound → IsAbove key l.greatest → last_at l.self.buffer key ≡ None;
-  levels : (key i : ℕ) (level : List Entry) → key ≤ l.bound → IsAbove key l.greatest → i < length l.self.levels → bit_at l.rest i ≡ 0 → level_of l.self i ≡ Some level → entry_at level key ≡ None;
+  levels : (key i : ℕ) (level : List Entry) → key ≤ l.bound → IsAbove key l.greatest →
+      i < length l.self.levels → bit_at l.rest i ≡ 0 → level_of l.self i ≡ Some level → entry_at level key ≡ None;
 }
 
 abbrev pub decreases-loop-rest : goal.decreases-loop-rest

@@ -8,5 +8,6 @@ use Rattle.log_levels.proofs.log_map.LogMap.merged_below.Given as goal
 abbrev pub invariant-loop-i : goal.invariant-loop-i
 invariant-loop-i g l = record {
   ascending : IsAscending l.merged.items;
-  lasts : (entries : List Entry) → IsCutOf l.self entries → IsMergedTo entries (length entries / 64) l.i l.new l.merged.items;
+  lasts : (entries : List Entry) →
+      IsCutOf l.self entries → IsMergedTo entries (length entries / 64) l.i l.new l.merged.items;
 }

@@ -8,10 +8,13 @@ use Rattle.log_levels.proofs.log_map.LogMap.new.Goals as goal
 
 pub loop-level-preserved : goal.loop-level-preserved
 loop-level-preserved c = record {
-  count = omega (arith, c.push.new.self.ok.0, c.loop-level.stored.ok.0, c.in_ok-push.ensures.len, c.loop-level.invariant.count);
+  count = omega
+      (arith, c.push.new.self.ok.0, c.loop-level.stored.ok.0, c.in_ok-push.ensures.len, c.loop-level.invariant.count);
   none = λ i below. elim (cases_lt i c.loop-level._level) [
-    | inl earlier ↦ levels_of-before c.loop-level.stored.items c.push.new.self.items None i c.in_ok-push.ensures.items (omega (arith, c.loop-level.invariant.count)) ∙ c.loop-level.invariant.none i earlier
-    | inr later ↦ let same : c.loop-level._level ≡ i = omega arith in levels_of-last c.loop-level.stored.items c.push.new.self.items None i c.in_ok-push.ensures.items (c.loop-level.invariant.count ∙ same)
+    | inl earlier ↦ levels_of-before c.loop-level.stored.items c.push.new.self.items None i c.in_ok-push.ensures.items
+        (omega (arith, c.loop-level.invariant.count)) ∙ c.loop-level.invariant.none i earlier
+    | inr later ↦ let same : c.loop-level._level ≡ i = omega arith in levels_of-last c.loop-level.stored.items
+        c.push.new.self.items None i c.in_ok-push.ensures.items (c.loop-level.invariant.count ∙ same)
   ];
 }
 
@@ -19,7 +22,11 @@ pub invariant_of-result : goal.invariant_of-result
 invariant_of-result c =
     let count = length-levels_of c.loop-level.stored.items in
     record {
-      cut = ([], empty-cut (held_of 0 c.in_ok-buffer.buffer.items c.loop-level.stored.items) refl c.in_ok-buffer.ensures.items (λ i inside. c.loop-level.invariant.none i (omega (arith, count, c.loop-level.invariant.count))));
+      cut = (
+        [],
+        empty-cut (held_of 0 c.in_ok-buffer.buffer.items c.loop-level.stored.items) refl c.in_ok-buffer.ensures.items
+            (λ i inside. c.loop-level.invariant.none i (omega (arith, count, c.loop-level.invariant.count))),
+      );
       roomy = omega (arith, c.in_ok-buffer.ensures.exact);
       some = omega (arith, count, c.loop-level.invariant.count, c.requires.some, c.loop-level.auto._level-end);
       few = omega (arith, count, c.loop-level.invariant.count, c.requires.few, c.loop-level.auto._level-end);
@@ -29,5 +36,7 @@ invariant_of-result c =
 pub returns-clause-empty : goal.returns-clause-empty
 returns-clause-empty c =
     let count = length-levels_of c.loop-level.stored.items in
-    let here = empty-cut (held_of 0 c.in_ok-buffer.buffer.items c.loop-level.stored.items) refl c.in_ok-buffer.ensures.items (λ i inside. c.loop-level.invariant.none i (omega (arith, count, c.loop-level.invariant.count))) in
+    let here =
+    empty-cut (held_of 0 c.in_ok-buffer.buffer.items c.loop-level.stored.items) refl c.in_ok-buffer.ensures.items
+    (λ i inside. c.loop-level.invariant.none i (omega (arith, count, c.loop-level.invariant.count))) in
     subst (IsCutOf (held_of 0 c.in_ok-buffer.buffer.items c.loop-level.stored.items)) (sym entries_of-none) here

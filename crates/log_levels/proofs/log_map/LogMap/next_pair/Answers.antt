@@ -5,12 +5,16 @@ use Rattle.log_levels.proofs.log_map.LogMap.next_pair.Goals as goal
 
 pub returns-in-Some-value-clause-live : goal.returns-in-Some-value-clause-live
 returns-in-Some-value-clause-live c = λ entries cut.
-    next-live c.args.self.now entries c.args.from c.loop-entry.low c.in-Some.entry.key c.in-Some-value.value cut c.loop-entry.invariant.from (omega (arith, c.if-from-low.false))
-    (λ other above below. c.loop-entry.invariant.none entries other cut above below) c.in-Some.ensures.least (sym c.in-Some-value.is ∙ sym (c.in-Some.ensures.last entries (omega (arith, c.if-from-low.false)) cut))
+    next-live c.args.self.now entries c.args.from c.loop-entry.low
+    c.in-Some.entry.key c.in-Some-value.value cut c.loop-entry.invariant.from (omega (arith, c.if-from-low.false))
+    (λ other above below. c.loop-entry.invariant.none entries other cut above below) c.in-Some.ensures.least
+    (sym c.in-Some-value.is ∙ sym (c.in-Some.ensures.last entries (omega (arith, c.if-from-low.false)) cut))
 
 pub returns-clause-live : goal.returns-clause-live
 returns-clause-live c = λ entries cut.
-    none-left c.args.self.now entries c.args.from c.loop-entry.low cut (λ other above below. c.loop-entry.invariant.none entries other cut above below) (c.in_default.ensures.none refl)
+    none-left c.args.self.now entries c.args.from c.loop-entry.low cut
+    (λ other above below. c.loop-entry.invariant.none entries other cut above below)
+    (c.in_default.ensures.none refl)
 
 pub loop-entry-preserved : goal.loop-entry-preserved
 loop-entry-preserved c =
@@ -21,7 +25,8 @@ loop-entry-preserved c =
       left = subst (IsLeft c.args.self.now c.take_least.new.walk) next c.in-Some.ensures.left;
       from = omega (arith, c.loop-entry.invariant.from);
       few = omega arith;
-      none = λ entries key cut from_key less. none-past c.args.self.now entries c.args.from c.loop-entry.low c.in-Some.entry.key cut
+      none = λ entries key cut from_key less.
+          none-past c.args.self.now entries c.args.from c.loop-entry.low c.in-Some.entry.key cut
           (λ other above' below. c.loop-entry.invariant.none entries other cut above' below) c.in-Some.ensures.least
           (sym (c.in-Some.ensures.last entries above cut ∙ c.in_default-value.is)) key from_key (omega arith);
     }

@@ -10,7 +10,8 @@ invariant-loop-entry l = record {
   left : IsLeft l.self l.walk l.low;
   from : l.from ≤ l.low;
   few : l.low ≤ 2 ^ 64;
-  none : (entries : List Entry) (key : ℕ) → IsCutOf l.self entries → l.from ≤ key → key < l.low → value_of (last_at entries key) ≡ None;
+  none : (entries : List Entry) (key : ℕ) →
+      IsCutOf l.self entries → l.from ≤ key → key < l.low → value_of (last_at entries key) ≡ None;
 }
 
 abbrev pub decreases-loop-entry : goal.decreases-loop-entry

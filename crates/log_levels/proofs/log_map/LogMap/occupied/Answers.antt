@@ -16,10 +16,12 @@ pub returns-clause-free : goal.returns-clause-free
 returns-clause-free c = λ i inside clear.
     let (entries, cut) = c.self.invariant.cut in
     let held : IsCutOf c.args.self.now entries = subst (λ held. IsCutOf held entries) c.self.view_is cut in
-    level-free c.args.self.now entries i held inside (ap (λ (map : Held). bit_at (map.accepted / 64) i) (sym c.self.view_is) ∙ clear)
+    level-free c.args.self.now entries i held inside
+    (ap (λ (map : Held). bit_at (map.accepted / 64) i) (sym c.self.view_is) ∙ clear)
 
 pub returns-clause-taken : goal.returns-clause-taken
 returns-clause-taken c = λ i set.
     let (entries, cut) = c.self.invariant.cut in
     let held : IsCutOf c.args.self.now entries = subst (λ held. IsCutOf held entries) c.self.view_is cut in
-    level-taken c.args.self.now entries i held (ap (λ (map : Held). bit_at (map.accepted / 64) i) (sym c.self.view_is) ∙ set)
+    level-taken c.args.self.now entries i held
+    (ap (λ (map : Held). bit_at (map.accepted / 64) i) (sym c.self.view_is) ∙ set)

@@ -16,9 +16,11 @@ loop-key-preserved c =
       few = (let typed = rw c.in-Some.is at c.next_pair.type_inv in omega (arith, typed));
       list = λ updates high stands none.
           let live = c.in-Some.ensures.live (entries_of updates) stands in
-          let found = pairs-found updates c.loop-key.from high c.in-Some.key c.in-Some.value live (live-within updates c.loop-key.from high c.in-Some.key c.in-Some.value live none) in
+          let found = pairs-found updates c.loop-key.from high c.in-Some.key c.in-Some.value live
+          (live-within updates c.loop-key.from high c.in-Some.key c.in-Some.value live none) in
           let later = pairs_between (map_after updates) (c.in-Some.key + 1) high in
-          c.loop-key.invariant.list updates high stands none ∙ ap (λ (pairs : List (ℕ × ℕ)). c.loop-key.pairs.items ++ pairs) found
+          c.loop-key.invariant.list updates high stands none
+          ∙ ap (λ (pairs : List (ℕ × ℕ)). c.loop-key.pairs.items ++ pairs) found
           ∙ sym (append_assoc c.loop-key.pairs.items ((c.in-Some.key, c.in-Some.value) ∷ []) later)
           ∙ ap (λ (list : List (ℕ × ℕ)). list ++ later) (sym c.in_ok-push.ensures.items)
           ∙ ap (λ k. c.push.new.self.items ++ pairs_between (map_after updates) (k + 1) high) (sym same);
@@ -28,6 +30,9 @@ pub returns : goal.returns
 returns c = λ updates stands.
     let from = c.loop-key.from in
     let live = c.in_default.ensures.live (entries_of updates) stands in
-    let none : (key : ℕ) → from < key → value_at (map_after updates) key ≡ None = λ key above. value-after updates key ∙ live key (omega arith) in
-    sym (append-nil c.loop-key.pairs.items) ∙ ap (λ (pairs : List (ℕ × ℕ)). c.loop-key.pairs.items ++ pairs) (sym (pairs-none updates from from live))
-    ∙ sym (c.loop-key.invariant.list updates from stands none) ∙ pairs-all (map_after updates) from (rises-after updates) none
+    let none : (key : ℕ) → from < key → value_at (map_after updates) key ≡ None = λ key above. value-after updates key
+    ∙ live key (omega arith) in
+    sym (append-nil c.loop-key.pairs.items)
+    ∙ ap (λ (pairs : List (ℕ × ℕ)). c.loop-key.pairs.items ++ pairs) (sym (pairs-none updates from from live))
+    ∙ sym (c.loop-key.invariant.list updates from stands none)
+    ∙ pairs-all (map_after updates) from (rises-after updates) none

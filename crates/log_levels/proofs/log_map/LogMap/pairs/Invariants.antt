@@ -9,7 +9,8 @@ abbrev pub invariant-loop-key : goal.invariant-loop-key
 invariant-loop-key l = record {
   at : IsLeft l.self l.walk l.from;
   few : l.from ≤ 2 ^ 64;
-  list : (updates : List Update) (high : ℕ) → StandsFor l.self updates → ((key : ℕ) → high < key → value_at (map_after updates) key ≡ None)
+  list : (updates : List Update) (high : ℕ) →
+      StandsFor l.self updates → ((key : ℕ) → high < key → value_at (map_after updates) key ≡ None)
       → pairs_between (map_after updates) 0 high ≡ l.pairs.items ++ pairs_between (map_after updates) l.from high;
 }
 

@@ -11,7 +11,8 @@ abbrev pub invariant-loop-rest : goal.invariant-loop-rest
 invariant-loop-rest l = record {
   within : l.rest < 2 ^ length l.self.levels;
   room : length l.places ≡ 26;
-  done : (i : ℕ) (level : List Entry) → i < length l.self.levels → bit_at l.rest i ≡ 0 → level_of l.self i ≡ Some level → slice_index l.places i ≡ lb (level_keys level) l.key;
+  done : (i : ℕ) (level : List Entry) → i < length l.self.levels →
+      bit_at l.rest i ≡ 0 → level_of l.self i ≡ Some level → slice_index l.places i ≡ lb (level_keys level) l.key;
 }
 
 abbrev pub decreases-loop-rest : goal.decreases-loop-rest

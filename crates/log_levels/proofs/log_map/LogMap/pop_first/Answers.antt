@@ -16,7 +16,8 @@ leave_bare-requires c = λ entries key cut above at_most.
     let taken = updates ++ Del c.in-Some.key ∷ [] in
     let now : StandsFor c.del.new.self taken = c.in-Ok.ensures.applied updates stands in
     one-value c.del.new.self entries (entries_of taken) key cut now
-    ∙ value-none taken key (value-taken updates c.in-Some.key c.in-Some.value key (c.in-Some.ensures updates stands) at_most)
+    ∙ value-none taken key
+    (value-taken updates c.in-Some.key c.in-Some.value key (c.in-Some.ensures updates stands) at_most)
 
 pub returns-in-Ok-clause-rest : goal.returns-in-Ok-clause-rest
 returns-in-Ok-clause-rest c = rest-first

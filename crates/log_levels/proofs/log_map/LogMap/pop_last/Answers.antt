@@ -12,4 +12,5 @@ leave_bare-requires c = λ entries key cut at_least within.
     let taken = updates ++ Del c.in-Some.key ∷ [] in
     let now : StandsFor c.del.new.self taken = c.in-Ok.ensures.applied updates stands in
     one-value c.del.new.self entries (entries_of taken) key cut now
-    ∙ value-none taken key (value-taken-last updates c.in-Some.key c.in-Some.value key (c.in-Some.ensures updates stands) at_least within)
+    ∙ value-none taken key
+    (value-taken-last updates c.in-Some.key c.in-Some.value key (c.in-Some.ensures updates stands) at_least within)

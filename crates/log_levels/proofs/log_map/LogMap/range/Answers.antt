@@ -20,7 +20,8 @@ loop-count-init c = record {
       let same = range-bare updates c.args.from c.behind-start.result c.args.to c.behind-start.ensures.above
       (λ key above below. bare (entries_of updates) key stands (c.behind-start.ensures.bare key above below)) in
       subst (λ left. IsWritten pairs left c.args.pairs.now c.args.pairs.now 0)
-      (same ∙ ap (λ k. pairs_between (map_after updates) k c.args.to) (sym c.from-low.ensures)) (written-none pairs c.args.pairs.now);
+      (same ∙ ap (λ k. pairs_between (map_after updates) k c.args.to) (sym c.from-low.ensures))
+      (written-none pairs c.args.pairs.now);
 }
 
 pub returns-in_default-clause-count : goal.returns-in_default-clause-count
@@ -30,7 +31,8 @@ returns-in_default-clause-count c = λ updates stands.
     let none = pairs-none updates c.loop-count.low c.args.to (c.in_default.ensures.live (entries_of updates) stands) in
     omega (
       arith,
-      written-out pairs left c.loop-count.pairs c.args.pairs.now c.loop-count.count (c.loop-count.invariant.written updates stands) none,
+      written-out pairs left c.loop-count.pairs c.args.pairs.now c.loop-count.count
+          (c.loop-count.invariant.written updates stands) none,
       count-pairs (map_after updates) c.args.from c.args.to,
     )
 
@@ -38,10 +40,12 @@ pub returns-then-key-to-clause-count : goal.returns-then-key-to-clause-count
 returns-then-key-to-clause-count c = λ updates stands.
     let pairs = pairs_between (map_after updates) c.args.from c.args.to in
     let left = pairs_between (map_after updates) c.loop-count.low c.args.to in
-    let none = pairs-past updates c.loop-count.low c.args.to c.in-Some.key c.in-Some.value (c.in-Some.ensures.live (entries_of updates) stands) c.if-key-to.true in
+    let none = pairs-past updates c.loop-count.low c.args.to c.in-Some.key c.in-Some.value
+    (c.in-Some.ensures.live (entries_of updates) stands) c.if-key-to.true in
     omega (
       arith,
-      written-out pairs left c.loop-count.pairs c.args.pairs.now c.loop-count.count (c.loop-count.invariant.written updates stands) none,
+      written-out pairs left c.loop-count.pairs c.args.pairs.now c.loop-count.count
+          (c.loop-count.invariant.written updates stands) none,
       count-pairs (map_after updates) c.args.from c.args.to,
     )
 
@@ -56,9 +60,14 @@ loop-count-preserved c =
           let pairs = pairs_between (map_after updates) c.args.from c.args.to in
           let left = pairs_between (map_after updates) c.loop-count.low c.args.to in
           let later = pairs_between (map_after updates) (c.in-Some.key + 1) c.args.to in
-          let next = pairs-found updates c.loop-count.low c.args.to c.in-Some.key c.in-Some.value (c.in-Some.ensures.live (entries_of updates) stands) c.if-key-to.false in
-          let more = written-more pairs left later c.loop-count.pairs c.args.pairs.now c.loop-count.count (c.in-Some.key, c.in-Some.value) (c.loop-count.invariant.written updates stands) (omega arith) next in
-          subst (λ k. IsWritten pairs (pairs_between (map_after updates) (k + 1) c.args.to) (slice_set c.loop-count.pairs c.loop-count.count (c.in-Some.key, c.in-Some.value)) c.args.pairs.now (c.loop-count.count + 1)) (sym same) more;
+          let next = pairs-found updates c.loop-count.low c.args.to c.in-Some.key c.in-Some.value
+          (c.in-Some.ensures.live (entries_of updates) stands) c.if-key-to.false in
+          let more = written-more pairs left later c.loop-count.pairs c.args.pairs.now c.loop-count.count
+          (c.in-Some.key, c.in-Some.value) (c.loop-count.invariant.written updates stands) (omega arith) next in
+          subst (λ k. IsWritten pairs (pairs_between (map_after updates) (k + 1) c.args.to)
+          (slice_set c.loop-count.pairs c.loop-count.count (c.in-Some.key, c.in-Some.value)) c.args.pairs.now
+          (c.loop-count.count + 1))
+          (sym same) more;
     }
 
 pub returns-clause-count : goal.returns-clause-count
@@ -67,6 +76,7 @@ returns-clause-count c = λ updates stands.
     let left = pairs_between (map_after updates) c.loop-count.low c.args.to in
     omega (
       arith,
-      written-full pairs left c.loop-count.pairs c.args.pairs.now c.loop-count.count (c.loop-count.invariant.written updates stands) (omega arith),
+      written-full pairs left c.loop-count.pairs c.args.pairs.now c.loop-count.count
+          (c.loop-count.invariant.written updates stands) (omega arith),
       count-pairs (map_after updates) c.args.from c.args.to,
     )

@@ -11,7 +11,9 @@ invariant-loop-count l = record {
   at : IsLeft l.self l.walk l.low;
   few : l.low ≤ 2 ^ 64;
   within : l.count ≤ length l.pairs;
-  written : (updates : List Update) → StandsFor l.self updates → IsWritten (pairs_between (map_after updates) l.from l.to) (pairs_between (map_after updates) l.low l.to) l.pairs l.initial.pairs l.count;
+  written : (updates : List Update) →
+      StandsFor l.self updates → IsWritten (pairs_between (map_after updates) l.from l.to)
+      (pairs_between (map_after updates) l.low l.to) l.pairs l.initial.pairs l.count;
 }
 
 abbrev pub decreases-loop-count : goal.decreases-loop-count

@@ -14,9 +14,18 @@ use Rattle.log_levels.proofs.log_map.LogMap.sweep_by.Goals as goal
 pub returns-then-count-capacity-clause-swept : goal.returns-then-count-capacity-clause-swept
 returns-then-count-capacity-clause-swept g c = record {
   applied = tt;
-  refused = refuses-full (StandsFor c.args.self.now) c.args.self.now.accepted (capacity_of c.args.self.now) c.accepted-accepted.result (Sweep c.args.low c.args.high ∷ []) c.accepted-accepted.ensures.count
+  refused = refuses-full (StandsFor c.args.self.now) c.args.self.now.accepted (capacity_of c.args.self.now)
+      c.accepted-accepted.result (Sweep c.args.low c.args.high ∷ []) c.accepted-accepted.ensures.count
       (λ updates stands.
-      omega (arith, length-sweep updates c.args.low c.args.high, stands.accepted, c.accepted-accepted.ensures.count, c.count-count.ensures updates stands, c.capacity.ensures, c.if-count-capacity.true))
+      omega (
+        arith,
+        length-sweep updates c.args.low c.args.high,
+        stands.accepted,
+        c.accepted-accepted.ensures.count,
+        c.count-count.ensures updates stands,
+        c.capacity.ensures,
+        c.if-count-capacity.true,
+      ))
       (λ plain. absurd (sweep-plain c.args.low c.args.high plain));
   unchanged = refl;
   levels = refl;
@@ -24,11 +33,21 @@ returns-then-count-capacity-clause-swept g c = record {
 
 pub returns-in_err-deletions-clause-swept : goal.returns-in_err-deletions-clause-swept
 returns-in_err-deletions-clause-swept g c =
-    applied-memory c.args.self.now c.args.self.now (Sweep c.args.low c.args.high ∷ []) c.from_residual.result c.from_residual.ensures.1 (λ plain. absurd (sweep-plain c.args.low c.args.high plain)) refl
+    applied-memory c.args.self.now c.args.self.now (Sweep c.args.low c.args.high ∷ []) c.from_residual.result
+    c.from_residual.ensures.1 (λ plain. absurd (sweep-plain c.args.low c.args.high plain)) refl
 
 pub returns-in_err-deletions-clause-full : goal.returns-in_err-deletions-clause-full
 returns-in_err-deletions-clause-full g c = λ updates stands over.
-    absurd (omega (arith, length-sweep updates c.args.low c.args.high, stands.accepted, c.accepted-accepted.ensures.count, c.accepted-accepted.ensures.within, c.count-count.ensures updates stands, c.capacity.ensures, c.if-count-capacity.false))
+    absurd (omega (
+      arith,
+      length-sweep updates c.args.low c.args.high,
+      stands.accepted,
+      c.accepted-accepted.ensures.count,
+      c.accepted-accepted.ensures.within,
+      c.count-count.ensures updates stands,
+      c.capacity.ensures,
+      c.if-count-capacity.false,
+    ))
 
 pub append-requires : goal.append-requires
 append-requires g c =
@@ -53,11 +72,21 @@ append-requires g c =
 
 pub returns-in_err-append-clause-full : goal.returns-in_err-append-clause-full
 returns-in_err-append-clause-full g c = λ updates stands over.
-    absurd (omega (arith, length-sweep updates c.args.low c.args.high, stands.accepted, c.accepted-accepted.ensures.count, c.accepted-accepted.ensures.within, c.count-count.ensures updates stands, c.capacity.ensures, c.if-count-capacity.false))
+    absurd (omega (
+      arith,
+      length-sweep updates c.args.low c.args.high,
+      stands.accepted,
+      c.accepted-accepted.ensures.count,
+      c.accepted-accepted.ensures.within,
+      c.count-count.ensures updates stands,
+      c.capacity.ensures,
+      c.if-count-capacity.false,
+    ))
 
 pub returns-in_err-append-clause-swept : goal.returns-in_err-append-clause-swept
 returns-in_err-append-clause-swept g c =
-    applied-memory c.args.self.now c.append.new.self (Sweep c.args.low c.args.high ∷ []) c.from_residual-in_err-append.result c.from_residual-in_err-append.ensures.1
+    applied-memory c.args.self.now c.append.new.self
+    (Sweep c.args.low c.args.high ∷ []) c.from_residual-in_err-append.result c.from_residual-in_err-append.ensures.1
     (λ plain. absurd (sweep-plain c.args.low c.args.high plain)) c.in_err-append.ensures.unchanged
 
 pub leave_bare-requires : goal.leave_bare-requires
@@ -66,20 +95,35 @@ leave_bare-requires g c = λ entries key cut above below.
     let swept = updates ++ Sweep c.args.low c.args.high ∷ [] in
     let now : StandsFor c.append.new.self swept =
     subst (IsCutOf c.append.new.self)
-    (ap (λ (list : List Entry). entries_of updates ++ list) (c.deref.ensures.value ∙ c.in_ok-deletions.ensures updates stands) ∙ sym (entries_of-sweep updates c.args.low c.args.high))
+    (ap (λ (list : List Entry). entries_of updates ++ list)
+    (c.deref.ensures.value ∙ c.in_ok-deletions.ensures updates stands)
+    ∙ sym (entries_of-sweep updates c.args.low c.args.high))
     (c.in_ok-append.ensures.cut (entries_of updates) stands) in
-    one-value c.append.new.self entries (entries_of swept) key cut now ∙ value-none swept key (value-swept updates c.args.low c.args.high key above below)
+    one-value c.append.new.self entries (entries_of swept) key cut now
+    ∙ value-none swept key (value-swept updates c.args.low c.args.high key above below)
 
 pub returns-clause-swept : goal.returns-clause-swept
 returns-clause-swept g c = record {
   applied = λ updates stands.
       subst (λ (now : Held). StandsFor now (updates ++ Sweep c.args.low c.args.high ∷ [])) (sym c.leave_bare.ensures)
       (subst (IsCutOf c.append.new.self)
-      (ap (λ (list : List Entry). entries_of updates ++ list) (c.deref.ensures.value ∙ c.in_ok-deletions.ensures updates stands) ∙ sym (entries_of-sweep updates c.args.low c.args.high))
+      (ap (λ (list : List Entry). entries_of updates ++ list)
+      (c.deref.ensures.value ∙ c.in_ok-deletions.ensures updates stands)
+      ∙ sym (entries_of-sweep updates c.args.low c.args.high))
       (c.in_ok-append.ensures.cut (entries_of updates) stands));
-  refused = refuses-none (StandsFor c.args.self.now) c.args.self.now.accepted (capacity_of c.args.self.now) (Sweep c.args.low c.args.high ∷ []) c.count-count.result
+  refused = refuses-none (StandsFor c.args.self.now) c.args.self.now.accepted
+      (capacity_of c.args.self.now) (Sweep c.args.low c.args.high ∷ []) c.count-count.result
       (λ updates stands.
-      omega (arith, length-sweep updates c.args.low c.args.high, stands.accepted, c.accepted-accepted.ensures.count, c.accepted-accepted.ensures.within, c.count-count.ensures updates stands, c.capacity.ensures, c.if-count-capacity.false))
+      omega (
+        arith,
+        length-sweep updates c.args.low c.args.high,
+        stands.accepted,
+        c.accepted-accepted.ensures.count,
+        c.accepted-accepted.ensures.within,
+        c.count-count.ensures updates stands,
+        c.capacity.ensures,
+        c.if-count-capacity.false,
+      ))
       (λ plain. absurd (sweep-plain c.args.low c.args.high plain));
   unchanged = tt;
   levels = ap (λ (held : Held). length held.levels) c.leave_bare.ensures ∙ c.append.ensures.levels;
@@ -87,4 +131,13 @@ returns-clause-swept g c = record {
 
 pub returns-clause-full : goal.returns-clause-full
 returns-clause-full g c = λ updates stands over.
-    absurd (omega (arith, length-sweep updates c.args.low c.args.high, stands.accepted, c.accepted-accepted.ensures.count, c.accepted-accepted.ensures.within, c.count-count.ensures updates stands, c.capacity.ensures, c.if-count-capacity.false))
+    absurd (omega (
+      arith,
+      length-sweep updates c.args.low c.args.high,
+      stands.accepted,
+      c.accepted-accepted.ensures.count,
+      c.accepted-accepted.ensures.within,
+      c.count-count.ensures updates stands,
+      c.capacity.ensures,
+      c.if-count-capacity.false,
+    ))

@@ -8,4 +8,5 @@ use Rattle.map_level.proofs.level.Level.place.Goals as goal
 
 pub position_near-requires-2-clause-never_falls : goal.position_near-requires-2-clause-never_falls
 position_near-requires-2-clause-never_falls c =
-    subst (λ (l : List Entry). IsNonDecreasing (level_keys l)) (sym c.entries-entries.ensures.entries) (keys-never_fall c.args.self.now c.entries-entries.ensures.ascending)
+    subst (λ (l : List Entry). IsNonDecreasing (level_keys l))
+    (sym c.entries-entries.ensures.entries) (keys-never_fall c.args.self.now c.entries-entries.ensures.ascending)

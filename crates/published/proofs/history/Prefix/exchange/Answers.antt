@@ -15,16 +15,20 @@ compare_exchange-found-requires c =
       pen.0 ∙ (book ∙ sym (ap (λ w. w.book) h)),
       offer.0,
       rw (ap (λ w. w.key) h, pen.1, offer.1, offer.3)
-          (adds_moves c.self.inside.seen.log c.args.batch.now.items c.self.inside.updates (c.self.inside.updates + c.len.result) (sym c.self.invariant.0)
-          (omega (arith, c.len.ensures, c.args.batch.now.ok.0)) (omega (arith, c.requires.some, c.args.batch.now.ok.0))),
+          (adds_moves c.self.inside.seen.log c.args.batch.now.items c.self.inside.updates
+          (c.self.inside.updates + c.len.result) (sym c.self.invariant.0)
+          (omega (arith, c.len.ensures, c.args.batch.now.ok.0))
+          (omega (arith, c.requires.some, c.args.batch.now.ok.0))),
     )
 
 pub invariant_of-self : goal.invariant_of-self
 invariant_of-self c =
     let step = c.compare_exchange-found in
-    let told = adds_counts c.self.inside.seen.log step.new.seen.log c.args.batch.now.items c.self.inside.updates step.result (sym c.self.invariant.0)
+    let told = adds_counts c.self.inside.seen.log
+    step.new.seen.log c.args.batch.now.items c.self.inside.updates step.result (sym c.self.invariant.0)
     (step.result == c.self.inside.updates) refl (rw c.plain-offer.ensures.1 at step.ensures.7) in
     let count : c.if-found-before.self ≡ count_of step.new.seen.log = elim c.if-found-before.branch [
-      | then-found-before w ↦ omega (arith, w.self-is, told.0 w.if-found-before.true, c.len.ensures, c.args.batch.now.ok.0)
+      | then-found-before w ↦
+          omega (arith, w.self-is, told.0 w.if-found-before.true, c.len.ensures, c.args.batch.now.ok.0)
       | else-found-before w ↦ omega (arith, w.self-is, told.1 w.if-found-before.false)
     ] in (count, told.2)

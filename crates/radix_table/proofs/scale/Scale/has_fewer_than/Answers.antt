@@ -11,4 +11,10 @@ returns-else-is_empty c = λ less k inside.
     let last = length xs - 1 in
     let up = Rises-scale scale c.requires.scale in
     let below = ltb-true c.step.result c.args.most less in
-    omega (arith, below, c.step.ensures, c.requires.most, up.rises (slice_index xs k) (slice_index xs last) (c.requires.order k last 0 (omega arith) (omega arith)))
+    omega (
+      arith,
+      below,
+      c.step.ensures,
+      c.requires.most,
+      up.rises (slice_index xs k) (slice_index xs last) (c.requires.order k last 0 (omega arith) (omega arith)),
+    )

@@ -11,6 +11,7 @@ pub returns-then-highest-self-clause-between : goal.returns-then-highest-self-cl
 returns-then-highest-self-clause-between g c =
     let p = points_in c.args.points in
     let ascends = IsAscending-points_in c.args.points in
-    OnTrue_from (nat_lt c.args.self.now.bottom_height c.height-lowest.result) (IsBetween p c.args.from c.args.to c.args.self.now)
+    OnTrue_from (nat_lt c.args.self.now.bottom_height c.height-lowest.result)
+    (IsBetween p c.args.from c.args.to c.args.self.now)
     (λ lower. let above : c.args.self.now.bottom_height < c.height-lowest.result = omega (arith, ltb-true) in
     IsBetween-from_ends p c.args.from c.args.to c.args.self.now ascends (omega arith) (omega arith) (omega arith))

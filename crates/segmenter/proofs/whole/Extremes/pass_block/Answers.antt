@@ -7,7 +7,8 @@ loop-at-preserved g c =
     record {
       from_first = omega arith;
       within = omega arith;
-      so_far = λ s e start end h. c.if-not-pass_part.ensures.more s e (omega arith) (omega arith) (so_far.so_far s e start end h);
+      so_far = λ s e start end h.
+          c.if-not-pass_part.ensures.more s e (omega arith) (omega arith) (so_far.so_far s e start end h);
       line = c.if-not-pass_part.ensures.line ∙ so_far.line;
       cost = omega arith;
     }

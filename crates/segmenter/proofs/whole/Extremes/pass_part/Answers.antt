@@ -5,7 +5,8 @@ pub loop-place-preserved : goal.loop-place-preserved
 loop-place-preserved g c =
     let so_far = c.loop-place.invariant in
     record {
-      so_far = λ s e start end h. c.look_at.ensures.more s e (omega arith) (omega arith) (so_far.so_far s e start end h);
+      so_far =
+          λ s e start end h. c.look_at.ensures.more s e (omega arith) (omega arith) (so_far.so_far s e start end h);
       line = c.look_at.ensures.line ∙ so_far.line;
       left = omega arith;
       cost = omega arith;

@@ -8,4 +8,9 @@ push_digits-requires c = omega (arith, length-decimal-64 c.args.number (omega ar
 pub returns-clause-room : goal.returns-clause-room
 returns-clause-room c =
     let number = c.args.number in
-    omega (arith, length-decimal-64 number (omega arith), ap length c.push_digits.ensures, length-append c.args.self.now (32 ∷ decimal number))
+    omega (
+      arith,
+      length-decimal-64 number (omega arith),
+      ap length c.push_digits.ensures,
+      length-append c.args.self.now (32 ∷ decimal number),
+    )
