@@ -18,7 +18,7 @@ use Rattle.exact_cross.specs.Checked.{IsInRange}
 use Rattle.exact_cross.proofs.CallerLemmas.{slice_index-places, slice_index-rises, IsNonDecreasing-from_neighbours}
 use Rattle.window_search.specs.Searches.{lb, IsPredecessor}
 use Rattle.window_search.specs.Windows.{IsWindow, IsLineOf, IsLastAtMost, IsClose, IsNext}
-use Rattle.window_search.proofs.CallerLemmas.{predecessor_exists, lb-predecessor}
+use Rattle.window_search.proofs.CallerLemmas.{lb-is, predecessor_exists, lb-predecessor}
 use Rattle.piece_join.proofs.RelaxedLemmas.{runs-from_laid}
 use Rattle.key_points.specs.KeyPoints.{xs_of}
 use Rattle.exact_cross.specs.IndexLevels.{level_at, eps_at}
@@ -31,6 +31,12 @@ use Rattle.levels.proofs.LevelLemmas.{xs_at-length, AscendsAt, ascends_at, heigh
 
 pub IsNonDecreasing-from_rising : (xs : List ℕ) → IsStrictlyIncreasing xs → IsNonDecreasing xs
 IsNonDecreasing-from_rising xs rises = IsNonDecreasing-from_neighbours xs (λ k inside. omega (arith, rises k inside))
+
+-- where no key is below the question, its position is 0
+pub none_below : (keys : List ℕ) (q : ℕ) → IsNonDecreasing keys → (0 < length keys → q ≤ slice_index keys 0) → 0 ≡ lb keys q
+none_below keys q order first =
+    sym (lb-is keys q 0 (omega arith)
+    (λ k less. absurd (omega arith)) (λ k low inside. omega (arith, first (omega arith), order 0 k 0 low inside)))
 
 -- what a read of a list of segments gives past its end
 abbrev pub no_segment : Segment

@@ -1,6 +1,7 @@
 // The lookup, from the last level down.
 ghost use Rattle.std.specs.Prelude.{◌≡◌, ◌+◌, ◌-◌, ◌*◌, ◌<◌, ◌≤◌};
 ghost use Rattle.std.specs.Prelude.{◌^◌, ℕ, length, slice_index, slice_index_or};
+ghost use Rattle.std.specs.List.Sorted.{IsNonDecreasing};
 ghost use Rattle.budget.specs.Ledgers.{IsNewLedger};
 ghost use Rattle.exact_cross.specs.declared.segment.Segment.{Segment};
 ghost use Rattle.window_search.specs.Searches.{lb, IsPredecessor};
@@ -16,13 +17,15 @@ use budget::Steps;
 use exact_cross::Segment;
 use std::marker::Brand;
 use std::sync::ledger::{Blank, Ledger};
-use window_search::{lower_in, predecessor_in, window};
+use window_search::{CountedKeys, KeyList, lower_in, predecessor_in, window};
 
 impl Index {
     /// The position of `q` in the file: how many of its keys are below `q`.
     ///
-    /// It is searched as by [`Index::lower_bound`], and its steps aren't counted for the caller.
-    /// Cannot fail and takes no memory.
+    /// The run of level 0 is found as in [`Index::lower_bound`]. If its model tells a place, that
+    /// is tried first, and then what is left of its window: of keys at even steps it is the
+    /// position, which no clause says. No steps are counted for the caller. Cannot fail and takes
+    /// no memory.
     pub fn position(&self, q: u64) -> u32
         ensures { result ≡ lb self.now.keys q }
     {
@@ -156,6 +159,16 @@ impl Index {
         self.model_of(level, run).window(q, eps, len)
     }
 
+    /// The place to look at first for `q` in a run of level 0, where its model tells one.
+    #[inline(always)]
+    fn told_by_model(&self, run: u32, q: u64) -> Option<u64>
+        requires laid { IsLaidFile self.now }
+        requires inside { 0 < length self.now.levels }
+        requires run { IsPredecessor (xs_at self.now.keys self.now.levels 1) q run }
+    {
+        self.model_of(0, run).told(q, self.eps_of(0))
+    }
+
     /// The window of `q` in a run of a level, by the run's line, as [`Index::windows`] gives it.
     pub(crate) fn window_of(&self, level: u32, run: u32, q: u64) -> (u32, u32)
         requires laid { IsLaidFile self.now }
@@ -220,5 +233,45 @@ fn position_from<L: Ledger>(index: &Index, q: u64, blank: Blank) -> u32
     ensures { result ≡ lb index.now.keys q }
 {
     let mut steps = Steps::<L>::new(blank);
-    index.lower_bound(q, &mut steps)
+    let keys = index.counted_file();
+    if index.level_count() == 0 || q < keys.read(0, &mut steps) {
+        return 0;
+    }
+    let run = index.run_of(q, &mut steps);
+    let (low, high) = index.window_by_model(0, run, q);
+    match index.told_by_model(run, q) {
+        Some(told) => {
+            let told = told.clamp(u64::from(low), u64::from(high)) as u32;
+            lower_from(&keys, low, told, high, q, &mut steps)
+        }
+        None => lower_in(&keys, low, high, q, &mut steps),
+    }
+}
+
+/// The lower bound of `q`, searched from `told` on among the places `low..=high`, where the caller
+/// knows that it is.
+#[inline(always)]
+fn lower_from<K: KeyList, L: Ledger>(
+    keys: &CountedKeys<K, L>,
+    low: u32,
+    told: u32,
+    high: u32,
+    q: u64,
+    steps: &mut Steps<L>,
+) -> u32
+    requires order { IsNonDecreasing keys.now }
+    requires above { low ≤ told }
+    requires below { told ≤ high }
+    requires within { high ≤ length keys.now }
+    requires from { low ≤ lb keys.now q }
+    requires to { lb keys.now q ≤ high }
+    ensures { result ≡ lb keys.now q }
+{
+    if told < high && keys.read(told as usize, steps) < q {
+        return lower_in(keys, told + 1, high, q, steps);
+    }
+    if told == low || keys.read(told as usize - 1, steps) < q {
+        return told;
+    }
+    lower_in(keys, low, told - 1, q, steps)
 }

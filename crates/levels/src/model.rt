@@ -78,6 +78,25 @@ impl RunModel {
         let height = u128::from(self.base) + u128::from(self.whole) * right;
         (height + steps / STEPS).min(u128::from(self.high)) as u64
     }
+
+    /// The place to look at first for `q` where the line begins at a whole height, as that of a run
+    /// at even steps does: in such a run it is a key's position. No clause says so.
+    ///
+    /// There the line is ε below the first point and ε above the last one. So what it is too high
+    /// grows evenly to `2ε` of its whole rise.
+    #[inline(always)]
+    pub fn told(&self, q: u64, eps: u32) -> Option<u64> {
+        let top = self.high.saturating_add(u64::from(eps));
+        if self.base_part > 0 || top <= self.base {
+            return None;
+        }
+        let rise = top - self.base;
+        let right = u128::from(q.saturating_sub(self.first));
+        let height = u128::from(self.whole) * right + u128::from(self.part) * right / STEPS;
+        let risen = height.min(u128::from(rise)) as u64;
+        let too_high = (2 * u64::from(eps)).saturating_mul(risen) / rise;
+        Some((self.base + risen).saturating_sub(too_high))
+    }
 }
 
 /// Steps in a place.

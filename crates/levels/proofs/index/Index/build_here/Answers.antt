@@ -1,7 +1,6 @@
 -- The segmentation of the points is level 0.
 use Rattle.std.proofs.Common.{◌≡◌, ◌+◌, ◌*◌, ◌≤◌, ℕ, List, length, vec_len, refl, sym, ap, subst, arith}
 use Rattle.std.proofs.lemmas.Result.{IfOk-weaker}
-use Rattle.exact_cross.specs.declared.segment.Segment.{Segment}
 use Rattle.exact_cross.specs.Points.{points_of}
 use Rattle.key_points.specs.KeyPoints.{xs_of, ys_of}
 use Rattle.piece_join.proofs.RelaxedLemmas.{IsLaid-from_piece}

@@ -1,7 +1,6 @@
 -- The pieces side by side are level 0.
 use Rattle.std.proofs.Common.{◌<◌, ℕ, List, length, refl, sym, ◌∙◌, ap, subst, arith}
 use Rattle.std.proofs.lemmas.Result.{IfOk-weaker}
-use Rattle.exact_cross.specs.declared.segment.Segment.{Segment}
 use Rattle.exact_cross.specs.Points.{points_of}
 use Rattle.exact_cross.specs.Checked.{uncut}
 use Rattle.exact_cross.specs.IndexLevels.{level_at}

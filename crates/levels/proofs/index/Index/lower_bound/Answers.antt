@@ -1,17 +1,10 @@
 -- The last level's one run has the predecessor, and below the first key there is no key. The steps' bounds multiply.
-use Rattle.std.proofs.Common.{◌≡◌, ◌+◌, ◌-◌, ◌*◌, ◌<◌, ◌≤◌, ℕ, List, length, slice_index, sym, ap, ◌∙◌, arith}
-use Rattle.std.specs.List.Sorted.{IsNonDecreasing}
-use Rattle.window_search.specs.Searches.{lb}
-use Rattle.window_search.proofs.CallerLemmas.{lb-is}
+use Rattle.std.proofs.Common.{◌+◌, ◌-◌, ◌*◌, ℕ, List, length, slice_index, ap, ◌∙◌, arith}
 use Rattle.levels.specs.Costs.{TakesAtMost}
 use Rattle.levels.proofs.EntryLemmas.{lookup-entry}
+use Rattle.levels.proofs.LookupLemmas.{none_below}
 use Rattle.levels.proofs.CostLemmas.{lookup-one, lookup-last}
 use Rattle.levels.proofs.index.Index.lower_bound.Goals as goal
-
-none_below : (keys : List ℕ) (q : ℕ) → IsNonDecreasing keys → (0 < length keys → q ≤ slice_index keys 0) → 0 ≡ lb keys q
-none_below keys q order first =
-    sym (lb-is keys q 0 (omega arith)
-    (λ k less. absurd (omega arith)) (λ k low inside. omega (arith, first (omega arith), order 0 k 0 low inside)))
 
 pub returns-then-q-first-clause-found : goal.returns-then-q-first-clause-found
 returns-then-q-first-clause-found g c =
