@@ -37,9 +37,10 @@ pub fn told(hints: &[u64], n: usize, q: u64) -> usize
     place_told(lines, hints[1], n, q, begun)
 }
 
-/// The numbers of the lines, if the hints are in the format.
+/// The numbers of the lines, three of each, if the hints are in the format. Cannot fail and takes no
+/// memory.
 #[inline(always)]
-fn whole_lines(hints: &[u64]) -> Option<&[u64]>
+pub fn whole_lines(hints: &[u64]) -> Option<&[u64]>
     ensures whole { IfSome result (λ lines. IsWhole hints.now × (lines.now ≡ lines_in hints.now)) }
     ensures none { IfNone result (IsWhole hints.now → ⊥) }
 {

@@ -22,7 +22,7 @@ mod made;
 mod many;
 mod table;
 
-pub use hint_list::told;
+pub use hint_list::{told, whole_lines};
 pub use lookup::{position, position_counted, upper_bound, upper_bound_counted};
 pub use made::hints_of;
 pub use many::{positions, positions_counted};
