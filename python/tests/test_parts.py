@@ -75,14 +75,14 @@ def test_answers_are_those_of_the_whole_list(tmp_path, name, rows):
 @pytest.mark.parametrize("name", ["random", "above 2^53", "equal", "some equal", "rising"])
 def test_parts_have_about_as_many_rows_as_was_asked(tmp_path, name):
     made_in(tmp_path, ROWS[name], 5_000)
-    _, found = _folder.load(tmp_path)
+    _, found, _ = _folder.load(tmp_path)
     assert len(found) == -(-len(ROWS[name]) // 5_000)
     assert all(2_500 < part.count < 7_500 for part in found)
 
 
 def test_the_files_are_key_files_and_their_hints(tmp_path):
     made_in(tmp_path, epsilon=17)
-    epsilon, found = _folder.load(tmp_path)
+    epsilon, found, _ = _folder.load(tmp_path)
     assert epsilon == 17 and len(found) == 9
     for part in found:
         keys = SortedKeys(kuldebiq.key_file(tmp_path / part.keys), epsilon=17)
@@ -222,7 +222,7 @@ def test_a_newer_format_is_refused(tmp_path):
 @pytest.mark.parametrize("named", ["../part-00000.keys", "/etc/passwd", "some.keys"])
 def test_a_list_names_files_of_its_folder_alone(tmp_path, named):
     made_in(tmp_path)
-    epsilon, found = _folder.load(tmp_path)
+    epsilon, found, _ = _folder.load(tmp_path)
     _folder.save(tmp_path, epsilon, [found[0]._replace(keys=named), *found[1:]])
     with pytest.raises(ValueError, match="parts.json"):
         parts.Parts(tmp_path)
@@ -230,7 +230,7 @@ def test_a_list_names_files_of_its_folder_alone(tmp_path, named):
 
 def test_parts_that_arent_in_order_are_refused(tmp_path):
     made_in(tmp_path)
-    epsilon, found = _folder.load(tmp_path)
+    epsilon, found, _ = _folder.load(tmp_path)
     for wrong in (
         found[3]._replace(first=found[3].last + 1),
         found[3]._replace(first=found[2].last - 1),

@@ -117,7 +117,7 @@ def test_answers_in_such_rows(client, name, tmp_path):
     row = numpy.array(ROWS[name], numpy.uint64)
     made = parts.make(row, tmp_path, client, rows=max(len(row) // 4, 1))
     assert_answers(made, row)
-    _, found = _folder.load(tmp_path)
+    _, found, _ = _folder.load(tmp_path)
     assert all(part.count < len(row) // 2 + 2 for part in found)
 
 
@@ -216,7 +216,7 @@ def test_a_worker_is_killed_while_parts_are_made(client, files, row, tmp_path, n
     assert_answers(made, row)
     # What the killed one has left is cleared by the next call.
     parts.make(files, tmp_path / "parts", client, rows=NUMBERS // 2)
-    _, found = _folder.load(tmp_path / "parts")
+    _, found, _ = _folder.load(tmp_path / "parts")
     assert len(os.listdir(tmp_path / "parts")) == 2 * len(found) + 1
 
 

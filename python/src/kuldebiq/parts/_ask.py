@@ -46,6 +46,8 @@ class Parts:
     ----------
     epsilon : int
         The error bound of the hints.
+    dims : int or None
+        How many coordinates the points have, if the keys are codes of points (``PartPoints``).
     lines : int
         How many lines the hints of all parts have.
     spare : int
@@ -67,10 +69,13 @@ class Parts:
         If the hints of a part that is asked aren't those that were made. No answer is wrong by it.
     """
 
+    # What the list has.
+    _items = "keys"
+
     def __init__(self, folder: str | os.PathLike, client=None):
         self._folder = os.path.abspath(folder)
         self._client = client
-        self.epsilon, self._parts = load(Path(self._folder))
+        self.epsilon, self._parts, self.dims = load(Path(self._folder))
         for part in self._parts:
             check_ends(self._folder, part)
         self._firsts = SortedKeys(numpy.array([part.first for part in self._parts], numpy.uint64))
@@ -86,12 +91,12 @@ class Parts:
 
     def __str__(self) -> str:
         return (
-            f"{len(self):,} keys in {len(self._parts):,} parts, with {self.lines:,} lines: lines"
-            f" over all keys at once could be at most {self.spare:,} fewer"
+            f"{len(self):,} {self._items} in {len(self._parts):,} parts, with {self.lines:,} lines:"
+            f" lines over all {self._items} at once could be at most {self.spare:,} fewer"
         )
 
     def __repr__(self) -> str:
-        return f"<Parts of {self._folder!r}: {self}>"
+        return f"<{type(self).__name__} of {self._folder!r}: {self}>"
 
     def positions(self, questions: ArrayLike) -> NDArray[numpy.intp]:
         """How many keys of the whole list are below each question: ``numpy.searchsorted``.
