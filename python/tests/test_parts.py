@@ -302,6 +302,32 @@ def test_nothing_is_opened_that_isnt_asked(tmp_path):
         assert asked.keys(0, 9).tolist() == row[:9].tolist()
 
 
+def mapped_files(folder):
+    """The files of a folder that this process has mapped, each with its bytes in this memory."""
+    found, path = {}, None
+    with open("/proc/self/smaps") as file:
+        for line in file:
+            name, *rest = line.split()
+            if not name.endswith(":"):
+                path = line[line.index("/") :].strip() if "/" in line else ""
+            elif name == "Rss:" and path.startswith(str(folder)):
+                found[os.path.basename(path)] = int(rest[0])
+    return found
+
+
+def test_pages_of_parts_are_given_back_and_removed_parts_unmapped(tmp_path):
+    row = numpy.sort(ROWS["random"])
+    made_in(tmp_path).positions(row)
+    first = mapped_files(tmp_path)
+    assert sorted(first) == [f"part-{number:05}.keys" for number in range(9)]
+    assert set(first.values()) == {0}
+    made = made_in(tmp_path)
+    assert (made.keys() == row).all()
+    again = mapped_files(tmp_path)
+    assert sorted(again) == [f"part-{number:05}-1.keys" for number in range(9)]
+    assert set(again.values()) == {0}
+
+
 @pytest.mark.parametrize("name", [name for name in ROWS if name != "none"])
 @pytest.mark.parametrize("rows", [50, 900, 5_000])
 def test_the_whole_list_spares_at_most_so_many_lines(tmp_path, name, rows):

@@ -48,11 +48,11 @@ def assert_boxes(asked, points, boxes):
         assert asked.count(low, high) == is_inside.sum()
 
 
-def points_in(dims, count=20_000, bits=None):
+def points_in(dims, count=6_000, bits=None):
     return chance.integers(0, 1 << (bits or BITS[dims]), (count, dims), dtype=numpy.uint64)
 
 
-def boxes_of(points, tries=12):
+def boxes_of(points, tries=8):
     """Of all points, of none, of one, thin ones, and those between two points."""
     dims = points.shape[1]
     greatest = (1 << BITS[dims]) - 1
@@ -73,7 +73,7 @@ POINTS = {
         "random": points_in(dims),
         # Points repeat, also over edges of parts.
         "near": points_in(dims, bits=3),
-        "equal": numpy.full((9_000, dims), (1 << BITS[dims]) - 1, numpy.uint64),
+        "equal": numpy.full((3_000, dims), (1 << BITS[dims]) - 1, numpy.uint64),
         "one": numpy.arange(dims, dtype=numpy.uint64)[None],
         "none": numpy.empty((0, dims), numpy.uint64),
     }.items()
@@ -95,9 +95,8 @@ def small_cases(draw):
     dims = draw(some.sampled_from([2, 3, 4]))
     greatest = draw(some.sampled_from([1, 7, (1 << BITS[dims]) - 1]))
     point = some.tuples(*[some.integers(0, greatest)] * dims)
-    return draw(some.lists(point, min_size=1, max_size=30)), draw(point), draw(point), draw(
-        some.integers(1, 9)
-    )
+    points = draw(some.lists(point, min_size=1, max_size=30))
+    return points, draw(point), draw(point), -(-len(points) // draw(some.integers(1, 6)))
 
 
 @given(small_cases())
@@ -105,7 +104,8 @@ def test_any_box_of_any_points(case):
     points, low, high, rows = case
     with tempfile.TemporaryDirectory() as folder:
         made = parts.make_points(points, folder, rows=rows)
-        assert_boxes(made, points, [(low, high), (numpy.minimum(low, high), numpy.maximum(low, high))])
+        ordered = numpy.minimum(low, high), numpy.maximum(low, high)
+        assert_boxes(made, points, [(low, high), ordered])
 
 
 @given(small_cases(), some.integers(0, 99))
@@ -132,7 +132,7 @@ def test_no_part_is_opened_that_has_no_code_of_the_box(case, at):
 def test_a_point_file_worked_by_hand(tmp_path):
     """The points (2, 0) and (1, 3). Their codes are, from the highest bit, 0100 and 1011."""
     path = tmp_path / "some.points"
-    path.write_bytes(bytes([2, 0, 0, 0, 0, 0, 0, 0, 2, 0, 0, 0, 0, 0, 0, 0, 1, 0, 0, 0, 3, 0, 0, 0]))
+    path.write_bytes(bytes.fromhex("0200000000000000 02000000 00000000 01000000 03000000"))
     made = parts.make_points(path, tmp_path / "parts", rows=1)
     assert made.keys().tolist() == [0b0100, 0b1011]
     assert made.points().tolist() == [[2, 0], [1, 3]]
@@ -153,7 +153,7 @@ def test_points_come_from_files_and_tables(tmp_path, dims):
     (tmp_path / "e.points").write_bytes(bytes(8))
     frame = pandas.DataFrame(points.astype(numpy.int64), columns=[f"c{at}" for at in range(dims)])
     frame["c1"] = frame["c1"].astype("UInt32")
-    boxes = list(boxes_of(points))
+    boxes = list(boxes_of(points, 3))
     for source in ([tmp_path / name for name in sorted(os.listdir(tmp_path))], frame):
         assert_boxes(parts.make_points(source, tmp_path / "parts", rows=2_000), points, boxes)
     one = parts.make_points(str(tmp_path / "d.points"), tmp_path / "part", rows=2_000)
@@ -231,7 +231,7 @@ def test_what_is_no_box_is_refused(tmp_path, low, high, error):
 
 def test_codes_are_keys_and_keys_no_points(tmp_path):
     points = POINTS[3, "random"]
-    made = parts.make_points(points, tmp_path, rows=6_000)
+    made = parts.make_points(points, tmp_path, rows=2_000)
     codes = parts.Parts(tmp_path)
     assert (codes.keys() == numpy.sort(codes_of(points))).all() and codes.dims == 3
     assert (made.positions(codes_of(points[:9])) == codes.positions(codes_of(points[:9]))).all()
@@ -249,7 +249,7 @@ def test_what_the_list_says_of_coordinates_is_checked(tmp_path):
         with pytest.raises(ValueError, match="parts.json"):
             parts.Parts(tmp_path)
     _folder.save(tmp_path, epsilon, found, 3)
-    with pytest.raises(ValueError, match="no codes of 3 coordinates"):
+    with pytest.raises(ValueError, match="aren't codes of 3 numbers"):
         parts.PartPoints(tmp_path)
     (tmp_path / "parts.json").write_bytes(content.replace(b'"dims": 2', b'"dims": 4'))
     with pytest.raises(ValueError, match="parts.json.*checksum"):
@@ -276,7 +276,7 @@ def test_a_call_that_is_cut_off_leaves_the_old_folder(tmp_path, monkeypatch):
 
 @pytest.mark.parametrize("spoil", SPOILED_KEYS)
 def test_a_part_that_isnt_the_one_that_was_made_is_refused(tmp_path, spoil):
-    asked = parts.make_points(POINTS[2, "random"], tmp_path, rows=3_000)
+    asked = parts.make_points(POINTS[2, "random"], tmp_path, rows=900)
     spoil(tmp_path / "part-00002.keys")
     with pytest.raises(ValueError, match="part-00002.keys"):
         parts.PartPoints(tmp_path)
@@ -287,7 +287,7 @@ def test_a_part_that_isnt_the_one_that_was_made_is_refused(tmp_path, spoil):
 @pytest.mark.parametrize("spoil", SPOILED_HINTS)
 def test_hints_may_be_anything(tmp_path, spoil):
     points = POINTS[4, "random"]
-    parts.make_points(points, tmp_path, rows=3_000)
+    parts.make_points(points, tmp_path, rows=900)
     spoil(tmp_path / "part-00002.hints")
     with pytest.warns(parts.HintsWarning, match="part-00002.hints") as told:
         assert_boxes(parts.PartPoints(tmp_path), points, boxes_of(points))

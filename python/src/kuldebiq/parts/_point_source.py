@@ -9,7 +9,7 @@ import numpy
 from .._errors import BadValue
 from .._numbers import type_name
 from ._codes import BITS, check_dims, codes_of, table_of
-from ._source import FileChunk, is_array, of_file, of_row, paths_of
+from ._source import FileChunk, has_dimensions, is_array, of_file, of_row, paths_of
 
 
 class PointChunk(FileChunk):
@@ -34,7 +34,7 @@ def point_chunks_of(source) -> tuple[int, list]:
 def _of_collection(source) -> tuple[int, list]:
     from dask import delayed
 
-    if getattr(source, "ndim", None) != 2:
+    if not has_dimensions(source, 2):
         raise TypeError(
             "points are a Dask array of two dimensions or columns of a Dask DataFrame, and this is"
             f" of type {type_name(source)}"

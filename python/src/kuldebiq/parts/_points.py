@@ -9,7 +9,7 @@ import numpy
 from numpy.typing import ArrayLike, NDArray
 
 from .._errors import BadValue
-from ._ask import Parts, opened
+from ._ask import Parts, give_back, opened
 from ._codes import BITS, Box, box_of, points_of
 
 
@@ -52,7 +52,7 @@ class PartPoints(Parts):
         if self.dims is None:
             raise BadValue(f"{self._folder!r} has parts of keys, and none of points: ask Parts")
         if self._parts and self._parts[-1].last >> BITS[self.dims] * self.dims:
-            raise BadValue(f"{self._folder!r} has keys that are no codes of {self.dims} coordinates")
+            raise BadValue(f"{self._folder!r} has keys that aren't codes of {self.dims} numbers")
         self._lasts = numpy.array([part.last for part in self._parts], numpy.uint64)
 
     def box(self, low: ArrayLike, high: ArrayLike) -> NDArray[numpy.intp]:
@@ -138,4 +138,5 @@ def boxed(folder: str, parts: list, box: Box) -> tuple[numpy.ndarray, list[str]]
         keys, complaint = opened(folder, part)
         places.append(box.stretches(keys[:], keys.hints) + part.offset)
         complaints += complaint
+        give_back(keys)
     return numpy.concatenate(places), complaints

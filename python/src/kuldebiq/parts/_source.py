@@ -48,11 +48,17 @@ def paths_of(source) -> list[str]:
     return [os.path.abspath(path) for path in sources] if are_paths else []
 
 
+def has_dimensions(source, count: int) -> bool:
+    """Whether a collection of Dask has so many dimensions. Of a ``Delayed`` nobody knows."""
+    known = getattr(source, "ndim", None)
+    return isinstance(known, int) and known == count
+
+
 def chunks_of(source) -> tuple[None, list]:
     """The chunks of files, of a collection of Dask, or of anything that ``SortedKeys`` takes. Such
     numbers aren't those of points, so nothing is said of coordinates."""
     if hasattr(source, "__dask_graph__"):
-        if getattr(source, "ndim", None) != 1:
+        if not has_dimensions(source, 1):
             raise TypeError(
                 "keys are one row, as a Dask array of one dimension or a column of a Dask"
                 f" DataFrame, and this is of type {type_name(source)}"
