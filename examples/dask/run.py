@@ -5,9 +5,9 @@
 
 The numbers are random ones in F files that this script writes under FOLDER, which it removes in the
 end. It prints seconds, the most memory that the workers have had, and pages, and compares all
-answers with those of numpy.searchsorted in the whole list, for which this process needs 16 bytes
-for each number. --compare also times how Dask sorts the numbers and writes as many parts without
-hints. It needs kuldebiq (../../python), dask.distributed and pandas.
+answers with those of numpy.searchsorted in the whole list, for which this process needs 9 bytes for
+each number. --compare also times how Dask sorts the numbers and writes as many parts without hints.
+It needs kuldebiq (../../python), dask.distributed and pandas.
 """
 
 import argparse
@@ -15,9 +15,10 @@ import logging
 import os
 import shutil
 import signal
+import sys
 import tempfile
+import threading
 import time
-from concurrent.futures import ThreadPoolExecutor
 from pathlib import Path
 
 import dask
@@ -29,6 +30,13 @@ from kuldebiq import parts
 
 MIB = 1 << 20
 PAGE = os.sysconf("SC_PAGE_SIZE")
+# So many bytes of disk a number takes at most: in its file, in old and new parts, and where Dask
+# puts what a worker has no room for.
+DISK = 40
+# So many numbers are taken from the parts at once.
+STEP = 1 << 24
+# So many seconds a killed worker has to come back.
+PATIENCE = 300
 
 
 def words():
@@ -101,22 +109,35 @@ def kill_one(client):
 
 
 def wait_for_all(client, workers):
+    stop = time.monotonic() + PATIENCE
     while len(of_all(client, os.getpid)) < workers:
+        if time.monotonic() > stop:
+            sys.exit(f"a killed worker hasn't come back in {PATIENCE} s")
         time.sleep(0.1)
 
 
 # The steps.
 
 
+def kill_at_a_part(client, folder, before, is_over):
+    """Kill a worker when a part is written that wasn't there before, or when all is made."""
+    while not is_over.wait(0.05) and set(folder.glob("*.keys")) <= before:
+        pass
+    kill_one(client)
+
+
 def make_and_kill(paths, folder, client, rows):
-    """Parts are made once more, and a worker is killed when the first of them is written."""
-    before = set(folder.glob("*.keys"))
-    with ThreadPoolExecutor(1) as pool:
-        made = pool.submit(parts.make, paths, folder, client, rows=rows, progress=False)
-        while not made.done() and set(folder.glob("*.keys")) <= before:
-            time.sleep(0.05)
-        kill_one(client)
-        return made.result()
+    """Parts are made once more, and a worker is killed when the first of them is written. That is
+    the work of another thread: what stops this one, as Ctrl-C, stops the making."""
+    is_over = threading.Event()
+    words = client, folder, set(folder.glob("*.keys")), is_over
+    killer = threading.Thread(target=kill_at_a_part, args=words, daemon=True)
+    killer.start()
+    try:
+        return parts.make(paths, folder, client, rows=rows, progress=False)
+    finally:
+        is_over.set()
+        killer.join()
 
 
 def plain_frame(path):
@@ -147,11 +168,16 @@ def sort_plainly(paths, folder, client, count):
     shutil.rmtree(folder)
 
 
+def stretches_of(asked):
+    """The whole list, some numbers at once, each time with the place of the first."""
+    for start in range(0, len(asked), STEP):
+        yield start, asked.keys(start, start + STEP)
+
+
 def whole_list(asked):
     whole = numpy.empty(len(asked), numpy.uint64)
-    step = 1 << 24
-    for start in range(0, len(whole), step):
-        whole[start : start + step] = asked.keys(start, start + step)
+    for start, row in stretches_of(asked):
+        whole[start : start + len(row)] = row
     return whole
 
 
@@ -190,7 +216,9 @@ def run(given, folder, client):
     wait_for_all(client, given.workers)
     made, seconds = timed(make_and_kill, paths, there, client, rows)
     say("parts are made again, and a worker is killed", seconds)
-    assert (whole_list(parts.Parts(there)) == whole).all()
+    again = parts.Parts(there)
+    assert len(again) == len(whole)
+    assert all((row == whole[at : at + len(row)]).all() for at, row in stretches_of(again))
     ask(made, questions, "  questions", places)
     if given.compare:
         wait_for_all(client, given.workers)
@@ -204,12 +232,19 @@ def main():
     given = words()
     if given.folder:
         given.folder.mkdir(parents=True, exist_ok=True)
+    # A run that is stopped removes its files, too.
+    for number in (signal.SIGINT, signal.SIGTERM, signal.SIGHUP):
+        signal.signal(number, lambda *_: sys.exit("stopped"))
     folder = Path(tempfile.mkdtemp(prefix="kuldebiq-", dir=given.folder))
     print(f"kuldebiq {kuldebiq.__version__}, Dask {dask.__version__}: {given.workers} workers of"
           f" {given.memory}, one thread each", flush=True)
     # A worker that is killed twice, so long apart, would be given up.
     dask.config.set({"distributed.deploy.lost-worker-timeout": "1h"})
     try:
+        free = shutil.disk_usage(folder).free
+        if free < DISK * given.numbers:
+            sys.exit(f"{folder} has {free >> 20:,} MiB, and {DISK * given.numbers >> 20:,} MiB are"
+                     " needed: another --folder, or fewer --numbers")
         with LocalCluster(
             n_workers=given.workers,
             threads_per_worker=1,

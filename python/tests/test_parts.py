@@ -75,14 +75,14 @@ def test_answers_are_those_of_the_whole_list(tmp_path, name, rows):
 @pytest.mark.parametrize("name", ["random", "above 2^53", "equal", "some equal", "rising"])
 def test_parts_have_about_as_many_rows_as_was_asked(tmp_path, name):
     made_in(tmp_path, ROWS[name], 5_000)
-    _, found = _folder.load(tmp_path)
+    _, found, _ = _folder.load(tmp_path)
     assert len(found) == -(-len(ROWS[name]) // 5_000)
     assert all(2_500 < part.count < 7_500 for part in found)
 
 
 def test_the_files_are_key_files_and_their_hints(tmp_path):
     made_in(tmp_path, epsilon=17)
-    epsilon, found = _folder.load(tmp_path)
+    epsilon, found, _ = _folder.load(tmp_path)
     assert epsilon == 17 and len(found) == 9
     for part in found:
         keys = SortedKeys(kuldebiq.key_file(tmp_path / part.keys), epsilon=17)
@@ -222,7 +222,7 @@ def test_a_newer_format_is_refused(tmp_path):
 @pytest.mark.parametrize("named", ["../part-00000.keys", "/etc/passwd", "some.keys"])
 def test_a_list_names_files_of_its_folder_alone(tmp_path, named):
     made_in(tmp_path)
-    epsilon, found = _folder.load(tmp_path)
+    epsilon, found, _ = _folder.load(tmp_path)
     _folder.save(tmp_path, epsilon, [found[0]._replace(keys=named), *found[1:]])
     with pytest.raises(ValueError, match="parts.json"):
         parts.Parts(tmp_path)
@@ -230,7 +230,7 @@ def test_a_list_names_files_of_its_folder_alone(tmp_path, named):
 
 def test_parts_that_arent_in_order_are_refused(tmp_path):
     made_in(tmp_path)
-    epsilon, found = _folder.load(tmp_path)
+    epsilon, found, _ = _folder.load(tmp_path)
     for wrong in (
         found[3]._replace(first=found[3].last + 1),
         found[3]._replace(first=found[2].last - 1),
@@ -300,6 +300,32 @@ def test_nothing_is_opened_that_isnt_asked(tmp_path):
         warnings.simplefilter("error")
         assert asked.positions(row[:100]).tolist() == list(range(100))
         assert asked.keys(0, 9).tolist() == row[:9].tolist()
+
+
+def mapped_files(folder):
+    """The files of a folder that this process has mapped, each with its bytes in this memory."""
+    found, path = {}, None
+    with open("/proc/self/smaps") as file:
+        for line in file:
+            name, *rest = line.split()
+            if not name.endswith(":"):
+                path = line[line.index("/") :].strip() if "/" in line else ""
+            elif name == "Rss:" and path.startswith(str(folder)):
+                found[os.path.basename(path)] = int(rest[0])
+    return found
+
+
+def test_pages_of_parts_are_given_back_and_removed_parts_unmapped(tmp_path):
+    row = numpy.sort(ROWS["random"])
+    made_in(tmp_path).positions(row)
+    first = mapped_files(tmp_path)
+    assert sorted(first) == [f"part-{number:05}.keys" for number in range(9)]
+    assert set(first.values()) == {0}
+    made = made_in(tmp_path)
+    assert (made.keys() == row).all()
+    again = mapped_files(tmp_path)
+    assert sorted(again) == [f"part-{number:05}-1.keys" for number in range(9)]
+    assert set(again.values()) == {0}
 
 
 @pytest.mark.parametrize("name", [name for name in ROWS if name != "none"])

@@ -1,4 +1,5 @@
-"""Parts by three processes of dask.distributed: beside numpy.searchsorted, and with workers killed.
+"""Parts by three processes of dask.distributed: beside numpy in the whole list, and with workers
+killed.
 
 A worker is killed by a call of the work itself, so nothing here waits for a time.
 KULDEBIQ_PARTS_NUMBERS says how many numbers the lists from files have (200,000 without it), and
@@ -25,6 +26,7 @@ import dask.dataframe  # noqa: E402
 import pandas  # noqa: E402
 from distributed import Client, LocalCluster  # noqa: E402
 from test_parts import ROWS, assert_answers, questions_of  # noqa: E402
+from test_parts_points import POINTS, assert_boxes, boxes_of  # noqa: E402
 
 from kuldebiq import parts  # noqa: E402
 from kuldebiq.parts import _folder  # noqa: E402
@@ -117,7 +119,7 @@ def test_answers_in_such_rows(client, name, tmp_path):
     row = numpy.array(ROWS[name], numpy.uint64)
     made = parts.make(row, tmp_path, client, rows=max(len(row) // 4, 1))
     assert_answers(made, row)
-    _, found = _folder.load(tmp_path)
+    _, found, _ = _folder.load(tmp_path)
     assert all(part.count < len(row) // 2 + 2 for part in found)
 
 
@@ -216,7 +218,7 @@ def test_a_worker_is_killed_while_parts_are_made(client, files, row, tmp_path, n
     assert_answers(made, row)
     # What the killed one has left is cleared by the next call.
     parts.make(files, tmp_path / "parts", client, rows=NUMBERS // 2)
-    _, found = _folder.load(tmp_path / "parts")
+    _, found, _ = _folder.load(tmp_path / "parts")
     assert len(os.listdir(tmp_path / "parts")) == 2 * len(found) + 1
 
 
@@ -228,6 +230,74 @@ def test_a_worker_is_killed_while_it_is_asked(client, files, row, tmp_path, name
     assert_answers(made, row)
     assert os.path.exists(marker)
     assert_answers(made, row)
+
+
+# Points.
+
+
+@pytest.fixture(scope="module")
+def points():
+    points = POINTS[3, "random"].copy()
+    points[::3] = POINTS[3, "near"][::3]
+    return points
+
+
+def sources_of_points(points, folder):
+    """The same points as files and as collections of Dask."""
+    yield files_of(points, folder)
+    yield dask.array.from_array(points, chunks=(len(points) // 5 + 1, 2))
+    frame = pandas.DataFrame({"other": 0.5, "x": points[:, 0], "y": points[:, 1]})
+    frame["z"] = points[:, 2].astype(numpy.int32)
+    yield dask.dataframe.from_pandas(frame, npartitions=4)[["x", "y", "z"]]
+
+
+def test_boxes_are_those_of_a_filter(client, points, tmp_path):
+    boxes = list(boxes_of(points, 4))
+    for source in sources_of_points(points, tmp_path):
+        made = parts.make_points(source, tmp_path / "parts", client, rows=len(points) // 9)
+        assert_boxes(made, points, boxes)
+        assert_boxes(parts.PartPoints(tmp_path / "parts"), points, boxes)
+
+
+def test_what_are_no_points_is_refused_by_the_workers(client, tmp_path):
+    with pytest.raises(OverflowError, match="column 1 is 4294967296"):
+        parts.make_points(dask.array.from_array(numpy.array([[1, 1 << 32]])), tmp_path, client)
+    with pytest.raises(ValueError, match="2 to 4 coordinates"):
+        parts.make_points(dask.array.from_array(numpy.array([[1], [2]])), tmp_path, client)
+    for source in (dask.array.from_array(numpy.array([1, 2])), dask.delayed(1)):
+        with pytest.raises(TypeError, match="columns of a Dask DataFrame"):
+            parts.make_points(source, tmp_path, client)
+    assert os.listdir(tmp_path) == []
+
+
+def test_damaged_hints_and_missing_parts_of_points(client, points, tmp_path):
+    asked = parts.make_points(points, tmp_path, client, rows=len(points) // 9)
+    (tmp_path / "part-00001.hints").write_bytes(b"damaged!")
+    (tmp_path / "part-00002.hints").unlink()
+    with pytest.warns(parts.HintsWarning) as told:
+        assert_boxes(asked, points, boxes_of(points, 4))
+    told = [str(each.message) for each in told if each.category is parts.HintsWarning]
+    assert len(told) == 2
+    (tmp_path / "part-00004.keys").unlink()
+    with pytest.raises(ValueError, match="part-00004.keys"):
+        asked.box([0, 0, 0], [1 << 20] * 3)
+
+
+@pytest.mark.parametrize(
+    "module, name, is_after",
+    [
+        ("_point_source", "codes_of", False),
+        ("_points", "opened", False),
+        ("_points", "opened", True),
+    ],
+)
+def test_a_worker_is_killed_over_points(client, points, tmp_path, module, name, is_after):
+    marker = str(tmp_path / "killed")
+    files = files_of(points, tmp_path)
+    arm_all(client, f"kuldebiq.parts.{module}", name, marker, is_after)
+    made = parts.make_points(files, tmp_path / "parts", client, rows=len(points) // 9)
+    assert_boxes(made, points, boxes_of(points, 4))
+    assert os.path.exists(marker)
 
 
 # Memory.

@@ -5,7 +5,8 @@ from __future__ import annotations
 import os
 import warnings
 import zlib
-from functools import lru_cache, partial
+from functools import partial
+from mmap import MADV_DONTNEED, mmap
 from pathlib import Path
 
 import numpy
@@ -20,8 +21,10 @@ from ._folder import Part, check_ends, load, unreadable
 
 # So many questions are on their way to the workers at once: 32 MB.
 _ROUND = 1 << 22
-# So many parts are kept mapped in one process.
-_MAPPED = 1024
+# So many parts are kept mapped in one process: their keys by the path of the file, behind what the
+# file was, and before what is wrong with their hints.
+_KEPT = 1024
+_kept: dict[str, tuple] = {}
 
 
 class HintsWarning(RuntimeWarning):
@@ -46,6 +49,8 @@ class Parts:
     ----------
     epsilon : int
         The error bound of the hints.
+    dims : int or None
+        How many coordinates the points have, if the keys are codes of points (``PartPoints``).
     lines : int
         How many lines the hints of all parts have.
     spare : int
@@ -67,10 +72,13 @@ class Parts:
         If the hints of a part that is asked aren't those that were made. No answer is wrong by it.
     """
 
+    # What the list has.
+    _items = "keys"
+
     def __init__(self, folder: str | os.PathLike, client=None):
         self._folder = os.path.abspath(folder)
         self._client = client
-        self.epsilon, self._parts = load(Path(self._folder))
+        self.epsilon, self._parts, self.dims = load(Path(self._folder))
         for part in self._parts:
             check_ends(self._folder, part)
         self._firsts = SortedKeys(numpy.array([part.first for part in self._parts], numpy.uint64))
@@ -86,12 +94,12 @@ class Parts:
 
     def __str__(self) -> str:
         return (
-            f"{len(self):,} keys in {len(self._parts):,} parts, with {self.lines:,} lines: lines"
-            f" over all keys at once could be at most {self.spare:,} fewer"
+            f"{len(self):,} {self._items} in {len(self._parts):,} parts, with {self.lines:,} lines:"
+            f" lines over all {self._items} at once could be at most {self.spare:,} fewer"
         )
 
     def __repr__(self) -> str:
-        return f"<Parts of {self._folder!r}: {self}>"
+        return f"<{type(self).__name__} of {self._folder!r}: {self}>"
 
     def positions(self, questions: ArrayLike) -> NDArray[numpy.intp]:
         """How many keys of the whole list are below each question: ``numpy.searchsorted``.
@@ -213,13 +221,16 @@ def answer(folder, parts, counts, row) -> tuple[numpy.ndarray, list[str]]:
         places[start : start + count] = keys.positions(row[start : start + count]) + part.offset
         complaints += complaint
         start += count
+        give_back(keys)
     return places, complaints
 
 
 def stretch(folder, part, start, stop) -> tuple[numpy.ndarray, list[str]]:
     """The keys of a stretch of a part."""
     keys, complaint = opened(folder, part)
-    return numpy.array(keys[start:stop]), complaint
+    row = numpy.array(keys[start:stop])
+    give_back(keys)
+    return row, complaint
 
 
 def opened(folder: str, part: Part) -> tuple[SortedKeys, list[str]]:
@@ -230,15 +241,33 @@ def opened(folder: str, part: Part) -> tuple[SortedKeys, list[str]]:
         found = os.stat(path)
     except OSError as error:
         raise unreadable(path, error) from None
-    return _mapped(folder, part, (found.st_dev, found.st_ino, found.st_size, found.st_mtime_ns))
+    is_now = part, found.st_dev, found.st_ino, found.st_size, found.st_mtime_ns
+    was, keys, complaint = _kept.get(path, (None, None, None))
+    if was != is_now:
+        check_ends(folder, part)
+        hints, complaint = _hints(os.path.join(folder, part.hints), part)
+        keys = SortedKeys(key_file(path), hints, check=False)
+        _forget()
+        _kept[path] = is_now, keys, complaint
+    return keys, complaint
 
 
-@lru_cache(maxsize=_MAPPED)
-def _mapped(folder, part, _identity):
-    check_ends(folder, part)
-    hints, complaint = _hints(os.path.join(folder, part.hints), part)
-    keys = key_file(os.path.join(folder, part.keys))
-    return SortedKeys(keys, hints, check=False), complaint
+def _forget() -> None:
+    """Unmap the parts that are removed, which keep their room on the disk until then, and the
+    oldest of too many."""
+    paths = list(_kept)
+    oldest = paths[: max(len(paths) - _KEPT + 1, 0)]
+    for path in {*oldest, *(path for path in paths if not os.path.exists(path))}:
+        _kept.pop(path, None)
+
+
+def give_back(keys: SortedKeys) -> None:
+    """Take the pages of a part out of this process's memory; they stay in the system's. Dask counts
+    those that are mapped, and stops a worker that has too many."""
+    pages = keys[:]
+    while not isinstance(pages, mmap):
+        pages = pages.base
+    pages.madvise(MADV_DONTNEED)
 
 
 def _hints(path, part):

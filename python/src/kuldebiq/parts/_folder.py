@@ -11,6 +11,7 @@ from typing import NamedTuple
 from uuid import uuid4
 
 from .._errors import BadValue
+from ._codes import BITS
 
 FORMAT = 1
 _LIST = "parts.json"
@@ -74,9 +75,11 @@ def _checksum(body: dict) -> int:
     return zlib.crc32(json.dumps(body, sort_keys=True, separators=(",", ":")).encode())
 
 
-def save(folder: Path, epsilon: int, parts: list[Part]) -> None:
-    """Write the list of the parts: from now on the folder has these."""
-    body = {"format": FORMAT, "epsilon": epsilon, "parts": [part._asdict() for part in parts]}
+def save(folder: Path, epsilon: int, parts: list[Part], dims: int | None = None) -> None:
+    """Write the list of the parts: from now on the folder has these. Of points, whose codes are the
+    keys, it says how many coordinates they have."""
+    body = {"format": FORMAT, "epsilon": epsilon, **({"dims": dims} if dims else {})}
+    body["parts"] = [part._asdict() for part in parts]
     text = json.dumps({**body, "crc32": _checksum(body)}, indent=1)
     write_whole(folder / _LIST, text.encode(), b"\n")
     at = os.open(folder, os.O_RDONLY)
@@ -86,8 +89,9 @@ def save(folder: Path, epsilon: int, parts: list[Part]) -> None:
         os.close(at)
 
 
-def load(folder: Path) -> tuple[int, list[Part]]:
-    """ε and the parts, as the list says, which is checked against itself."""
+def load(folder: Path) -> tuple[int, list[Part], int | None]:
+    """ε, the parts, and how many coordinates their points have, if they have points, as the list
+    says, which is checked against itself."""
     path = folder / _LIST
     content = path.read_bytes()
     try:
@@ -97,7 +101,7 @@ def load(folder: Path) -> tuple[int, list[Part]]:
         if not is_newer:
             is_whole = body.pop("crc32") == _checksum(body)
             epsilon, parts = body["epsilon"], [Part(**part) for part in body["parts"]]
-            wrong = _first_wrong(parts)
+            dims, wrong = _dims_in(body), _first_wrong(parts)
     except (ValueError, KeyError, TypeError, AttributeError):
         raise BadValue(f"{str(path)!r} is damaged, or no list of parts") from None
     if is_newer:
@@ -106,7 +110,15 @@ def load(folder: Path) -> tuple[int, list[Part]]:
         raise BadValue(f"{str(path)!r} is damaged: its checksum is another one")
     if wrong is not None:
         raise BadValue(f"the part {wrong!r} of {str(path)!r} isn't in order with the one before")
-    return epsilon, parts
+    return epsilon, parts, dims
+
+
+def _dims_in(body: dict) -> int | None:
+    """How many coordinates points have: the list says nothing of it if the keys aren't codes."""
+    dims = body.get("dims")
+    if dims is not None and (type(dims) is not int or dims not in BITS):
+        raise ValueError
+    return dims
 
 
 def _first_wrong(parts: list[Part]) -> str | None:
