@@ -155,6 +155,13 @@ class Words(unittest.TestCase):
         call = ["bash", "-euc", f'source "{TOP}/dev/words.sh"; wrong_word "$@"', "", *words]
         return subprocess.run(call, stdout=subprocess.PIPE, text=True, check=True).stdout.strip()
 
+    def test_names_are_told_from_options(self):
+        call = f'source "{TOP}/dev/words.sh"; given_names "$@"'
+        for words, names in [("query a --narrow b --eps 3 --windows", "a b"), ("find a --narrow b c", "a b c"),
+                             ("relax --pieces 5 a --eps=3 b", "a b"), ("build -- --eps", "--eps")]:
+            said = subprocess.run(["bash", "-euc", call, "", *words.split()], stdout=subprocess.PIPE, text=True, check=True)
+            self.assertEqual(said.stdout.split(), names.split(), words)
+
     def test_words_that_are_taken(self):
         for words in ["build f", "build f --eps 0", "build --eps=1048576 f", "build --eps +007 f",
                       "build f --narrow --rec 4", "drill 1 0", "drill 1000000 2147483647",
