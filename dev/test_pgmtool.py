@@ -6,11 +6,16 @@ import re
 import shutil
 import signal
 import subprocess
+import sys
 import tempfile
 import time
 import unittest
 
 TOP = pathlib.Path(__file__).resolve().parent.parent
+sys.path.insert(0, str(TOP / "dev"))
+import damaged_files  # noqa: E402
+import refused_growths  # noqa: E402
+
 SPECS = TOP / "crates/command_line/specs"
 
 # Stands in for `rt`: each crate's folder has the text and the status of its tests.
@@ -118,6 +123,30 @@ class Words(unittest.TestCase):
         self.assertEqual(sorted(found), sorted(words.split()[0] for words, _ in lines_of("commands")
                                                if "SCRIPT" in words))
 
+    def test_the_commands_of_the_formats_are_the_definition(self):
+        text = (TOP / "docs/formats.md").read_text().split("## Commands")[1].split("## Printed text")[0]
+        told = {}
+        for commands, names, options in re.findall(r"^\| (`.*?) \| (.*?) \| (.*) \|$", text, re.M):
+            of = re.search(r"as `(\w+)`", options)
+            taken = [it for it in told[of[1]] if it[0].startswith("--")] if of else []
+            taken += [(name, None, None, None) for name in re.findall(r"\b[A-Z]{4,}\b(?! \()", names)]
+            taken += [(name, None, None, None) for name in re.findall(r"flag `(--\w+)`", options)]
+            for name, *numbers in re.findall(r"(--\w+|[A-Z]+)`? \((\d+)\.\.(\d+)(?:, (\d+))?\)", names + options):
+                taken.append((name, *(int(it) if it else None for it in numbers)))
+            told.update({command: taken for command in re.findall(r"`(\w+)`", commands)})
+        self.assertEqual(sorted(told), sorted(defined_commands()))
+        for name, arguments in defined_commands().items():
+            self.assertCountEqual(told[name], arguments, name)
+
+    def test_other_scripts_name_each_command(self):
+        defined = defined_commands()
+        of_files = [name for name, arguments in defined.items()
+                    if any(it[0].isupper() and it[1] is None for it in arguments)]
+        self.assertCountEqual(damaged_files.COMMANDS, of_files)
+        self.assertEqual({words[0] for words, _ in refused_growths.rows()}, set(defined))
+        # A remark is about a command.
+        self.assertLessEqual({it[0] for it in lines_of("remarks")}, set(defined))
+
     def test_the_kit_is_the_one_of_the_readme(self):
         kit = re.search(r"^kit=(\S+)$", (TOP / "dev/steps.sh").read_text(), re.M)[1]
         self.assertIn(f"`{kit}`", (TOP / "README.md").read_text())
@@ -125,6 +154,13 @@ class Words(unittest.TestCase):
     def wrong(self, *words):
         call = ["bash", "-euc", f'source "{TOP}/dev/words.sh"; wrong_word "$@"', "", *words]
         return subprocess.run(call, stdout=subprocess.PIPE, text=True, check=True).stdout.strip()
+
+    def test_names_are_told_from_options(self):
+        call = f'source "{TOP}/dev/words.sh"; given_names "$@"'
+        for words, names in [("query a --narrow b --eps 3 --windows", "a b"), ("find a --narrow b c", "a b c"),
+                             ("relax --pieces 5 a --eps=3 b", "a b"), ("build -- --eps", "--eps")]:
+            said = subprocess.run(["bash", "-euc", call, "", *words.split()], stdout=subprocess.PIPE, text=True, check=True)
+            self.assertEqual(said.stdout.split(), names.split(), words)
 
     def test_words_that_are_taken(self):
         for words in ["build f", "build f --eps 0", "build --eps=1048576 f", "build --eps +007 f",

@@ -239,6 +239,8 @@ no_number() {
 
 # The words of a call that are names and no options, a line each: most are files.
 given_names() {
+  local flags
+  flags=" $(options | awk -F'|' '$2 == "" { printf "%s ", $1 }')"
   shift
   while [ $# -gt 0 ]; do
     case $1 in
@@ -247,8 +249,9 @@ given_names() {
         [ $# = 0 ] || printf '%s\n' "$@"
         return
         ;;
-      --*=* | --narrow | --windows) ;;
-      --*) shift ;;
+      --*=*) ;;
+      # A flag has no number behind it.
+      --*) case $flags in *" $1 "*) ;; *) shift ;; esac ;;
       *) echo "$1" ;;
     esac
     [ $# = 0 ] || shift
