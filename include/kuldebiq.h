@@ -167,9 +167,7 @@ enum {
     /* A number from 2^63 on is no code of three coordinates. The number is 0. */
     KULDEBIQ_NO_CODE = 17,
     /* The coordinates end within a point. The number is how many they are. */
-    KULDEBIQ_PART_OF_A_POINT = 18,
-    /* There is no such metric. The number is what was given. */
-    KULDEBIQ_NO_SUCH_METRIC = 19
+    KULDEBIQ_PART_OF_A_POINT = 18
 };
 
 /* A status in words. The text lives as long as the program. */
@@ -194,7 +192,6 @@ static inline const char *kuldebiq_status_text(uint32_t status) {
     case KULDEBIQ_NO_INTERVAL: return "a low is above its high, or a high is too great";
     case KULDEBIQ_NO_CODE: return "a number from 2^63 on is no code of three coordinates";
     case KULDEBIQ_PART_OF_A_POINT: return "the coordinates end within a point";
-    case KULDEBIQ_NO_SUCH_METRIC: return "there is no such metric";
     default: return "no status of this version";
     }
 }
@@ -284,19 +281,6 @@ typedef struct kuldebiq_stretch {
     size_t end;
 } kuldebiq_stretch;
 
-/* How far two points are from one another. */
-enum {
-    KULDEBIQ_CHEBYSHEV = 0, /* the greatest difference of a coordinate */
-    KULDEBIQ_EUCLID = 1     /* the square of the distance: the sum of the differences' squares */
-};
-
-/* A place in sorted codes, and how far the point of its code is from a centre. */
-typedef struct kuldebiq_neighbour {
-    uint64_t place;
-    uint64_t distance;      /* by KULDEBIQ_EUCLID the square's lowest 64 bits */
-    uint64_t distance_high; /* how many times 2^64 more: 0 to 3, and 0 by KULDEBIQ_CHEBYSHEV */
-} kuldebiq_neighbour;
-
 /* Sizes and offsets are the same as in the library. */
 #if defined(__cplusplus) && __cplusplus >= 201103L
 #define KULDEBIQ_IS(holds) static_assert(holds, "another layout than the library's")
@@ -321,8 +305,6 @@ KULDEBIQ_IS(offsetof(kuldebiq_update, value) == 16);
 KULDEBIQ_IS(sizeof(kuldebiq_region) == 36 && offsetof(kuldebiq_region, low) == 4);
 KULDEBIQ_IS(offsetof(kuldebiq_region, high) == 20);
 KULDEBIQ_IS(sizeof(kuldebiq_stretch) == 16 && offsetof(kuldebiq_stretch, end) == 8);
-KULDEBIQ_IS(sizeof(kuldebiq_neighbour) == 24 && offsetof(kuldebiq_neighbour, distance) == 8);
-KULDEBIQ_IS(offsetof(kuldebiq_neighbour, distance_high) == 16);
 #endif
 #undef KULDEBIQ_IS
 
@@ -445,22 +427,6 @@ KULDEBIQ_NODISCARD
 kuldebiq_answer kuldebiq_box(const uint64_t *codes, size_t count, const uint64_t *hints,
                              size_t hint_count, const kuldebiq_region *region, size_t from,
                              kuldebiq_stretch *stretch) KULDEBIQ_NOT_NULL((5, 7));
-
-/* Writes the places whose points are nearest to a centre of dims coordinates, the nearest first, and
- * of those that are equally far the lower place first: as many as there is room for, or all. The
- * number is how many were written. The search works in this room, so what lies in it need not be
- * set. metric is KULDEBIQ_CHEBYSHEV or KULDEBIQ_EUCLID.
- *
- * If the codes never fall and all are codes of dims coordinates, no other place stands before one
- * that is written. In any numbers each place is written at most once, with its own distance; of a
- * number from 2^63 on the highest bit doesn't count if dims is 3.
- *
- * Refused with KULDEBIQ_DIMS_OUT_OF_RANGE, KULDEBIQ_COORDINATE_TOO_GREAT or KULDEBIQ_NO_SUCH_METRIC,
- * judged in this order. Then nothing is written. */
-KULDEBIQ_NODISCARD
-kuldebiq_answer kuldebiq_nearest(const uint64_t *codes, size_t count, const uint64_t *hints,
-                                 size_t hint_count, const uint32_t *centre, size_t dims,
-                                 uint32_t metric, kuldebiq_neighbour *neighbours, size_t room);
 
 /* ---- The index ----
  *
