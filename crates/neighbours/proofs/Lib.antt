@@ -1,0 +1,10 @@
+pub mod HeapLemmas
+pub mod CellLemmas
+pub mod KeptLemmas
+pub mod StretchLemmas
+pub mod MetricLemmas
+pub mod BoxLemmas
+pub mod InOrder
+pub mod PartsLemmas
+pub mod NearestLemmas
+pub mod CallerLemmas

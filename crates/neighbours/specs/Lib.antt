@@ -1,0 +1,4 @@
+pub mod Around
+pub mod Chosen
+pub mod Metrics
+pub mod Neighbours
