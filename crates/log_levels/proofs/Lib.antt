@@ -17,3 +17,4 @@ pub mod RangeLemmas
 pub mod LoadLemmas
 pub mod EndLemmas
 pub mod BareLemmas
+pub mod ManyLemmas

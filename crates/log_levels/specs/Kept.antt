@@ -13,6 +13,8 @@ use Rattle.tombstones.specs.Entries.{IsAscending, entry_at, kept}
 use Rattle.log_levels.specs.declared.bare.Bare.{Bare}
 use Rattle.log_levels.specs.declared.heads.First.{First}
 use Rattle.log_levels.specs.declared.upcoming.Upcoming.{Upcoming}
+use Rattle.log_levels.specs.declared.many.Search.{Search}
+use Rattle.log_levels.specs.declared.many.Search.TheVariants.{Done, Open, Near}
 use Rattle.log_levels.specs.declared.walk.Walk.{Walk}
 use Rattle.log_levels.specs.declared.fault.MapFault.{MapFault}
 use Rattle.log_levels.specs.declared.fault.MapFault.TheVariants.{Full, NoMemory}
@@ -219,3 +221,22 @@ pub record IsLeastLeft (held : Held) (places : List ℕ) (low : ℕ) (found : Op
 -- how much a walk has left at most, in keys and in places
 abbrev pub left_of : List ℕ → ℕ → ℕ
 left_of places low = 2 ^ 64 - low + sum_by (λ place. 2 ^ 32 - place) places
+
+-- what a search is once a list was searched too, which has this entry with the key
+abbrev pub searched : Option Entry → Search → Search
+searched found (Done value) = Done value
+searched None Open = Open
+searched None (Near start) = Open
+searched (Some entry) Open = Done entry.value
+searched (Some entry) (Near start) = Done entry.value
+
+-- a search in such a list has begun: what it comes to is the same, and it is open only where there is no entry
+pub record IsBegun (found : Option Entry) (old new : Search) : Type 0 where
+  pub same : searched found new ≡ searched found old
+  pub missed : new ≡ Open → found ≡ None
+
+-- the value that a search found
+abbrev pub found_by : Search → Option ℕ
+found_by (Done value) = value
+found_by Open = None
+found_by (Near start) = None

@@ -1,5 +1,6 @@
 // The least and the greatest pair of a map, and taking them out.
-ghost use Rattle.std.specs.Prelude.{◌≡◌, ◌↔◌, ◌++◌, [], List, IsTrue, IfOk, is_some, drop};
+ghost use Rattle.std.specs.Prelude.{◌≡◌, ◌↔◌, ◌++◌, [], List, None, Ok, IsTrue, IfOk, OnErr};
+ghost use Rattle.std.specs.Prelude.{is_some, drop};
 ghost use Rattle.log_levels.specs.declared.update.Update.{Update};
 ghost use Rattle.log_levels.specs.Accepted.{taking};
 ghost use Rattle.log_levels.specs.Maps.{map_after, value_at, first_of, last_of};
@@ -46,7 +47,7 @@ impl LogMap {
     }
 
     /// Takes the least key out of the map, and gives it with its value. It is an entry, a deletion;
-    /// none where the map has no key.
+    /// none where the map has no key, which is as it was then.
     ///
     /// # Errors
     ///
@@ -54,6 +55,10 @@ impl LogMap {
     pub fn pop_first(&mut self, alloc: Global) -> Result<Option<(u64, u64)>, MapFault>
         ensures first { IfOk result (λ first. (updates : List Update) →
             StandsFor self.old updates → first ≡ first_of (map_after updates)) }
+        ensures none { (updates : List Update) → StandsFor self.old updates →
+            first_of (map_after updates) ≡ None → result ≡ Ok None }
+        ensures unchanged_none { IfOk result (λ first. first ≡ None → self.new ≡ self.old) }
+        ensures unchanged { OnErr result (self.new ≡ self.old) }
         ensures taken { (updates : List Update) → StandsFor self.old updates →
             AreApplied self.old self.new (taking (first_of (map_after updates))) result }
         ensures rest { (updates : List Update) →
@@ -74,7 +79,7 @@ impl LogMap {
     }
 
     /// Takes the greatest key out of the map, and gives it with its value. It is an entry, a
-    /// deletion; none where the map has no key.
+    /// deletion; none where the map has no key, which is as it was then.
     ///
     /// # Errors
     ///
@@ -82,6 +87,10 @@ impl LogMap {
     pub fn pop_last(&mut self, alloc: Global) -> Result<Option<(u64, u64)>, MapFault>
         ensures last { IfOk result (λ last. (updates : List Update) →
             StandsFor self.old updates → last ≡ last_of (map_after updates)) }
+        ensures none { (updates : List Update) → StandsFor self.old updates →
+            last_of (map_after updates) ≡ None → result ≡ Ok None }
+        ensures unchanged_none { IfOk result (λ last. last ≡ None → self.new ≡ self.old) }
+        ensures unchanged { OnErr result (self.new ≡ self.old) }
         ensures taken { (updates : List Update) → StandsFor self.old updates →
             AreApplied self.old self.new (taking (last_of (map_after updates))) result }
     {

@@ -21,6 +21,7 @@ mod growth;
 mod heads;
 mod load;
 mod log_map;
+mod many;
 mod names;
 mod questions;
 mod range;

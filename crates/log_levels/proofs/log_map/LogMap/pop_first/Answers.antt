@@ -24,3 +24,12 @@ returns-in-Ok-clause-rest c = rest-first
 
 pub returns-in-Err-clause-rest : goal.returns-in-Err-clause-rest
 returns-in-Err-clause-rest c = rest-first
+
+pub returns-in-Ok-clause-none : goal.returns-in-Ok-clause-none
+returns-in-Ok-clause-none c = λ updates stands none. let is = c.in-Some.ensures updates stands in cc
+
+pub returns-in-Err-clause-none : goal.returns-in-Err-clause-none
+returns-in-Err-clause-none c = λ updates stands none. let is = c.in-Some.ensures updates stands in cc
+
+pub returns-in-Err-clause-unchanged : goal.returns-in-Err-clause-unchanged
+returns-in-Err-clause-unchanged c = let (updates, stands) = c.accepted.ensures.stands in c.in-Err.ensures.unchanged

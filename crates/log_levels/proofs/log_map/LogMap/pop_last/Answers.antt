@@ -14,3 +14,12 @@ leave_bare-requires c = λ entries key cut at_least within.
     one-value c.del.new.self entries (entries_of taken) key cut now
     ∙ value-none taken key
     (value-taken-last updates c.in-Some.key c.in-Some.value key (c.in-Some.ensures updates stands) at_least within)
+
+pub returns-in-Ok-clause-none : goal.returns-in-Ok-clause-none
+returns-in-Ok-clause-none c = λ updates stands none. let is = c.in-Some.ensures updates stands in cc
+
+pub returns-in-Err-clause-none : goal.returns-in-Err-clause-none
+returns-in-Err-clause-none c = λ updates stands none. let is = c.in-Some.ensures updates stands in cc
+
+pub returns-in-Err-clause-unchanged : goal.returns-in-Err-clause-unchanged
+returns-in-Err-clause-unchanged c = let (updates, stands) = c.accepted.ensures.stands in c.in-Err.ensures.unchanged
