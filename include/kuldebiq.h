@@ -526,7 +526,9 @@ kuldebiq_answer kuldebiq_index_segment(kuldebiq_index *index, uint32_t level, ui
  *
  * An ordered map of keys to values. A map accepts a certain number of entries in its life and no
  * more: a put or a deletion is one entry, whatever was at the key, and a sweep (the deletion of a
- * range of keys) is one for each key that it deletes. */
+ * range of keys) is one for each key that it deletes. With 26 levels it accepts 4,294,967,295: at a
+ * million a second they last 71 minutes. A map that is to go on is made anew by
+ * kuldebiq_map_compact when it is full, with one entry for each key. */
 
 /* Makes an empty map, and has the handle hold it. levels is 1 to 26. The number is how many entries
  * the map accepts: 64 * 2^levels - 1. What the handle held before is freed.

@@ -14,7 +14,8 @@ loop-from-preserved c =
       count = same_len_mid from (end - from) values block c.get_block.auto.values ∙ c.loop-from.invariant.count;
       inside = inside;
       values = λ updates stands. values-more (value_at (map_after updates)) keys values block from end up inside
-          c.loop-from.invariant.count (c.loop-from.invariant.values updates stands) (c.get_block.ensures updates stands);
+          c.loop-from.invariant.count
+          (c.loop-from.invariant.values updates stands) (c.get_block.ensures updates stands);
     }
 
 pub returns : goal.returns
