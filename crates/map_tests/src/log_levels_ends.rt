@@ -50,6 +50,23 @@ fn check_ends<R: Abort>(rt: &R, map: &LogMap, plain: &[Option<u64>], q: u64) {
     assert_eq!(rt; (map.is_empty(), map.contains(q)), (least.is_none(), has));
 }
 
+/// Asks for all keys of the list and one behind them in one call, the greatest first.
+fn check_many<R: Abort>(rt: &R, map: &LogMap, plain: &[Option<u64>]) {
+    let mut keys = [0; 308];
+    for k in 0..308 {
+        keys[k] = 307 - k as u64;
+    }
+    let mut values = [Some(7); 308];
+    map.get_many(&keys, &mut values);
+    for k in 0..308 {
+        let expected = match plain.get(307 - k) {
+            Some(value) => *value,
+            None => None,
+        };
+        assert_eq!(rt; values[k], expected);
+    }
+}
+
 /// Updates with sweeps, takes at both ends, a put into the stretch that they left, and now and then
 /// the map compacted; at the end all keys are taken.
 #[test]
@@ -68,6 +85,7 @@ fn keys_are_taken_at_both_ends(rt: HostRuntime) -> Result<(), Fail> {
         map.put(rt.alloc(), round % 10, round)?;
         set(&mut plain, round % 10, Some(round));
         check_ends(&rt, &map, &plain, round);
+        check_many(&rt, &map, &plain);
         if round % 16 == 15 {
             map = map.compacted(rt.alloc(), 10)?;
         }
@@ -75,6 +93,7 @@ fn keys_are_taken_at_both_ends(rt: HostRuntime) -> Result<(), Fail> {
     for turn in 0..307 {
         take(&rt, &mut map, &mut plain, turn % 2 == 0)?;
         check_ends(&rt, &map, &plain, turn);
+        check_many(&rt, &map, &plain);
     }
     assert!(rt; map.is_empty());
     Ok(())

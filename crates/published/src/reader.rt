@@ -1,6 +1,6 @@
 // Readers, looks and notes. None of their calls waits or takes memory.
 ghost use Rattle.std.specs.Prelude.{◌≡◌, ◌↔◌, ◌≤◌, ◌++◌, [], Some, OnOk, OnErr, IsTrue, is_some};
-ghost use Rattle.std.specs.Prelude.{length, take, drop, min};
+ghost use Rattle.std.specs.Prelude.{length, map, take, drop, min};
 ghost use mathlib.Core.List.{IsPrefix};
 ghost use Rattle.edge.specs.Risen.{HasRisen};
 ghost use Rattle.log_levels.specs.Maps.{map_after, value_at, next_from, count_between};
@@ -194,6 +194,16 @@ impl Look {
         ensures { result ≡ value_at (map_after (updates_of self.now.batches)) key }
     {
         self.reading.get().get(key)
+    }
+
+    /// Writes the value at each key, if the map has the key, at its place. It is faster than
+    /// [`Look::get`] for each: the levels are searched for 32 keys side by side.
+    pub fn get_many(&self, keys: &[u64], values: &mut [Option<u64>])
+        requires { length values.old ≡ length keys.now }
+        ensures { values.new ≡
+            map (value_at (map_after (updates_of self.now.batches))) keys.now }
+    {
+        self.reading.get().get_many(keys, values);
     }
 
     /// The least key not below `q` with its value, if there is one.

@@ -1,6 +1,6 @@
 // A version of the map, which readers take whole.
 ghost use Rattle.std.specs.Prelude.{◌≡◌, ◌↔◌, ◌++◌, [], IfOk, IsTrue, length, take, drop, min};
-ghost use Rattle.std.specs.Prelude.{is_some};
+ghost use Rattle.std.specs.Prelude.{is_some, map};
 ghost use Rattle.std.specs.Arc.{arc_value};
 ghost use Rattle.log_levels.specs.Shapes.{StandsFor};
 ghost use Rattle.log_levels.specs.Maps.{map_after, value_at, next_from, count_between};
@@ -64,6 +64,15 @@ impl Version {
         ensures { result ≡ value_at (map_after (updates_of self.now.batches)) key }
     {
         self.map.get(key)
+    }
+
+    /// Writes the value of each key at its place.
+    pub fn get_many(&self, keys: &[u64], values: &mut [Option<u64>])
+        requires { length values.old ≡ length keys.now }
+        ensures { values.new ≡
+            map (value_at (map_after (updates_of self.now.batches))) keys.now }
+    {
+        self.map.get_many(keys, values);
     }
 
     /// The least key not below this one, with its value.
