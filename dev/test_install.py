@@ -45,7 +45,8 @@ class Install(unittest.TestCase):
         self.addCleanup(room.cleanup)
         self.room = pathlib.Path(room.name)
         self.top = self.room / "house"
-        for name in ("examples/install.sh", "dev/steps.sh", "include/kuldebiq.h", "crates.txt"):
+        for name in ("examples/install.sh", "examples/pack.sh", "dev/steps.sh", "include/kuldebiq.h",
+                     "include/kuldebiq.hpp", "crates.txt", "LICENSE"):
             (self.top / name).parent.mkdir(parents=True, exist_ok=True)
             shutil.copy(TOP / name, self.top / name)
         for name in (TOP / "crates").iterdir():
@@ -81,19 +82,55 @@ class Install(unittest.TestCase):
         self.assertEqual((ran.returncode, ran.stdout), (0, ""), ran.stderr)
         there = self.room / "there"
         found = sorted(str(it.relative_to(there)) for it in there.rglob("*") if not it.is_dir())
-        self.assertEqual(found, ["include/kuldebiq.h", "lib/libkuldebiq.a", "lib/libkuldebiq.so",
-                                 "lib/libkuldebiq.so.0", "lib/pkgconfig/kuldebiq.pc"])
+        self.assertEqual(found, ["include/kuldebiq.h", "include/kuldebiq.hpp",
+                                 "lib/cmake/kuldebiq/kuldebiq-config-version.cmake",
+                                 "lib/cmake/kuldebiq/kuldebiq-config.cmake", "lib/libkuldebiq.a",
+                                 "lib/libkuldebiq.so", "lib/libkuldebiq.so.0.1",
+                                 "lib/pkgconfig/kuldebiq.pc"])
         names = subprocess.run(["nm", "-D", "--defined-only", there / "lib/libkuldebiq.so"],
                                stdout=subprocess.PIPE, text=True, check=True).stdout
-        self.assertEqual([it.split()[-1] for it in names.splitlines()], ["kuldebiq_one"])
-        self.assertIn(f"prefix={there}\n", (there / "lib/pkgconfig/kuldebiq.pc").read_text())
+        self.assertEqual(sorted(it.split()[-1] for it in names.splitlines()),
+                         ["KULDEBIQ_0.1", "kuldebiq_one@@KULDEBIQ_0.1"])
+        for name in ("pkgconfig/kuldebiq.pc", "cmake/kuldebiq/kuldebiq-config.cmake"):
+            text = (there / "lib" / name).read_text()
+            self.assertNotIn(str(self.room), text)
+            self.assertNotIn("rpath", text)
 
     def test_destdir(self):
         ran = self.run_it("/usr/local", DESTDIR="staged")
         self.assertEqual(ran.returncode, 0, ran.stderr)
         pc = self.room / "staged/usr/local/lib/pkgconfig/kuldebiq.pc"
-        self.assertIn("prefix=/usr/local\n", pc.read_text())
+        self.assertIn("prefix=${pcfiledir}/../..\n", pc.read_text())
         self.assertNotIn("staged", pc.read_text())
+
+    def test_the_archive(self):
+        ran = subprocess.run([self.top / "examples/pack.sh", "packed"], cwd=self.room, env=self.environment,
+                             stdout=subprocess.PIPE, stderr=subprocess.PIPE, text=True)
+        self.assertEqual((ran.returncode, ran.stdout), (0, "packed/kuldebiq-0.1.0-linux-x86_64.tar.gz\n"))
+        empty = self.room / "empty"
+        empty.mkdir()
+        subprocess.run(["tar", "-C", empty, "-xzf", self.room / ran.stdout.strip()], check=True)
+        there = empty / "kuldebiq-0.1.0-linux-x86_64"
+        self.assertEqual(sorted(it.name for it in there.iterdir()), ["LICENSE", "include", "lib"])
+        self.put("user/CMakeLists.txt", """
+            cmake_minimum_required(VERSION 3.16)
+            project(user C)
+            find_package(kuldebiq 0.1 REQUIRED)
+            add_executable(user user.c)
+            target_link_libraries(user kuldebiq::kuldebiq)
+        """)
+        self.put("user/user.c", '#include <kuldebiq.h>\nint kuldebiq_one(void);\n'
+                                'int main(void) { return kuldebiq_one() - 1; }\n')
+        if shutil.which("pkg-config"):
+            flags = subprocess.run(["pkg-config", "--cflags", "--libs", "kuldebiq"], stdout=subprocess.PIPE,
+                                   env={**self.environment, "PKG_CONFIG_PATH": there / "lib/pkgconfig"},
+                                   text=True, check=True).stdout.split()
+            subprocess.run(["cc", "user/user.c", *flags, "-o", "program"], cwd=self.room, check=True)
+            subprocess.run([self.room / "program"], env={"LD_LIBRARY_PATH": there / "lib"}, check=True)
+        if shutil.which("cmake"):
+            for words in (["-S", "user", "-B", "built", f"-DCMAKE_PREFIX_PATH={there}"], ["--build", "built"]):
+                subprocess.run(["cmake", *words], cwd=self.room, check=True, stdout=subprocess.DEVNULL)
+            subprocess.run([self.room / "built/user"], check=True)
 
     def test_crates_are_proved_side_by_side_once(self):
         ran = self.run_it("there")
@@ -136,7 +173,7 @@ class Install(unittest.TestCase):
                 break
         os.close(master)
         self.assertEqual(ran.wait(), 0)
-        self.assertRegex(seen, rb"kuldebiq: proving side by side, \d+ of 14 crates done, \d+:\d\d")
+        self.assertRegex(seen, rb"kuldebiq: proving side by side, \d+ of 16 crates done, \d+:\d\d")
 
 
 if __name__ == "__main__":

@@ -5,10 +5,11 @@
 #     cc walk.c $(PKG_CONFIG_PATH=PREFIX/lib/pkgconfig pkg-config --cflags --libs kuldebiq)
 #
 # PREFIX/lib/libkuldebiq.a with the three functions of memory inside, PREFIX/lib/libkuldebiq.so,
-# which exports the calls alone, PREFIX/include/kuldebiq.h, and PREFIX/lib/pkgconfig/kuldebiq.pc.
-# With DESTDIR in the environment the files go under DESTDIR/PREFIX and name PREFIX alone. The
-# crates below are proved first, where that wasn't done on this machine: the kit makes no static
-# library of sources that aren't proved. Each is told on standard error as it is done.
+# which exports the calls alone, PREFIX/include with the headers for C and C++, and under PREFIX/lib
+# what pkg-config and CMake read. No file names a folder, so PREFIX may be moved. With DESTDIR in the
+# environment the files go under DESTDIR/PREFIX. The crates below are proved first, where that wasn't
+# done on this machine: the kit makes no static library of sources that aren't proved. Each is told
+# on standard error as it is done.
 set -eu
 if [ $# -ne 1 ]; then
     echo 'usage: [DESTDIR=FOLDER] examples/install.sh PREFIX' >&2
@@ -115,28 +116,58 @@ if ! told "$made/log" crates/kuldebiq lib proof_so_far "$made/log" "$made/order"
 fi
 
 version=$(sed -n 's/^#define KULDEBIQ_VERSION_TEXT "\(.*\)"$/\1/p' include/kuldebiq.h)
+# Below 1.0 a library takes the place of one of the same minor version alone.
+interface=${version%.*}
+object=libkuldebiq.so.$interface
 memory=$(dirname "$(rt doc)")/c/liblibc_c.a
 printf 'create %s\naddlib %s\naddlib %s\nsave\nend\n' "$made/libkuldebiq.a" \
     crates/kuldebiq/out/libkuldebiq.a "$memory" | ar -M
-echo '{ global: kuldebiq_*; local: *; };' >"$made/exports"
-"$cc" -shared -o "$made/libkuldebiq.so" -Wl,--whole-archive "$made/libkuldebiq.a" \
-    -Wl,--no-whole-archive -Wl,--version-script="$made/exports" -Wl,-soname,libkuldebiq.so.0 \
+echo "KULDEBIQ_$interface { global: kuldebiq_*; local: *; };" >"$made/exports"
+"$cc" -shared -o "$made/$object" -Wl,--whole-archive "$made/libkuldebiq.a" \
+    -Wl,--no-whole-archive -Wl,--version-script="$made/exports" "-Wl,-soname,$object" \
     -Wl,--no-undefined
 
-mkdir -p "$to/lib/pkgconfig" "$to/include"
-install -m 644 include/kuldebiq.h "$to/include/"
+mkdir -p "$to/lib/pkgconfig" "$to/lib/cmake/kuldebiq" "$to/include"
+install -m 644 include/kuldebiq.h include/kuldebiq.hpp "$to/include/"
 install -m 644 "$made/libkuldebiq.a" "$to/lib/"
-install -m 755 "$made/libkuldebiq.so" "$to/lib/libkuldebiq.so.0"
-ln -sf libkuldebiq.so.0 "$to/lib/libkuldebiq.so"
-cat >"$to/lib/pkgconfig/kuldebiq.pc" <<TEXT
-prefix=$prefix
-libdir=\${prefix}/lib
-includedir=\${prefix}/include
+install -m 755 "$made/$object" "$to/lib/"
+ln -sf "$object" "$to/lib/libkuldebiq.so"
+cat >"$to/lib/pkgconfig/kuldebiq.pc" <<'TEXT'
+prefix=${pcfiledir}/../..
+libdir=${prefix}/lib
+includedir=${prefix}/include
 
 Name: kuldebiq
 Description: The PGM-index over sorted keys, and an ordered map that changes
-Version: $version
-Libs: -L\${libdir} -lkuldebiq -Wl,-rpath,\${libdir}
-Cflags: -I\${includedir}
+Libs: -L${libdir} -lkuldebiq
+Cflags: -I${includedir}
+TEXT
+echo "Version: $version" >>"$to/lib/pkgconfig/kuldebiq.pc"
+cat >"$to/lib/cmake/kuldebiq/kuldebiq-config.cmake" <<TEXT
+# Targets: kuldebiq::kuldebiq, the shared library, and kuldebiq::kuldebiq_static, the archive.
+get_filename_component(kuldebiq_top "\${CMAKE_CURRENT_LIST_DIR}/../../.." ABSOLUTE)
+if(NOT TARGET kuldebiq::kuldebiq)
+    add_library(kuldebiq::kuldebiq SHARED IMPORTED)
+    set_target_properties(kuldebiq::kuldebiq PROPERTIES
+        IMPORTED_LOCATION "\${kuldebiq_top}/lib/$object" IMPORTED_SONAME $object
+        INTERFACE_INCLUDE_DIRECTORIES "\${kuldebiq_top}/include")
+    add_library(kuldebiq::kuldebiq_static STATIC IMPORTED)
+    set_target_properties(kuldebiq::kuldebiq_static PROPERTIES
+        IMPORTED_LOCATION "\${kuldebiq_top}/lib/libkuldebiq.a"
+        INTERFACE_INCLUDE_DIRECTORIES "\${kuldebiq_top}/include")
+endif()
+unset(kuldebiq_top)
+TEXT
+cat >"$to/lib/cmake/kuldebiq/kuldebiq-config-version.cmake" <<TEXT
+set(PACKAGE_VERSION $version)
+set(kuldebiq_wanted "\${PACKAGE_FIND_VERSION_MAJOR}.\${PACKAGE_FIND_VERSION_MINOR}")
+if(NOT PACKAGE_FIND_VERSION OR (kuldebiq_wanted STREQUAL "$interface" AND
+    NOT PACKAGE_FIND_VERSION VERSION_GREATER PACKAGE_VERSION))
+    set(PACKAGE_VERSION_COMPATIBLE TRUE)
+endif()
+if(PACKAGE_FIND_VERSION VERSION_EQUAL PACKAGE_VERSION)
+    set(PACKAGE_VERSION_EXACT TRUE)
+endif()
+unset(kuldebiq_wanted)
 TEXT
 say "$version is in $to"

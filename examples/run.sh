@@ -89,17 +89,36 @@ heeds() {
     fi
 }
 
-# The shared object exports the calls alone, and pkg-config finds it.
-if nm -D --defined-only "$prefix/lib/libkuldebiq.so" | grep -v ' T kuldebiq_'; then
-    echo "examples: the shared object exports other names too"
+# The shared object exports the calls that the header declares, and nothing else.
+"$cc" -E -P -I"$prefix/include" -include kuldebiq.h -x c /dev/null | grep -v '^static' |
+    grep -o '\bkuldebiq_[a-z0-9_]*(' | tr -d '(' | sort -u >"$made/declared"
+nm -D --defined-only "$prefix/lib/libkuldebiq.so" | awk '$2 == "T" { sub(/@.*/, "", $3); print $3 }' |
+    sort -u >"$made/exported"
+if ! diff "$made/declared" "$made/exported" ||
+    nm -D --defined-only "$prefix/lib/libkuldebiq.so" | grep -v ' [TA] \(kuldebiq_\|KULDEBIQ_\)'; then
+    echo "examples: the shared object exports other names than the header declares"
     exit 1
 fi
+
+# The archive, unpacked in an empty folder, is found by pkg-config and by CMake.
+examples/pack.sh "$made" >"$log" 2>&1 || { tail -n 20 "$log"; exit 1; }
+mkdir "$made/empty"
+tar -C "$made/empty" -xzf "$made"/kuldebiq-*-linux-x86_64.tar.gz
+unpacked=$(echo "$made"/empty/kuldebiq-*)
 if have pkg-config; then
-    export PKG_CONFIG_PATH=$prefix/lib/pkgconfig
     # The words are separate ones.
     # shellcheck disable=SC2046
-    "$cc" examples/c/walk.c $(pkg-config --cflags --libs kuldebiq) -o "$made/walk"
-    "$made/walk" | diff examples/c/walk.out -
+    "$cc" examples/c/walk.c $(PKG_CONFIG_PATH=$unpacked/lib/pkgconfig pkg-config --cflags --libs kuldebiq) \
+        -o "$made/walk"
+    LD_LIBRARY_PATH=$unpacked/lib "$made/walk" | diff examples/c/walk.out -
+fi
+if have cmake && have "$cxx"; then
+    printf '%s\n' 'cmake_minimum_required(VERSION 3.16)' 'project(walk C)' \
+        'find_package(kuldebiq 0.1 REQUIRED)' "add_executable(walk $PWD/examples/c/walk.c)" \
+        'target_link_libraries(walk kuldebiq::kuldebiq)' >"$made/CMakeLists.txt"
+    cmake -S "$made" -B "$made/build" "-DCMAKE_PREFIX_PATH=$unpacked" >"$log" 2>&1 &&
+        cmake --build "$made/build" >>"$log" 2>&1 || { tail -n 20 "$log"; exit 1; }
+    "$made/build/walk" | diff examples/c/walk.out -
 fi
 
 heeds "$cc" c -std=c11
@@ -107,14 +126,16 @@ both "$cc" examples/c/walk.c "" -std=c11
 both "$cc" examples/c/mapped.c "" -std=c11
 both "$cc" examples/c/parts.c "" -std=c11
 both "$cc" examples/c/rows.c "" -std=c11
+both "$cc" examples/c/pages.c "" -std=c11
+try "$cc" examples/c/stack.c "" -std=c11
 both "$cc" examples/c/no_memory.c "" -std=c11
 ran="C"
 if have "$cxx"; then
     heeds "$cxx" cpp -std=c++17
-    both "$cxx" examples/cpp/walk.cpp "" -std=c++17
     both "$cxx" examples/cpp/compare.cpp 50000 -std=gnu++17 -pthread -Wno-pedantic
     both "$cxx" examples/cpp/threads.cpp "" -std=c++17 -pthread
     if has_spans "$cxx"; then
+        both "$cxx" examples/cpp/walk.cpp "" -std=c++20
         both "$cxx" examples/cpp/hints.cpp "" -std=c++20
     fi
     ran="$ran, C++"

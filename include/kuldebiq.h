@@ -22,10 +22,11 @@
  *
  * Handles. A kuldebiq_index, a kuldebiq_map or a kuldebiq_hints is a variable of yours that holds
  * an index, a map or hints, or nothing. Begin with KULDEBIQ_NOTHING. From then on only the calls
- * change it: don't copy it, don't write to it, and don't free what it points to. The _free call
- * frees what the handle holds and leaves it holding nothing; it may be called again. A call that
- * fills a handle frees what it held before. Each other call refuses a handle that holds nothing,
- * with KULDEBIQ_NOTHING_HELD.
+ * change it, and nobody else frees what it points to. A handle may move: copy it to another place,
+ * free there first what that one held, and set the old one to KULDEBIQ_NOTHING. Two copies are
+ * never both used. The _free call frees what the handle holds and leaves it holding nothing; it may
+ * be called again. A call that fills a handle frees what it held before. Each other call refuses a
+ * handle that holds nothing, with KULDEBIQ_NOTHING_HELD.
  *
  * Pointers. These are rules, since a call can't test its pointers. Each pointer is not null, is
  * aligned as its type needs, and points to as many values of its type as the call is told. The
@@ -63,18 +64,22 @@
  * goes along all the keys that it counts. kuldebiq_map_next and kuldebiq_map_first search each level
  * once and go along the deleted keys that they pass, each of which costs as much as another key;
  * kuldebiq_map_previous and kuldebiq_map_last search the levels anew at each of them. A map
- * remembers one stretch of numbers without a key, which a sweep leaves and a deletion doesn't. A
- * search that begins in it goes on behind it. So a queue takes its first key by kuldebiq_map_first
- * and then sweeps from 0 to that key: after kuldebiq_map_del each search would pass all the keys
- * that were taken before.
+ * remembers one stretch of numbers without a key: a sweep leaves one, kuldebiq_map_pop_first up to
+ * the key that it took, kuldebiq_map_pop_last from that key on, and kuldebiq_map_del none. A search
+ * that begins in it goes on behind it. So a queue takes its first key by kuldebiq_map_pop_first:
+ * after kuldebiq_map_first and kuldebiq_map_del each search would pass all the keys that were taken
+ * before.
  *
  * A put writes to the buffer. Each 64th put merges levels: half of the time only the lowest, and at
  * the longest all of them, which takes as long as loading the whole map. A level that has an entry
  * for a key keeps that entry, its place in the level's index and some bits of a filter. Old entries
  * go when their levels are merged or the map is compacted.
  *
- * Surroundings. Make no call from a signal handler, or in the forked child of a process with
- * threads, and give each call enough stack.
+ * Surroundings. The library is for Linux on x86-64-v2. kuldebiq_version and those calls of "Lookups
+ * by hints" that have no handle only read what they are given and write to the caller's room, so
+ * they may also be made from a signal handler and in the forked child of a process with threads.
+ * Make no other call there. 64 KiB of stack are enough for each call; that is measured, and not
+ * proved (examples/c/stack.c, whose calls took 6 KiB).
  *
  * Memory. The library asks for memory by three functions. The archive that examples/install.sh
  * makes has them inside, over malloc, realloc and free. A program that links crates/kuldebiq's own
@@ -167,7 +172,9 @@ enum {
     /* A number from 2^63 on is no code of three coordinates. The number is 0. */
     KULDEBIQ_NO_CODE = 17,
     /* The coordinates end within a point. The number is how many they are. */
-    KULDEBIQ_PART_OF_A_POINT = 18
+    KULDEBIQ_PART_OF_A_POINT = 18,
+    /* There is no such metric. The number is what was given. */
+    KULDEBIQ_NO_SUCH_METRIC = 19
 };
 
 /* A status in words. The text lives as long as the program. */
@@ -192,6 +199,7 @@ static inline const char *kuldebiq_status_text(uint32_t status) {
     case KULDEBIQ_NO_INTERVAL: return "a low is above its high, or a high is too great";
     case KULDEBIQ_NO_CODE: return "a number from 2^63 on is no code of three coordinates";
     case KULDEBIQ_PART_OF_A_POINT: return "the coordinates end within a point";
+    case KULDEBIQ_NO_SUCH_METRIC: return "there is no such metric";
     default: return "no status of this version";
     }
 }
@@ -202,22 +210,21 @@ typedef struct kuldebiq_answer {
 } kuldebiq_answer;
 
 /* A handle to an index, or to nothing. */
-typedef struct kuldebiq_index {
-    void *held;
-} kuldebiq_index;
+typedef struct kuldebiq_held_index *kuldebiq_index;
 
 /* A handle to a map, or to nothing. */
-typedef struct kuldebiq_map {
-    void *held;
-} kuldebiq_map;
+typedef struct kuldebiq_held_map *kuldebiq_map;
 
 /* A handle to hints, or to nothing. */
-typedef struct kuldebiq_hints {
-    void *held;
-} kuldebiq_hints;
+typedef struct kuldebiq_held_hints *kuldebiq_hints;
 
-/* What a handle begins with: kuldebiq_index index = KULDEBIQ_NOTHING; */
-#define KULDEBIQ_NOTHING {NULL}
+/* What a handle begins with, kuldebiq_index index = KULDEBIQ_NOTHING; and what one becomes that
+ * moved: *from = KULDEBIQ_NOTHING; */
+#if defined(__cplusplus) && __cplusplus >= 201103L
+#define KULDEBIQ_NOTHING nullptr
+#else
+#define KULDEBIQ_NOTHING NULL
+#endif
 
 /* A segment of a level: where its run of places begins, its line, and a witness that the run had to
  * end, which is three places that no line fits.
@@ -281,6 +288,26 @@ typedef struct kuldebiq_stretch {
     size_t end;
 } kuldebiq_stretch;
 
+/* What hints say of themselves. It need not be true of any keys. */
+typedef struct kuldebiq_hints_facts {
+    uint64_t known;   /* 1 if they are in the format, and else 0, as the rest is then */
+    uint64_t epsilon; /* the error bound that they were made with */
+    uint64_t lines;   /* how many lines they have */
+} kuldebiq_hints_facts;
+
+/* How far two points are from one another. */
+enum {
+    KULDEBIQ_CHEBYSHEV = 0, /* the greatest difference of a coordinate */
+    KULDEBIQ_EUCLID = 1     /* the square of the distance: the sum of the differences' squares */
+};
+
+/* A place in sorted codes, and how far the point of its code is from a centre. */
+typedef struct kuldebiq_neighbour {
+    uint64_t place;
+    uint64_t distance;      /* by KULDEBIQ_EUCLID the square's lowest 64 bits */
+    uint64_t distance_high; /* how many times 2^64 more: 0 to 3, and 0 by KULDEBIQ_CHEBYSHEV */
+} kuldebiq_neighbour;
+
 /* Sizes and offsets are the same as in the library. */
 #if defined(__cplusplus) && __cplusplus >= 201103L
 #define KULDEBIQ_IS(holds) static_assert(holds, "another layout than the library's")
@@ -290,9 +317,8 @@ typedef struct kuldebiq_stretch {
 #ifdef KULDEBIQ_IS
 KULDEBIQ_IS(sizeof(void *) == 8 && sizeof(size_t) == 8);
 KULDEBIQ_IS(sizeof(kuldebiq_answer) == 16 && offsetof(kuldebiq_answer, number) == 8);
-KULDEBIQ_IS(sizeof(kuldebiq_index) == 8 && offsetof(kuldebiq_index, held) == 0);
-KULDEBIQ_IS(sizeof(kuldebiq_map) == 8 && offsetof(kuldebiq_map, held) == 0);
-KULDEBIQ_IS(sizeof(kuldebiq_hints) == 8 && offsetof(kuldebiq_hints, held) == 0);
+KULDEBIQ_IS(sizeof(kuldebiq_index) == 8 && sizeof(kuldebiq_map) == 8);
+KULDEBIQ_IS(sizeof(kuldebiq_hints) == 8);
 KULDEBIQ_IS(sizeof(kuldebiq_segment) == 64 && offsetof(kuldebiq_segment, a) == 4);
 KULDEBIQ_IS(offsetof(kuldebiq_segment, b) == 8 && offsetof(kuldebiq_segment, side) == 12);
 KULDEBIQ_IS(offsetof(kuldebiq_segment, p) == 16 && offsetof(kuldebiq_segment, q) == 20);
@@ -305,6 +331,10 @@ KULDEBIQ_IS(offsetof(kuldebiq_update, value) == 16);
 KULDEBIQ_IS(sizeof(kuldebiq_region) == 36 && offsetof(kuldebiq_region, low) == 4);
 KULDEBIQ_IS(offsetof(kuldebiq_region, high) == 20);
 KULDEBIQ_IS(sizeof(kuldebiq_stretch) == 16 && offsetof(kuldebiq_stretch, end) == 8);
+KULDEBIQ_IS(sizeof(kuldebiq_hints_facts) == 24 && offsetof(kuldebiq_hints_facts, epsilon) == 8);
+KULDEBIQ_IS(offsetof(kuldebiq_hints_facts, lines) == 16);
+KULDEBIQ_IS(sizeof(kuldebiq_neighbour) == 24 && offsetof(kuldebiq_neighbour, distance) == 8);
+KULDEBIQ_IS(offsetof(kuldebiq_neighbour, distance_high) == 16);
 #endif
 #undef KULDEBIQ_IS
 
@@ -320,7 +350,10 @@ uint32_t kuldebiq_version(void);
  * a place that brackets the question: the key before that place is below the question, unless the
  * place is 0, and the key at it isn't, unless the place is count. There may be several such places.
  * Which one is returned depends on the hints, and kuldebiq_find_many may write another one than
- * kuldebiq_find returns. */
+ * kuldebiq_find returns.
+ *
+ * A call whose name ends with 32 is the same for keys of 32 bits each. Hints and questions have 64
+ * bits in all calls. */
 
 /* Returns how many keys are below the question, if the keys never fall: the place of the first key
  * that is not below the question, or count if there is none. In any keys it returns a place from 0
@@ -335,6 +368,11 @@ size_t kuldebiq_find(const uint64_t *keys, size_t count, const uint64_t *hints, 
 size_t kuldebiq_find_past(const uint64_t *keys, size_t count, const uint64_t *hints,
                           size_t hint_count, uint64_t question);
 
+size_t kuldebiq_find32(const uint32_t *keys, size_t count, const uint64_t *hints,
+                       size_t hint_count, uint64_t question);
+size_t kuldebiq_find_past32(const uint32_t *keys, size_t count, const uint64_t *hints,
+                            size_t hint_count, uint64_t question);
+
 /* Writes the place of each question, faster than a call for each. If the keys never fall, it is
  * what kuldebiq_find returns, and in any keys a place that brackets the question. The number is how
  * many questions there are, which may come in any order. room is how many places there is room for,
@@ -345,6 +383,33 @@ KULDEBIQ_NODISCARD
 kuldebiq_answer kuldebiq_find_many(const uint64_t *keys, size_t count, const uint64_t *hints,
                                    size_t hint_count, const uint64_t *questions, size_t asked,
                                    size_t *places, size_t room);
+KULDEBIQ_NODISCARD
+kuldebiq_answer kuldebiq_find_many32(const uint32_t *keys, size_t count, const uint64_t *hints,
+                                     size_t hint_count, const uint64_t *questions, size_t asked,
+                                     size_t *places, size_t room);
+
+/* The same with the places that kuldebiq_find_past returns. In keys that fall it may write another
+ * one, of which the same holds.
+ *
+ * Refused with KULDEBIQ_TOO_LITTLE_ROOM. Then nothing is written. */
+KULDEBIQ_NODISCARD
+kuldebiq_answer kuldebiq_find_past_many(const uint64_t *keys, size_t count, const uint64_t *hints,
+                                        size_t hint_count, const uint64_t *questions, size_t asked,
+                                        size_t *places, size_t room);
+KULDEBIQ_NODISCARD
+kuldebiq_answer kuldebiq_find_past_many32(const uint32_t *keys, size_t count, const uint64_t *hints,
+                                          size_t hint_count, const uint64_t *questions,
+                                          size_t asked, size_t *places, size_t room);
+
+/* Returns where the hints say that the question's place is, from 0 to count: where to look first
+ * among count keys that lie where no call can read them, as in pages of a file. Hints that were
+ * made of these keys lead to within their epsilon + 2 of the place that kuldebiq_find returns; no
+ * other hints need to. Hints in no format say 0. */
+size_t kuldebiq_told(const uint64_t *hints, size_t hint_count, size_t count, uint64_t question);
+
+/* Writes what hints say of themselves. Hints in no format leave all three numbers 0. */
+void kuldebiq_hints_of(const uint64_t *hints, size_t hint_count, kuldebiq_hints_facts *facts)
+    KULDEBIQ_NOT_NULL((3));
 
 /* Makes hints of the sorted keys, and has the handle hold them. The keys are judged first, before
  * any memory is asked for. They aren't copied.
@@ -362,6 +427,12 @@ kuldebiq_answer kuldebiq_find_many(const uint64_t *keys, size_t count, const uin
 KULDEBIQ_NODISCARD
 kuldebiq_answer kuldebiq_hints_build(kuldebiq_hints *hints, const uint64_t *keys, size_t count,
                                      uint32_t epsilon) KULDEBIQ_NOT_NULL((1));
+
+/* The same of keys of 32 bits each. While the hints are made they take 8 bytes a key more, for a
+ * copy. */
+KULDEBIQ_NODISCARD
+kuldebiq_answer kuldebiq_hints_build32(kuldebiq_hints *hints, const uint32_t *keys, size_t count,
+                                       uint32_t epsilon) KULDEBIQ_NOT_NULL((1));
 
 /* The number is how many hints the handle holds.
  *
@@ -427,6 +498,22 @@ KULDEBIQ_NODISCARD
 kuldebiq_answer kuldebiq_box(const uint64_t *codes, size_t count, const uint64_t *hints,
                              size_t hint_count, const kuldebiq_region *region, size_t from,
                              kuldebiq_stretch *stretch) KULDEBIQ_NOT_NULL((5, 7));
+
+/* Writes the places whose points are nearest to a centre of dims coordinates, the nearest first,
+ * and of those that are equally far the lower place first: as many as there is room for, or all.
+ * The number is how many were written. The search works in this room alone. metric is
+ * KULDEBIQ_CHEBYSHEV or KULDEBIQ_EUCLID.
+ *
+ * If the codes never fall and all are codes of dims coordinates, no other place stands before one
+ * that is written. In any numbers each place is written at most once, with its own distance; of a
+ * number from 2^63 on the highest bit doesn't count if dims is 3.
+ *
+ * Refused with KULDEBIQ_DIMS_OUT_OF_RANGE, KULDEBIQ_COORDINATE_TOO_GREAT or
+ * KULDEBIQ_NO_SUCH_METRIC, judged in this order. Then nothing is written. */
+KULDEBIQ_NODISCARD
+kuldebiq_answer kuldebiq_nearest(const uint64_t *codes, size_t count, const uint64_t *hints,
+                                 size_t hint_count, const uint32_t *centre, size_t dims,
+                                 uint32_t metric, kuldebiq_neighbour *neighbours, size_t room);
 
 /* ---- The index ----
  *
@@ -629,6 +716,21 @@ kuldebiq_answer kuldebiq_map_first(kuldebiq_map *map, kuldebiq_pair *pair)
  * is written. */
 KULDEBIQ_NODISCARD
 kuldebiq_answer kuldebiq_map_last(kuldebiq_map *map, kuldebiq_pair *pair)
+    KULDEBIQ_NOT_NULL((1, 2));
+
+/* Takes the map's least key out, and writes it with its value. The number is 0. It is one entry.
+ *
+ * Refused with KULDEBIQ_NOTHING_HELD, KULDEBIQ_ABSENT if the map has no key, KULDEBIQ_FULL or
+ * KULDEBIQ_NO_MEMORY, judged in this order. Then the map is as it was, and nothing is written. */
+KULDEBIQ_NODISCARD
+kuldebiq_answer kuldebiq_map_pop_first(kuldebiq_map *map, kuldebiq_pair *pair)
+    KULDEBIQ_NOT_NULL((1, 2));
+
+/* Takes the map's greatest key out, and writes it with its value. The number is 0. It is one entry.
+ *
+ * Refused as kuldebiq_map_pop_first is. */
+KULDEBIQ_NODISCARD
+kuldebiq_answer kuldebiq_map_pop_last(kuldebiq_map *map, kuldebiq_pair *pair)
     KULDEBIQ_NOT_NULL((1, 2));
 
 /* Writes the map's least key that is at least from, with its value. The number is 0.

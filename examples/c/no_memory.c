@@ -117,6 +117,17 @@ int main(void) {
     answer = kuldebiq_hints_write(&hints, numbers, COUNT);
     expect(answer.status == KULDEBIQ_DONE, "hints without memory");
     expect(kuldebiq_find(keys, 4000, numbers, answer.number, 50) == 8, "a place without memory");
+    /* Keys of 32 bits are copied, which fails in turn too. */
+    static uint32_t narrow[COUNT];
+    for (uint32_t i = 0; i < COUNT; i++) narrow[i] = 3 * i;
+    uint64_t held = answer.number;
+    for (tries = 0;; tries++) {
+        granted = tries;
+        answer = kuldebiq_hints_build32(&hints, narrow, COUNT, 2);
+        if (answer.status == KULDEBIQ_DONE) break;
+        expect(is(answer, KULDEBIQ_NO_MEMORY, 0), "hints of keys of 32 bits without memory");
+        expect(is(kuldebiq_hints_count(&hints), KULDEBIQ_DONE, held), "that hints stand still");
+    }
     kuldebiq_map map = KULDEBIQ_NOTHING;
     expect(is(kuldebiq_map_new(&map, 4), KULDEBIQ_NO_MEMORY, 0), "a map");
     granted = 1000;

@@ -1,11 +1,8 @@
 /* Rows in three columns, sorted by the code of their place (x, y): a box is some stretches of rows, and
  * a column is summed over them. Beside it each row is tested. */
-#include "kuldebiq.h"
+#include "answers.h"
 
-#include <inttypes.h>
 #include <stdbool.h>
-#include <stdio.h>
-#include <stdlib.h>
 
 enum { COUNT = 200000, SIDE = 65536 };
 
@@ -18,21 +15,6 @@ typedef struct totals {
     uint64_t rows;
     uint64_t amount;
 } totals;
-
-static uint64_t number(const char *call, kuldebiq_answer answer) {
-    if (answer.status != KULDEBIQ_DONE) {
-        fprintf(stderr, "%s: %s (%" PRIu64 ")\n", call, kuldebiq_status_text(answer.status),
-                answer.number);
-        exit(1);
-    }
-    return answer.number;
-}
-
-/* Numbers that look like chance, the same in each run. */
-static uint32_t drawn(uint64_t *state) {
-    *state = *state * 6364136223846793005u + 1442695040888963407u;
-    return (uint32_t)(*state >> 33);
-}
 
 static int by_code(const void *one, const void *other) {
     uint64_t a = *(const uint64_t *)one, b = *(const uint64_t *)other;

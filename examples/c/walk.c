@@ -1,19 +1,5 @@
 /* Positions of sorted keys, and a walk along a map: each call's answer is looked at. */
-#include "kuldebiq.h"
-
-#include <inttypes.h>
-#include <stdio.h>
-#include <stdlib.h>
-
-/* The number of a call that was done. Ends the program at one that was refused. */
-static uint64_t number(const char *call, kuldebiq_answer answer) {
-    if (answer.status != KULDEBIQ_DONE) {
-        fprintf(stderr, "%s: %s (%" PRIu64 ")\n", call, kuldebiq_status_text(answer.status),
-                answer.number);
-        exit(1);
-    }
-    return answer.number;
-}
+#include "answers.h"
 
 static void ask(void) {
     const uint64_t keys[] = {2, 3, 5, 7, 11, 13, 17, 19, 23, 29};

@@ -103,9 +103,24 @@ std::vector<std::size_t> places_of(const Keys &keys, const Keys &hints, const Ke
     return places;
 }
 
+// The places behind all questions, likewise.
+std::vector<std::size_t> places_past(const Keys &keys, const Keys &hints, const Keys &questions) {
+    std::vector<std::size_t> places(questions.size() + 3, 7);
+    expect(gives(kuldebiq_find_past_many(keys.data(), keys.size(), hints.data(), hints.size(),
+                                         questions.data(), questions.size(), places.data(),
+                                         places.size()),
+                 questions.size()),
+           "how many places past questions");
+    expect(std::count(places.end() - 3, places.end(), std::size_t(7)) == 3,
+           "what lies behind places past questions");
+    places.resize(questions.size());
+    return places;
+}
+
 // By these hints, which need not be those of the keys.
 void compare_found(const Keys &keys, const Keys &hints, const Keys &questions) {
     const std::vector<std::size_t> places = places_of(keys, hints, questions);
+    const std::vector<std::size_t> past = places_past(keys, hints, questions);
     for (std::size_t i = 0; i < questions.size(); i++) {
         const std::uint64_t want = below(keys, questions[i]);
         const auto after = std::upper_bound(keys.begin(), keys.end(), questions[i]);
@@ -115,7 +130,63 @@ void compare_found(const Keys &keys, const Keys &hints, const Keys &questions) {
         expect(kuldebiq_find_past(keys.data(), keys.size(), hints.data(), hints.size(), questions[i]) ==
                    std::size_t(after - keys.begin()),
                "the place past a question");
+        expect(past[i] == std::size_t(after - keys.begin()), "one of many places past questions");
     }
+}
+
+// The upper halves of the keys, as keys of 32 bits: the same places as of these numbers in 64.
+void compare_narrow(const Keys &keys, const Keys &questions) {
+    std::vector<std::uint32_t> narrow;
+    for (const std::uint64_t key : keys) narrow.push_back(std::uint32_t(key >> 32));
+    const Keys wide(narrow.begin(), narrow.end());
+    kuldebiq_hints held = KULDEBIQ_NOTHING;
+    const std::uint32_t falling[] = {1, 4, 3};
+    expect(is(kuldebiq_hints_build32(&held, falling, 3, 1), KULDEBIQ_UNSORTED, 2), "keys that fall");
+    const kuldebiq_answer made = kuldebiq_hints_build32(&held, narrow.data(), narrow.size(), EPSILON);
+    expect(made.status == KULDEBIQ_DONE, "hints of keys of 32 bits");
+    Keys hints(made.number);
+    expect(gives(kuldebiq_hints_write(&held, hints.data(), hints.size()), made.number) &&
+               hints == hints_of(wide, EPSILON),
+           "that they are those of the same keys in 64 bits");
+    kuldebiq_hints_free(&held);
+    Keys asked;
+    for (const std::uint64_t question : questions) asked.push_back(question >> (question % 3 * 16));
+    std::vector<std::size_t> places(asked.size()), past(asked.size());
+    expect(gives(kuldebiq_find_many32(narrow.data(), narrow.size(), hints.data(), hints.size(),
+                                      asked.data(), asked.size(), places.data(), places.size()),
+                 asked.size()) &&
+               gives(kuldebiq_find_past_many32(narrow.data(), narrow.size(), hints.data(),
+                                               hints.size(), asked.data(), asked.size(), past.data(),
+                                               past.size()),
+                     asked.size()),
+           "how many places in keys of 32 bits");
+    for (std::size_t i = 0; i < asked.size(); i++) {
+        const std::size_t want = below(wide, asked[i]);
+        const auto after = std::upper_bound(wide.begin(), wide.end(), asked[i]);
+        const std::size_t want_past = std::size_t(after - wide.begin());
+        expect(places[i] == want && past[i] == want_past, "many places in keys of 32 bits");
+        expect(kuldebiq_find32(narrow.data(), narrow.size(), hints.data(), hints.size(), asked[i]) ==
+                       want &&
+                   kuldebiq_find_past32(narrow.data(), narrow.size(), hints.data(), hints.size(),
+                                        asked[i]) == want_past,
+               "a place in keys of 32 bits");
+    }
+}
+
+// Hints lead to within their epsilon + 2.
+void compare_told(const Keys &keys, const Keys &hints, const Keys &questions) {
+    kuldebiq_hints_facts facts{};
+    kuldebiq_hints_of(hints.data(), hints.size(), &facts);
+    expect(facts.known == 1 && facts.epsilon == EPSILON && facts.lines == hints[2],
+           "what hints say of themselves");
+    for (const std::uint64_t question : questions) {
+        const std::size_t told = kuldebiq_told(hints.data(), hints.size(), keys.size(), question);
+        const std::size_t place = below(keys, question);
+        expect((told < place ? place - told : told - place) <= EPSILON + 2, "where hints lead");
+    }
+    kuldebiq_hints_of(hints.data(), hints.size() - 1, &facts);
+    expect(facts.known == 0 && facts.epsilon == 0 && facts.lines == 0, "hints that are cut off");
+    expect(kuldebiq_told(nullptr, 0, keys.size(), 5) == 0, "where no hints lead");
 }
 
 // The key before the place is below the question, and that at it isn't.
@@ -139,6 +210,8 @@ void compare_finding(std::mt19937_64 &random, const Keys &keys, const Keys &ques
     const Keys hints = hints_of(keys, EPSILON);
     compare_found(keys, hints, questions);
     const Keys few(questions.begin(), questions.begin() + std::min<std::size_t>(questions.size(), 2000));
+    compare_told(keys, hints, questions);
+    compare_narrow(keys, few);
     compare_found(keys, hints_of(keys, 0), few);
     compare_found(keys, {}, few);
     compare_found({}, hints, few);
@@ -159,6 +232,12 @@ void compare_finding(std::mt19937_64 &random, const Keys &keys, const Keys &ques
            "room for one place");
     expect(gives(kuldebiq_find_many(nullptr, 0, nullptr, 0, nullptr, 0, nullptr, 0), 0),
            "the places of no questions");
+    expect(is(kuldebiq_find_past_many(keys.data(), keys.size(), hints.data(), hints.size(), few.data(),
+                                      few.size(), room, 1),
+              KULDEBIQ_TOO_LITTLE_ROOM, few.size()) &&
+               room[0] == 7 &&
+               gives(kuldebiq_find_past_many32(nullptr, 0, nullptr, 0, nullptr, 0, nullptr, 0), 0),
+           "room for one place past a question");
     expect(kuldebiq_find(nullptr, 0, nullptr, 0, 5) == 0 &&
                kuldebiq_find_past(nullptr, 0, nullptr, 0, UINT64_MAX) == 0,
            "a place among no keys");
@@ -377,6 +456,19 @@ void ask_ends(kuldebiq_map &map, const Wanted &wanted, std::uint64_t key) {
     expect(gives(kuldebiq_map_is_empty(&map), wanted.empty() ? 1 : 0), "whether any key is there");
 }
 
+// Takes the least key and the greatest in turn until none is left.
+void take_all(kuldebiq_map &map, Wanted wanted) {
+    for (bool least = true;; least = !least) {
+        kuldebiq_pair pair{7, 7};
+        const kuldebiq_answer taken =
+            least ? kuldebiq_map_pop_first(&map, &pair) : kuldebiq_map_pop_last(&map, &pair);
+        expect(ends(taken, pair, wanted, least), least ? "a least key taken" : "a greatest key taken");
+        if (wanted.empty()) break;
+        wanted.erase(least ? wanted.begin() : std::prev(wanted.end()));
+    }
+    expect(gives(kuldebiq_map_is_empty(&map), 1), "that all keys were taken");
+}
+
 // The first pairs of a range, as many as there is room for.
 void compare_range(kuldebiq_map &map, const Wanted &wanted, std::uint64_t low, std::uint64_t high,
                    std::size_t room) {
@@ -454,6 +546,8 @@ void compare_map(std::mt19937_64 &random, std::size_t count) {
                is(kuldebiq_map_previous(&none, 9, &pair), KULDEBIQ_NOTHING_HELD, 0) &&
                is(kuldebiq_map_first(&none, &pair), KULDEBIQ_NOTHING_HELD, 0) &&
                is(kuldebiq_map_last(&none, &pair), KULDEBIQ_NOTHING_HELD, 0) &&
+               is(kuldebiq_map_pop_first(&none, &pair), KULDEBIQ_NOTHING_HELD, 0) &&
+               is(kuldebiq_map_pop_last(&none, &pair), KULDEBIQ_NOTHING_HELD, 0) &&
                is(kuldebiq_map_contains(&none, 9), KULDEBIQ_NOTHING_HELD, 0) &&
                is(kuldebiq_map_is_empty(&none), KULDEBIQ_NOTHING_HELD, 0),
            "no map to go through");
@@ -464,6 +558,7 @@ void compare_map(std::mt19937_64 &random, std::size_t count) {
     }
     compare_range(map, wanted, 9, 8, 5);
     compare_loaded(map, wanted);
+    take_all(map, wanted);
     kuldebiq_map_free(&map);
 }
 

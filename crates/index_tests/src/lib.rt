@@ -30,6 +30,8 @@ mod levels_rows;
 #[cfg(test)]
 mod near_rows;
 #[cfg(test)]
+mod neighbours_rows;
+#[cfg(test)]
 mod piece_join_rows;
 #[cfg(test)]
 mod places_rows;

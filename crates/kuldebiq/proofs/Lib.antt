@@ -8,3 +8,6 @@ pub mod PairLemmas
 pub mod Ranges
 pub mod Blocks
 pub mod Applied
+pub mod Ends
+mod PastLemmas
+pub mod NearestPlaces

@@ -9,3 +9,4 @@ pub mod Updates
 pub mod Pairs
 pub mod Loading
 pub mod Points
+pub mod MetricNumbers

@@ -58,11 +58,14 @@ pub const COORDINATE_TOO_GREAT: u32 = 15;
 /// the first such coordinate.
 pub const NO_INTERVAL: u32 = 16;
 
-/// A number is no code of a point of three coordinates: it is 2^63 or more. The number is its place.
+/// A number from 2^63 on is no code of a point of three coordinates. The number is 0.
 pub const NO_CODE: u32 = 17;
 
 /// The coordinates end within a point. The number is how many they are.
 pub const PART_OF_A_POINT: u32 = 18;
+
+/// There is no such metric. The number is what was given.
+pub const NO_SUCH_METRIC: u32 = 19;
 
 /// What a call answers: how it ended, and a number, which is what was asked for where the call was
 /// done, and else tells why it was refused.

@@ -40,7 +40,7 @@ pub extern "C" fn kuldebiq_code(point: &[u32]) -> Answer
 
 /// Writes the coordinates of a code, as many as there is room for. The number is how many.
 ///
-/// A refusal is `DIMS_OUT_OF_RANGE` or `NO_CODE`, judged in this order, and then nothing is written.
+/// A refusal is `DIMS_OUT_OF_RANGE` or `NO_CODE`, judged in this order, and nothing is written.
 /// Takes no memory.
 #[unsafe(no_mangle)]
 pub extern "C" fn kuldebiq_point(code: u64, point: &mut [u32]) -> Answer
@@ -127,7 +127,7 @@ fn write_codes(dims: u32, coordinates: &[u32], count: usize, codes: &mut [u64])
 }
 
 /// The first place of a number that is too great for a coordinate, if there is one.
-fn first_too_great(dims: u32, coordinates: &[u32]) -> Option<usize>
+pub(crate) fn first_too_great(dims: u32, coordinates: &[u32]) -> Option<usize>
     requires { IsDimension dims }
     ensures { MatchOption result ((c : ℕ) → c < length coordinates.now →
         slice_index coordinates.now c < 2 ^ coordinate_bits dims)

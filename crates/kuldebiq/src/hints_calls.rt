@@ -7,7 +7,7 @@ ghost use Rattle.kuldebiq.specs.Hints.{CanHaveHints, HoldsHintsOf, IsHintsRefusa
 
 use crate::answer::{Answer, NO_MEMORY, NOTHING_HELD, TOO_LITTLE_ROOM, given, refused};
 use crate::hints_handle::HintsHandle;
-use crate::making::boxed_hints;
+use crate::making::{boxed_hints, boxed_hints_of_narrow};
 use std::alloc::Global;
 
 /// Makes the hints of sorted keys, which are judged and not copied, and has the handle hold them.
@@ -33,6 +33,33 @@ pub extern "C" fn kuldebiq_hints_build(
     ensures unchanged { result.status ≢ 0 → handle.new.hints ≡ handle.old.hints }
 {
     match boxed_hints(alloc, keys, epsilon) {
+        Ok(kept) => {
+            let count = kept.hints().len();
+            handle.put(kept);
+            given(count as u64)
+        }
+        Err(refusal) => refusal,
+    }
+}
+
+/// Makes the hints of sorted keys of 32 bits, and has the handle hold them, as
+/// [`kuldebiq_hints_build`] does. The keys are judged, and then copied while the hints are made.
+#[unsafe(no_mangle)]
+pub extern "C" fn kuldebiq_hints_build32(
+    alloc: Global,
+    handle: &mut HintsHandle,
+    keys: &[u32],
+    epsilon: u32,
+) -> Answer
+    ensures done { IsDone result → HoldsHintsOf keys.now epsilon handle.new.hints }
+    ensures judged { IsDone result → CanHaveHints keys.now epsilon }
+    ensures number { (hints : List ℕ) → handle.new.hints ≡ Some hints → IsDone result →
+        result.number ≡ length hints }
+    ensures refused { result.status ≢ 0 → IsHintsRefusal keys.now epsilon result ⊎
+        (CanHaveHints keys.now epsilon × (result ≡ refuses NO_MEMORY 0)) }
+    ensures unchanged { result.status ≢ 0 → handle.new.hints ≡ handle.old.hints }
+{
+    match boxed_hints_of_narrow(alloc, keys, epsilon) {
         Ok(kept) => {
             let count = kept.hints().len();
             handle.put(kept);

@@ -61,7 +61,7 @@ impl HintsHandle {
     }
 
     /// Lets go of what the handle holds.
-    fn let_go(self) {
+    pub(crate) fn let_go(self) {
         if let Some(loose) = self.into_loose() {
             drop(loose.into_box());
         }

@@ -6,7 +6,7 @@
 //! number that says why. Those of the index, the map and hints are passed the place of a handle,
 //! which is a pointer in C's memory, null where it holds nothing.
 //!
-//! Main clauses: `bracket` and `found` of [`kuldebiq_find`], `done`, `judged` and `refused` of
+//! Main clauses: the one of [`kuldebiq_find`], `done`, `judged` and `refused` of
 //! [`kuldebiq_index_build`], `answer` of [`kuldebiq_position`], `done` of [`kuldebiq_positions`]
 //! and of each call that updates a map, and `answer` of each that asks one. The words of the
 //! clauses are in `specs/`.
@@ -30,6 +30,9 @@ mod making;
 mod many;
 mod map_calls;
 mod map_handle;
+mod narrow_keys;
+mod near_calls;
+mod past_many;
 mod range_calls;
 #[cfg(test)]
 mod rows;
@@ -40,10 +43,12 @@ ghost use Rattle.std.specs.Prelude.{◌≡◌};
 
 use answer::Answer;
 use box_calls::{RegionParts, Stretch};
+use find_calls::HintsFacts;
 use hints_handle::HintsHandle;
 use index_handle::IndexHandle;
 use map_calls::Pair;
 use map_handle::MapHandle;
+use neighbours::Neighbour;
 use segment_parts::SegmentParts;
 use updates::UpdateParts;
 
@@ -68,6 +73,10 @@ const _: () = prove!(size_of::<UpdateParts>() == 24);
 const _: () = prove!(size_of::<RegionParts>() == 36);
 
 const _: () = prove!(size_of::<Stretch>() == 16);
+
+const _: () = prove!(size_of::<HintsFacts>() == 24);
+
+const _: () = prove!(size_of::<Neighbour>() == 24);
 
 /// The version of the library, [`VERSION`].
 #[unsafe(no_mangle)]

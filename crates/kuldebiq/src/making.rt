@@ -6,6 +6,7 @@ ghost use Rattle.kuldebiq.specs.Hints.{CanHaveHints, AreHintsOf, IsHintsRefusal}
 use crate::answer::{Answer, EPSILON_TOO_GREAT, NO_MEMORY, refused};
 use crate::building::answer_of;
 use crate::kept_hints::KeptHints;
+use crate::narrow_keys::{judge_narrow, widened};
 use exact_cross::MAX_EPSILON;
 use hints::hints_of;
 use std::alloc::Global;
@@ -28,6 +29,30 @@ pub(crate) fn boxed_hints(alloc: Global, keys: &[u64], eps: u32) -> Result<Box<K
             Err(_) => Err(refused(NO_MEMORY, 0)),
         },
         Err(refusal) => Err(refusal),
+    }
+}
+
+/// The hints of keys of 32 bits, which are judged and then copied, in a box. Or how they are
+/// refused, as those of 64 bits are.
+pub(crate) fn boxed_hints_of_narrow(
+    alloc: Global,
+    keys: &[u32],
+    eps: u32,
+) -> Result<Box<KeptHints>, Answer>
+    ensures hints { IfOk result (λ kept. AreHintsOf keys.now eps kept.value) }
+    ensures judged { IfOk result (λ _. CanHaveHints keys.now eps) }
+    ensures refused { IfErr result (λ answer. IsHintsRefusal keys.now eps answer ⊎
+        (CanHaveHints keys.now eps × (answer ≡ refuses NO_MEMORY 0))) }
+{
+    if eps > MAX_EPSILON {
+        return Err(refused(EPSILON_TOO_GREAT, u64::from(eps)));
+    }
+    match judge_narrow(keys) {
+        Ok(()) => match widened(alloc, keys) {
+            Ok(wide) => boxed_hints(alloc, &wide, eps),
+            Err(_) => Err(refused(NO_MEMORY, 0)),
+        },
+        Err(fault) => Err(answer_of(fault)),
     }
 }
 
