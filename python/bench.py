@@ -1,9 +1,9 @@
-"""How long one lookup takes and a million, beside bisect, numpy.searchsorted and SortedDict.
+"""How long lookups take beside bisect, numpy.searchsorted and SortedDict, and points beside numpy.
 
     python3 python/bench.py [KEYS]
 
-KEYS is how many random keys there are, a million if it isn't said. Each time is the least of
-several runs, in nanoseconds for one lookup. What isn't installed is left out.
+KEYS is how many random keys there are, and points in the plane, a million if it isn't said. Each
+time is the least of several runs, in nanoseconds for one lookup. What isn't installed is left out.
 """
 
 import bisect
@@ -21,6 +21,8 @@ except ImportError:
     SortedDict = None
 
 SINGLE = 2000
+BOXES = 20
+SIDE = 1 << 20
 RUNS = 7
 
 
@@ -64,6 +66,41 @@ def maps(row, questions):
         yield "SortedDict, next", each(lambda q: next(other.irange(q), None), single), SINGLE
 
 
+def filtered(x, y, corners):
+    """The rows in a box, by a test of each."""
+    (left, low), (right, high) = corners
+    return numpy.flatnonzero((left <= x) & (x <= right) & (low <= y) & (y <= high))
+
+
+def ten_nearest(x, y, centre):
+    """The rows nearest to a centre, by the distances of all."""
+    squares = (x - centre[0]) ** 2 + (y - centre[1]) ** 2
+    nearest = squares.argpartition(10)[:10]
+    return nearest[squares[nearest].argsort()]
+
+
+def boxes_of(share, chance):
+    """Boxes that have about this share of all points."""
+    side = int(SIDE * share**0.5)
+    low = chance.integers(0, SIDE - side, (BOXES, 2))
+    return numpy.stack((low, low + side), axis=1).tolist()
+
+
+def points(row, questions):
+    x, y = (row % SIDE).astype(numpy.int64), (questions[: len(row)] % SIDE).astype(numpy.int64)
+    x = x[: len(y)]
+    table, chance = numpy.column_stack((x, y)), numpy.random.default_rng(6)
+    made = kuldebiq.Points(table)
+    yield "kuldebiq.Points, made, for each point", lambda: kuldebiq.Points(table), len(table)
+    for share in (1e-5, 1e-3, 1e-1):
+        boxes, name = boxes_of(share, chance), f"a box of {share:.3%}"
+        yield f"kuldebiq.Points, {name}", each(lambda box: made.rows(*box), boxes), BOXES
+        yield f"numpy's filter, {name}", each(partial(filtered, x, y), boxes), BOXES
+    centres = chance.integers(0, SIDE, (BOXES, 2)).tolist()
+    yield "kuldebiq.Points, 10 nearest", each(partial(made.nearest, k=10), centres), BOXES
+    yield "numpy's distances, 10 nearest", each(partial(ten_nearest, x, y), centres), BOXES
+
+
 def main():
     count = int(sys.argv[1]) if len(sys.argv) > 1 else 1_000_000
     chance = numpy.random.default_rng(5)
@@ -71,10 +108,10 @@ def main():
     questions = chance.integers(0, 1 << 64, 1_000_000, dtype=numpy.uint64)
     print(f"{count} random keys, nanoseconds for one lookup")
     nothing = empty_loop(questions[:SINGLE].tolist())
-    print(f"{'a call of Python that does nothing':36}{nothing:8.0f}")
-    for cases in (lookups, maps):
+    print(f"{'a call of Python that does nothing':40}{nothing:10.0f}")
+    for cases in (lookups, maps, points):
         for name, call, asked in cases(row, questions):
-            print(f"{name:36}{nanoseconds(call, asked):8.0f}")
+            print(f"{name:40}{nanoseconds(call, asked):10.0f}")
 
 
 if __name__ == "__main__":

@@ -34,10 +34,33 @@ def test_positions_are_those_of_bisect(row, questions, epsilon):
     left = [bisect.bisect_left(row, question) for question in questions]
     assert [keys.position(question) for question in questions] == left
     assert keys.positions(questions).tolist() == left
-    assert [keys.position_after(question) for question in questions] == [
-        bisect.bisect_right(row, question) for question in questions
-    ]
+    right = [bisect.bisect_right(row, question) for question in questions]
+    assert [keys.position_after(question) for question in questions] == right
+    assert keys.positions_after(questions).tolist() == right
     assert [question in keys for question in questions] == [q in row for q in questions]
+
+
+short = st.integers(0, (1 << 32) - 1) | st.integers(0, 40) | st.integers((1 << 32) - 40, 1 << 32)
+
+
+@given(
+    st.lists(st.integers(0, (1 << 32) - 1) | st.integers(0, 40), max_size=200).map(sorted),
+    st.lists(words | short, max_size=50),
+    st.sampled_from(["made", "none", "of 64 bits"]),
+)
+def test_keys_of_32_bits_are_asked_as_those_of_64(row, questions, hints):
+    given_hints = {"made": None, "none": [], "of 64 bits": SortedKeys(row).hints}[hints]
+    keys = SortedKeys(numpy.array(row, numpy.uint32), given_hints)
+    questions = questions + row[:20] + [(1 << 32) - 1, 1 << 32, TOP]
+    left = [bisect.bisect_left(row, question) for question in questions]
+    assert [keys.position(question) for question in questions] == left
+    assert keys.positions(questions).tolist() == left
+    right = [bisect.bisect_right(row, question) for question in questions]
+    assert [keys.position_after(question) for question in questions] == right
+    assert keys.positions_after(questions).tolist() == right
+    assert [question in keys for question in questions] == [q in row for q in questions]
+    assert list(keys) == row and keys[:].dtype == numpy.uint32
+    assert keys.hints.tolist() == SortedKeys(row).hints.tolist() or hints == "none"
 
 
 @given(rows, words, words)
@@ -64,9 +87,11 @@ def test_it_is_a_sequence(row):
 def test_many_are_those_of_searchsorted():
     row = numpy.array(random_keys(30_000), dtype=numpy.uint64)
     questions = numpy.concatenate([row, row + numpy.uint64(1), row[::-1]])
-    places = SortedKeys(row).positions(questions)
+    keys = SortedKeys(row)
+    places = keys.positions(questions)
     assert places.dtype == numpy.intp
     assert (places == numpy.searchsorted(row, questions)).all()
+    assert (keys.positions_after(questions) == numpy.searchsorted(row, questions, "right")).all()
 
 
 def test_places_outside_are_refused_as_of_a_list():
@@ -106,6 +131,9 @@ def lies_in(part, whole):
     [
         numpy.array(PRIMES, numpy.uint64),
         numpy.array(PRIMES, numpy.int64),
+        numpy.array(PRIMES, numpy.uint32),
+        numpy.array(PRIMES, numpy.int32),
+        array("I", PRIMES),
         array("Q", PRIMES),
         memoryview(array("q", PRIMES)),
         numpy.array([0, *PRIMES], numpy.uint64)[1:],
@@ -128,7 +156,7 @@ def odd_bytes():
 @pytest.mark.parametrize(
     "row",
     [
-        *(numpy.array(PRIMES, dtype) for dtype in ("u1", "u2", "u4", "i1", "i4", ">u8", ">i4")),
+        *(numpy.array(PRIMES, dtype) for dtype in ("u1", "u2", "i1", "i2", ">u4", ">u8", ">i4")),
         numpy.repeat(numpy.array(PRIMES, numpy.uint64), 2)[::2],
         odd_bytes(),
         array("B", PRIMES),
@@ -247,10 +275,11 @@ def test_questions_are_judged(ask):
 def test_keys_that_fall_are_refused():
     fallen = list(range(200_000))
     fallen[150_000] = 7
-    for words_given in ({}, {"hints": []}):
-        with pytest.raises(ValueError, match="150000") as refused:
-            SortedKeys(fallen, **words_given)
-        assert isinstance(refused.value, kuldebiq.Refused) and refused.value.number == 150_000
+    for row in (fallen, numpy.array(fallen, numpy.uint32)):
+        for words_given in ({}, {"hints": []}):
+            with pytest.raises(ValueError, match="150000") as refused:
+                SortedKeys(row, **words_given)
+            assert isinstance(refused.value, kuldebiq.Refused) and refused.value.number == 150_000
     keys = SortedKeys(fallen, hints=[], check=False)
     place = keys.position(100)
     assert fallen[place - 1] < 100 <= fallen[place]
@@ -277,6 +306,8 @@ def test_hints_are_not_trusted(row, other, data):
         wanted = [bisect.bisect_left(row, question) for question in questions]
         assert [keys.position(question) for question in questions] == wanted
         assert keys.positions(questions).tolist() == wanted
+        wanted = [bisect.bisect_right(row, question) for question in questions]
+        assert keys.positions_after(questions).tolist() == wanted
 
 
 def test_hints_are_saved_and_loaded(tmp_path):
@@ -316,7 +347,8 @@ def test_key_files_are_mapped(tmp_path):
         path.write_bytes(key_bytes(PRIMES, dtype))
         mapped = kuldebiq.key_file(path)
         assert isinstance(mapped, numpy.memmap) and mapped.dtype == dtype
-        assert SortedKeys(mapped).position(12) == 5
+        keys = SortedKeys(mapped)
+        assert keys.position(12) == 5 and lies_in(keys, mapped)
     path.write_bytes(key_bytes([]))
     assert len(SortedKeys(kuldebiq.key_file(path))) == 0
     path.write_bytes(key_bytes(PRIMES))

@@ -11,7 +11,7 @@ from pathlib import Path
 import pytest
 
 import kuldebiq
-from kuldebiq import _errors, _keys, _map
+from kuldebiq import _errors, _keys, _map, _points
 from kuldebiq._library import lib
 
 HERE = Path(__file__).resolve().parent
@@ -32,16 +32,22 @@ def test_the_package_says_what_it_needs():
     assert (Path(kuldebiq.__file__).parent / "py.typed").exists()
 
 
-@pytest.mark.parametrize("module", [kuldebiq, _keys, _map])
+@pytest.mark.parametrize("module", [kuldebiq, _keys, _map, _points])
 def test_examples_in_docs(module):
     assert doctest.testmod(module).failed == 0
 
 
 def test_the_lines_of_the_readme_run(capsys):
     pytest.importorskip("pandas")
-    lines = re.search(r"```python\n(.*?)```", (HERE.parent / "README.md").read_text(), re.DOTALL)
-    exec(lines.group(1), {})
+    text = (HERE.parent / "README.md").read_text()
+    lookups, points, _ = re.findall(r"```python\n(.*?)```", text, re.DOTALL)
+    names = {}
+    exec(lookups, names)
     assert capsys.readouterr().out.startswith("500001 601 0.")
+    exec(points, names)
+    x, y = names["inside"].min(), names["inside"].max()
+    assert [200_000, 300_000] <= list(x) and y["x"] <= 250_000 and y["y"] <= 340_000
+    assert len(names["rows"]) == 3 and "distance" in capsys.readouterr().out
 
 
 def test_help_begins_with_both():

@@ -10,7 +10,7 @@ import weakref
 import numpy
 import pytest
 
-from kuldebiq import Map, SortedKeys
+from kuldebiq import Map, Points, SortedKeys
 
 
 def run_in_threads(count, work):
@@ -40,6 +40,18 @@ def test_threads_ask_the_same_keys():
         assert (keys.positions(questions) == numpy.searchsorted(row, questions)).all()
         for question in questions[:2000].tolist():
             assert keys.position(question) == min((question + 2) // 3, 30_000)
+
+    run_in_threads(4, ask)
+
+
+def test_threads_ask_the_same_points():
+    table = numpy.random.default_rng(1).integers(0, 100, (20_000, 2))
+    points = Points(table)
+
+    def ask(number):
+        for low in numpy.random.default_rng(number).integers(0, 90, (100, 2)):
+            inside = ((low <= table) & (table <= low + 9)).all(axis=1)
+            assert (points.rows(low, low + 9) == numpy.flatnonzero(inside)).all()
 
     run_in_threads(4, ask)
 
@@ -82,11 +94,12 @@ def test_objects_die_in_any_order():
     for _ in range(30):
         row = numpy.arange(1000, dtype=numpy.uint64)
         keys = SortedKeys(row)
-        made = Map(keys, row)
-        living = [row, keys, keys.hints, keys[3:9], made, made.range(), iter(made.items()),
-                  made.keys(), iter(keys), reversed(keys), numpy.asarray(keys)]
-        next(living[5])
-        del row, keys, made
+        made, points = Map(keys, row), Points(numpy.column_stack((row, row)))
+        living = [row, points, points.codes, points.order, keys, keys.hints, keys[3:9], made,
+                  made.range(), iter(made.items()), made.keys(), iter(keys), reversed(keys),
+                  numpy.asarray(keys)]
+        next(living[8])
+        del row, keys, made, points
         while living:
             living.pop(chance.randrange(len(living)))
             gc.collect(0)

@@ -52,6 +52,7 @@ _NUMBERS = {
     lib.KULDEBIQ_EPSILON_TOO_GREAT: "it is {}",
     lib.KULDEBIQ_LEVELS_OUT_OF_RANGE: "{} were asked for",
     lib.KULDEBIQ_FULL: "of the entries that it accepts or accepted the number is {}",
+    lib.KULDEBIQ_DIMS_OUT_OF_RANGE: "{} were given",
 }
 
 

@@ -13,18 +13,8 @@ from numpy.typing import ArrayLike, NDArray
 
 from ._errors import BadValue, number_of, refusal
 from ._files import read_hints, write_hints
-from ._library import (
-    WORD_MAX,
-    ffi,
-    hints_build,
-    hints_free,
-    hints_write,
-    lib,
-    new_handle,
-    new_hints,
-    words_at,
-)
-from ._numbers import half, type_name, word, words
+from ._library import WORD_MAX, call_for, ffi, lib, new_handle, words_at
+from ._numbers import half, type_name, word, words, words_or_halves
 
 __all__ = ["SortedKeys"]
 
@@ -33,10 +23,11 @@ _BLOCK = 1 << 16
 
 def make_hints(row: numpy.ndarray, epsilon: int) -> numpy.ndarray:
     """The hints of keys, whose order the library judges first."""
-    handle = new_handle(new_hints, hints_free)
-    count = number_of(hints_build(handle, words_at(row), len(row), half(epsilon, "epsilon")))
+    handle = new_handle("kuldebiq_hints *", lib.kuldebiq_hints_free)
+    build = call_for(row, "kuldebiq_hints_build")
+    count = number_of(build(handle, words_at(row), len(row), half(epsilon, "epsilon")))
     hints = numpy.empty(count, numpy.uint64)
-    number_of(hints_write(handle, words_at(hints), count))
+    number_of(lib.kuldebiq_hints_write(handle, words_at(hints), count))
     return hints
 
 
@@ -62,9 +53,10 @@ class SortedKeys(Sequence):
     ----------
     keys : array_like, shape (n,)
         Whole numbers from 0 to 2^64 - 1 that never fall; a key may repeat. There are fewer than
-        2^32 if hints are to be made. ``uint64`` in one piece, and ``int64`` where none is below 0,
-        stay where they are: of numpy or a ``memmap``, or what pandas, polars, Arrow, an ``array``
-        or a ``memoryview`` shows of itself. Other whole numbers, as ``uint32``, are converted once.
+        2^32 if hints are to be made. ``uint64`` and ``uint32`` in one piece, and ``int64`` and
+        ``int32`` where none is below 0, stay where they are: of numpy or a ``memmap``, or what
+        pandas, polars, Arrow, an ``array`` or a ``memoryview`` shows of itself. Other whole numbers
+        are converted once.
     hints : array_like of uint64, str or path-like, optional
         Hints that were made before, or the file of them. If None, they are made; ``[]`` is none.
     epsilon : int, optional
@@ -88,8 +80,7 @@ class SortedKeys(Sequence):
 
     Notes
     -----
-    Each error but ``TypeError`` is a ``kuldebiq.Refused`` as well. Keys of 32 bits take twice
-    their memory, since the lookups of the C interface are for 64 bits.
+    Each error but ``TypeError`` is a ``kuldebiq.Refused`` as well.
 
     Examples
     --------
@@ -110,9 +101,11 @@ class SortedKeys(Sequence):
         "_at",
         "_size",
         "_hints",
+        "_where",
         "_find",
         "_find_past",
         "_find_many",
+        "_find_past_many",
         "__weakref__",
     )
 
@@ -124,7 +117,7 @@ class SortedKeys(Sequence):
         epsilon: int = 64,
         check: bool = True,
     ):
-        row = words(keys)
+        row = words_or_halves(keys)
         if hints is None:
             hints = make_hints(row, epsilon)
         elif check:
@@ -143,9 +136,11 @@ class SortedKeys(Sequence):
         self._hints.flags.writeable = False
         # Each call has its hints' place and count at once, also while others are loaded.
         where = self._at, self._size, words_at(hints), len(hints)
-        self._find = partial(lib.kuldebiq_find, *where)
-        self._find_past = partial(lib.kuldebiq_find_past, *where)
-        self._find_many = partial(lib.kuldebiq_find_many, *where)
+        self._where = where
+        self._find = partial(call_for(self._row, "kuldebiq_find"), *where)
+        self._find_past = partial(call_for(self._row, "kuldebiq_find_past"), *where)
+        self._find_many = partial(call_for(self._row, "kuldebiq_find_many"), *where)
+        self._find_past_many = partial(call_for(self._row, "kuldebiq_find_past_many"), *where)
 
     @property
     def hints(self) -> NDArray[numpy.uint64]:
@@ -223,11 +218,14 @@ class SortedKeys(Sequence):
         TypeError, OverflowError
             If the questions aren't a row of whole numbers from 0 to 2^64 - 1.
         """
-        row = words(questions, "questions")
-        places = numpy.empty(len(row), numpy.intp)
-        room = ffi.from_buffer("size_t[]", places, require_writable=True)
-        number_of(self._find_many(words_at(row), len(row), room, len(row)))
-        return places
+        return _places_by(self._find_many, questions)
+
+    def positions_after(self, questions: ArrayLike) -> NDArray[numpy.intp]:
+        """How many keys are at most each question: ``numpy.searchsorted`` with ``side="right"``.
+
+        Parameters, result and errors are those of `positions`.
+        """
+        return _places_by(self._find_past_many, questions)
 
     def range(self, low: SupportsIndex = 0, high: SupportsIndex = WORD_MAX) -> slice:
         """Where the keys from low to high stand, both included.
@@ -278,7 +276,7 @@ class SortedKeys(Sequence):
     def __getitem__(self, place: SupportsIndex) -> int: ...
 
     @overload
-    def __getitem__(self, place: slice) -> NDArray[numpy.uint64]: ...
+    def __getitem__(self, place: slice) -> NDArray[numpy.unsignedinteger]: ...
 
     def __getitem__(self, place):
         """The key at a place, as an int, or those of a slice, as a read-only array."""
@@ -313,6 +311,15 @@ class SortedKeys(Sequence):
     def __repr__(self) -> str:
         shown = ", ".join(map(str, self._row[:6].tolist()))
         return f"SortedKeys([{shown}{', ...' if self._size > 6 else ''}])"
+
+
+def _places_by(call, questions: ArrayLike) -> NDArray[numpy.intp]:
+    """The places that a call writes for questions."""
+    row = words(questions, "questions")
+    places = numpy.empty(len(row), numpy.intp)
+    room = ffi.from_buffer("size_t[]", places, require_writable=True)
+    number_of(call(words_at(row), len(row), room, len(row)))
+    return places
 
 
 def _again(row: numpy.ndarray, hints: numpy.ndarray) -> SortedKeys:

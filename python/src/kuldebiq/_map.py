@@ -21,7 +21,7 @@ import numpy
 from numpy.typing import ArrayLike, NDArray
 
 from ._errors import BadValue, NoSuchKey, number_of
-from ._library import WORD_MAX, ffi, lib, new_handle
+from ._library import WORD_MAX, ffi, lib, new_handle, record_of
 from ._numbers import half, type_name, word, words
 
 __all__ = ["Map"]
@@ -37,15 +37,7 @@ _MISSING = object()
 
 Pairs = Union[Mapping[int, int], Iterable[Tuple[int, int]], ArrayLike]
 
-_FIELDS = dict(ffi.typeof("kuldebiq_update").fields)
-_UPDATE = numpy.dtype(
-    {
-        "names": list(_FIELDS),
-        "formats": [f"u{ffi.sizeof(field.type)}" for field in _FIELDS.values()],
-        "offsets": [field.offset for field in _FIELDS.values()],
-        "itemsize": ffi.sizeof("kuldebiq_update"),
-    }
-)
+_UPDATE = record_of("kuldebiq_update")
 _KINDS = {
     "put": (lib.KULDEBIQ_PUT, ("key", "value")),
     "del": (lib.KULDEBIQ_DEL, ("key",)),

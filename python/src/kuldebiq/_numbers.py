@@ -17,7 +17,7 @@ _BYTES = (bytes, bytearray, mmap.mmap)
 # What to write for an array of such a kind.
 _INSTEAD = {
     "b": ".astype('uint64')",
-    "f": ".astype('uint64') if each is whole and none is missing",
+    "f": ".astype('uint64') if each is whole and none is missing, or scale and round them first",
     "M": ".astype('int64')",
     "m": ".astype('int64')",
     "O": ".astype('uint64') if all are whole numbers",
@@ -54,29 +54,40 @@ def half(number, what: str) -> int:
 
 def words(values, what: str = "keys") -> numpy.ndarray:
     """A row of numbers as ``uint64``: where they lie, if they can stay there."""
+    return _unsigned(whole_numbers(values, what), what, numpy.uint64)
+
+
+def words_or_halves(values, what: str = "keys") -> numpy.ndarray:
+    """A row of numbers as ``uint32`` if their type has at most 32 bits, and else as ``uint64``."""
+    row = whole_numbers(values, what)
+    return _unsigned(row, what, numpy.uint32 if row.itemsize <= 4 else numpy.uint64)
+
+
+def whole_numbers(values, what: str) -> numpy.ndarray:
+    """A row of whole numbers, with a sign or without one, where they lie."""
     row = _array_of(values, what)
     if row.ndim != 1:
         raise TypeError(
             f"{what} are one row, and this {type_name(values)} has {row.ndim} dimensions"
         )
-    return _unsigned(row, values, what)
-
-
-def _unsigned(row: numpy.ndarray, values, what: str) -> numpy.ndarray:
-    """An array as unsigned numbers of 64 bits in one piece."""
     kind = row.dtype.kind
     if kind not in "ui":
         instead = f": write {_INSTEAD[kind]}" if kind in _INSTEAD else ""
         raise TypeError(
             f"{what} are whole numbers, and this {type_name(values)} has {row.dtype}{instead}"
         )
-    if kind == "i" and row.size > 0:
+    return row
+
+
+def _unsigned(row: numpy.ndarray, what: str, dtype) -> numpy.ndarray:
+    """Whole numbers as unsigned ones in one piece: where they lie, if they can stay there."""
+    if row.dtype.kind == "i" and row.size > 0:
         least = row.min()
         if least < 0:
             raise OutOfRange(f"{what} are from 0 to 2^64 - 1, and the least of these is {least}")
-    if row.dtype == numpy.int64 and row.flags.c_contiguous:
-        row = row.view(numpy.uint64)
-    return numpy.require(row, numpy.uint64, ["C_CONTIGUOUS", "ALIGNED"])
+    if row.dtype.kind == "i" and row.dtype.isnative and row.flags.c_contiguous:
+        row = row.view(f"u{row.itemsize}")
+    return numpy.require(row, dtype, ["C_CONTIGUOUS", "ALIGNED"])
 
 
 def _array_of(values, what: str) -> numpy.ndarray:

@@ -6,24 +6,13 @@ import numpy
 from numpy.typing import ArrayLike, NDArray
 
 from ._errors import number_of
-from ._library import ffi, lib, new_handle, words_at
+from ._library import ffi, lib, new_handle, words_at, record_of
 from ._numbers import half, words
 
 __all__ = ["segments"]
 
 _EPSILON_ABOVE = 4
-_FIELDS = dict(ffi.typeof("kuldebiq_segment").fields)
-SEGMENT = numpy.dtype(
-    {
-        "names": list(_FIELDS),
-        "formats": [
-            ("i" if name == "y0" else "u") + str(ffi.sizeof(field.type))
-            for name, field in _FIELDS.items()
-        ],
-        "offsets": [field.offset for field in _FIELDS.values()],
-        "itemsize": ffi.sizeof("kuldebiq_segment"),
-    }
-)
+SEGMENT = record_of("kuldebiq_segment")
 
 
 def segments(keys: ArrayLike, epsilon: int = 64) -> NDArray[numpy.void]:

@@ -10,8 +10,8 @@ from pathlib import Path
 from typing import NamedTuple
 from uuid import uuid4
 
+from .._codes import BITS
 from .._errors import BadValue
-from ._codes import BITS
 
 FORMAT = 1
 _LIST = "parts.json"

@@ -6,9 +6,10 @@ import os
 
 import numpy
 
-from .._errors import BadValue
+from .._codes import BITS, codes_of, table_of
+from .._errors import BadValue, refusal
+from .._library import lib
 from .._numbers import type_name
-from ._codes import BITS, check_dims, codes_of, table_of
 from ._source import FileChunk, has_dimensions, is_array, of_file, of_row, paths_of
 
 
@@ -16,7 +17,12 @@ class PointChunk(FileChunk):
     """Some points of a file."""
 
     def row(self) -> numpy.ndarray:
-        return codes_of(_mapped(self.path)[self.start : self.stop])
+        return coded(_mapped(self.path)[self.start : self.stop])
+
+
+def coded(points) -> numpy.ndarray:
+    """The codes of points, as far as these are points."""
+    return codes_of(table_of(points))
 
 
 def point_chunks_of(source) -> tuple[int, list]:
@@ -40,25 +46,27 @@ def _of_collection(source) -> tuple[int, list]:
             f" of type {type_name(source)}"
         )
     dims = len(source.columns) if hasattr(source, "columns") else source.shape[1]
-    check_dims(dims)
+    if dims not in BITS:
+        raise refusal(lib.KULDEBIQ_DIMS_OUT_OF_RANGE, dims)
     if getattr(source, "numblocks", (1, 1))[1] > 1:
         source = source.rechunk({1: dims})
-    return dims, [delayed(codes_of)(chunk) for chunk in numpy.ravel(source.to_delayed())]
+    return dims, [delayed(coded)(chunk) for chunk in numpy.ravel(source.to_delayed())]
 
 
 def _of_files(paths: list[str]) -> tuple[int, list[PointChunk]]:
     chunks, dims = [], None
     for path in paths:
-        table = table_of(_mapped(path))
-        if table.shape == (0, 0):
+        points = _mapped(path)
+        if points.shape == (0, 0):
             continue
-        check_dims(table.shape[1])
-        if table.shape[1] != (dims or table.shape[1]):
+        # None of them is read here.
+        columns = table_of(points[:0]).shape[1]
+        if columns != (dims or columns):
             raise BadValue(
-                f"the points of {path!r} have {table.shape[1]} coordinates, and those before {dims}"
+                f"the points of {path!r} have {columns} coordinates, and those before {dims}"
             )
-        dims = table.shape[1]
-        chunks += of_file(PointChunk, path, len(table))
+        dims = columns
+        chunks += of_file(PointChunk, path, len(points))
     if dims is None:
         raise BadValue(f"{paths[0]!r} has no points, and nothing says how many coordinates one has")
     return dims, chunks

@@ -8,9 +8,10 @@ from functools import partial
 import numpy
 from numpy.typing import ArrayLike, NDArray
 
+from .._codes import BITS, stretches_of
 from .._errors import BadValue
 from ._ask import Parts, give_back, opened
-from ._codes import BITS, Box, box_of, points_of
+from ._boxes import Box, box_of, points_of
 
 
 class PartPoints(Parts):
@@ -136,7 +137,7 @@ def boxed(folder: str, parts: list, box: Box) -> tuple[numpy.ndarray, list[str]]
     places, complaints = [], []
     for part in parts:
         keys, complaint = opened(folder, part)
-        places.append(box.stretches(keys[:], keys.hints) + part.offset)
+        places.append(stretches_of(keys._where, *box).ravel() + part.offset)
         complaints += complaint
         give_back(keys)
     return numpy.concatenate(places), complaints
