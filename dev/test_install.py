@@ -173,7 +173,7 @@ class Install(unittest.TestCase):
                 break
         os.close(master)
         self.assertEqual(ran.wait(), 0)
-        self.assertRegex(seen, rb"kuldebiq: proving side by side, \d+ of 16 crates done, \d+:\d\d")
+        self.assertRegex(seen, rb"kuldebiq: proving side by side, \d+ of [1-9]\d* crates done, \d+:\d\d")
 
 
 if __name__ == "__main__":

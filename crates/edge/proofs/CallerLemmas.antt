@@ -1,8 +1,7 @@
 -- One read after another: what was read, and what is left.
 use Rattle.std.proofs.Common.{ℕ, ◌+◌, ◌≤◌, List, ◌++◌, length, drop, refl, sym, ap, ◌∙◌}
-use Rattle.std.proofs.Common.{Option, Some, None, append_assoc, arith, OnErr, Result, Ok, Err}
+use Rattle.std.proofs.Common.{Option, Some, None, append_assoc}
 use Rattle.std.proofs.lemmas.List.{drop_at}
-use Rattle.std.proofs.Math.Seq.{drop-append-add}
 use Rattle.edge.specs.Shelf.{HasNothingLeft, TakesAtMost, IsEmptied}
 use Rattle.edge.specs.Telling.{TellsAsBefore}
 use Rattle.edge.specs.Reading.{HasRead}
@@ -32,14 +31,3 @@ takes-read None b p most _ _ = tt
 takes-read (Some x) None p most _ h = absurd h
 takes-read (Some x) (Some y) p most few h =
     (length p, few, ap Some (sym (ap (drop (length p)) h ∙ drop_at p y (length p) refl)))
-
-pub takes-after : (a b c : Option (List ℕ)) (p : List ℕ) (some most : ℕ) →
-    length p + some ≤ most → HasRead a p b → TakesAtMost some b c → TakesAtMost most a c
-takes-after None b c p some most _ _ _ = tt
-takes-after (Some x) None c p some most _ h _ = absurd h
-takes-after (Some x) (Some y) c p some most few h k =
-    (length p + k.0, omega (arith, k.1), k.2 ∙ ap Some (sym (ap (drop (length p + k.0)) h ∙ drop-append-add p y k.0)))
-
-pub on-error : {T E : Type 0} (result : Result T E) (P : Type 0) → P → OnErr result P
-on-error (Ok x) P holds = tt
-on-error (Err e) P holds = holds

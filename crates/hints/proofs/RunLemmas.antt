@@ -34,17 +34,6 @@ begins_at_zero : (C : ℕ → ℕ → Type 0) (starts : List ℕ) → CutsInto C
 begins_at_zero C [] cuts = refl
 begins_at_zero C (start ∷ later) cuts = cuts.0
 
--- no line yet
-pub AreLinesBefore-none : (p : Points) (eps : ℕ) → AreLinesBefore p eps 0 []
-AreLinesBefore-none p eps = record {
-  starts = [];
-  greedy = refl;
-  holds = record { long = refl; each = λ line less. absurd (omega arith) };
-  begins = λ some. absurd (omega arith);
-  rise = λ line less. absurd (omega arith);
-  ends = refl;
-}
-
 -- one run more
 pub AreLinesBefore-more : (p : Points) (eps at end : ℕ) (lines more : List ℕ) (a b c : ℕ) →
     more ≡ lines ++ a ∷ b ∷ c ∷ [] → at < end → IsLongest p eps p.count at end →

@@ -37,8 +37,8 @@ pub fn told(hints: &[u64], n: usize, q: u64) -> usize
     place_told(lines, hints[1], n, q, begun)
 }
 
-/// The numbers of the lines, three of each, if the hints are in the format. Cannot fail and takes no
-/// memory.
+/// The numbers of the lines, three of each, if the hints are in the format. Cannot fail and takes
+/// no memory.
 #[inline(always)]
 pub fn whole_lines(hints: &[u64]) -> Option<&[u64]>
     ensures whole { IfSome result (λ lines. IsWhole hints.now × (lines.now ≡ lines_in hints.now)) }

@@ -1,7 +1,7 @@
 -- What the tests of a new point against the two lines say of the run with that point.
 use Rattle.std.proofs.Common.{◌≡◌, ◌||◌, Bool, true, false, ℕ, ◌+◌, ◌*◌, ◌-◌, ◌^◌, ◌<◌}
 use Rattle.std.proofs.Common.{◌≤◌, ◌∙◌, pos, ◌-ℤ◌, inl, inr, ap, subst, sym, arith}
-use Rattle.std.specs.Bool.{OnTrue, OnFalse}
+use Rattle.std.specs.Bool.{OnFalse}
 use Rattle.std.proofs.lemmas.Int.{ints}
 use Rattle.std.proofs.lemmas.Bool.{cases_lt}
 use borrow.Author.Differences.{up, down}
@@ -620,17 +620,11 @@ StandsFor-one hulls p eps place x y ascends inside low last bound bounded steep 
   flat = flat;
 }
 
--- what holds where neither does, and where the second does
+-- what holds where neither does
 pub OnFalse-either : {P Q : Type 0} (a b : Bool) → (P → Q) → OnFalse a P → OnFalse (a || b) Q
 OnFalse-either true b f h = tt
 OnFalse-either false true f h = tt
 OnFalse-either false false f h = f h
-
-pub OnTrue-either : (P : Type 0) (a b : Bool) → OnTrue (a || b) P → OnTrue b P
-OnTrue-either P true true h = h
-OnTrue-either P true false h = tt
-OnTrue-either P false true h = h
-OnTrue-either P false false h = tt
 
 -- the last vertex of the same vertices
 pub last_of-same : (new old : Hull) (last : ℕ) → new.vertices ≡ old.vertices → last_of old ≡ last → last_of new ≡ last

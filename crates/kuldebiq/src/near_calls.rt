@@ -1,5 +1,6 @@
 // The places that are nearest to a centre, in a list of codes that stays where it is.
-ghost use Rattle.std.specs.Prelude.{◌≡◌, ◌≢◌, ◌⊎◌, ◌<◌, ◌≤◌, ℕ, length, take, drop, min, slice_index};
+ghost use Rattle.std.specs.Prelude.{◌≡◌, ◌≢◌, ◌⊎◌, ◌<◌, ◌≤◌, ℕ};
+ghost use Rattle.std.specs.Prelude.{length, take, drop, min, slice_index};
 ghost use Rattle.std.specs.Option.{MatchOption};
 ghost use Rattle.zorder.specs.Codes.{IsDimension, IsInRange};
 ghost use Rattle.neighbours.specs.Metrics.{AreInOrder, far};

@@ -44,8 +44,8 @@ impl Search {
 impl LogMap {
     /// Writes the value at each key, if the map has the key, at its place.
     ///
-    /// The same as [`LogMap::get`] for each, and faster: the levels are searched for 32 keys side
-    /// by side, so that their reads of memory don't wait for one another. Takes no memory.
+    /// The same as [`LogMap::get`] for each. The levels are searched for 32 keys side by side, so
+    /// that their reads of memory don't wait for one another. Takes no memory.
     pub fn get_many(&self, keys: &[u64], values: &mut [Option<u64>])
         requires { length values.old ≡ length keys.now }
         ensures { (updates : List Update) → StandsFor self.now updates →

@@ -1,6 +1,6 @@
 -- What the crates above cite of nearest places: that only the coordinates that count tell how far points are.
 use Rattle.std.proofs.Common.{◌≡◌, ℕ, zero, suc, ◌<◌, List, [], ◌∷◌, ◌++◌}
-use Rattle.std.proofs.Common.{slice_index, refl, sym, ap, ◌∙◌, subst, arith}
+use Rattle.std.proofs.Common.{slice_index, refl, ap, ◌∙◌, subst, arith}
 use Rattle.std.specs.List.Sorted.{IsPermutation}
 use Rattle.std.specs.Int.{abs_diff}
 use Rattle.zorder.specs.Codes.{coordinate}

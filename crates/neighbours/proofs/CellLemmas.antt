@@ -1,8 +1,8 @@
 -- The codes between two of a cell are of the cell, and so is each of their coordinates.
 use Rattle.std.proofs.Common.{◌≡◌, ℕ, ◌+◌, ◌-◌, ◌*◌, ◌/◌, ◌^◌, ◌<◌, ◌≤◌, sym, ap, ◌∙◌, subst, arith, w64}
 use Rattle.std.specs.Prelude.{bit_xor}
-use Rattle.std.specs.Int.{abs_diff, bit_at, leading_zeros}
-use Rattle.std.proofs.lemmas.Nat.{leading_length, pow_pos, xor_lt}
+use Rattle.std.specs.Int.{bit_at, leading_zeros}
+use Rattle.std.proofs.lemmas.Nat.{leading_length, xor_lt}
 use Rattle.std.proofs.lemmas.Nat.Bits.{bit_at-lt, bit_at_above, bit_at_xor, same_from_bits}
 use Rattle.std.proofs.Math.Pow.{shr_mono}
 use Rattle.zorder.specs.Codes.{coordinate}

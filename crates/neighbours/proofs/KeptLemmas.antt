@@ -1,12 +1,12 @@
 -- What is kept of some places after others, in whatever stretches they come.
-use Rattle.std.proofs.Common.{ℕ, ◌<◌, ◌≤◌, List, [], ◌∷◌, ◌++◌, length, set, All, append_assoc, refl, sym, subst, arith}
+use Rattle.std.proofs.Common.{ℕ, ◌<◌, ◌≤◌, List, [], ◌∷◌, ◌++◌, length, set, All, append_assoc, sym, subst, arith}
 use Rattle.std.specs.List.Sorted.{IsPermutation}
 use Rattle.std.proofs.lemmas.List.Elements.{All-append, All-cons, All-nil, All-tail, All-weaker}
 use Rattle.std.proofs.lemmas.List.Sorted.{All-permutation, IsPermutation-append_comm, IsPermutation-append_left}
 use Rattle.std.proofs.lemmas.List.Sorted.{IsPermutation-append_right, IsPermutation-middle, IsPermutation-refl}
 use Rattle.std.proofs.lemmas.List.Sorted.{IsPermutation-sym, IsPermutation-to_front, IsPermutation-trans}
 use Rattle.neighbours.specs.declared.neighbour.Neighbour.{Neighbour}
-use Rattle.neighbours.specs.Chosen.{Always, AreChosen, AreStillKept, IsHeap}
+use Rattle.neighbours.specs.Chosen.{AreStillKept, IsHeap}
 use Rattle.neighbours.specs.Neighbours.{neighbour_at, rank_of}
 use Rattle.neighbours.proofs.HeapLemmas.{heap_front, rank_at}
 

@@ -1,6 +1,6 @@
 -- Codes in five parts: those kept first, those around that were searched, and those that none of the first leaves out.
 use Rattle.std.proofs.Common.{◌≡◌, ℕ, ◌+◌, ◌-◌, ◌<◌, ◌≤◌, List, ◌++◌, length}
-use Rattle.std.proofs.Common.{get_or, take, drop, All, append_assoc, refl, sym, ap}
+use Rattle.std.proofs.Common.{get_or, take, drop, append_assoc, sym, ap}
 use Rattle.std.proofs.Common.{◌∙◌, subst, arith}
 use Rattle.std.specs.List.{slice_range}
 use Rattle.std.specs.List.Sorted.{IsPermutation}

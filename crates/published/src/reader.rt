@@ -196,8 +196,8 @@ impl Look {
         self.reading.get().get(key)
     }
 
-    /// Writes the value at each key, if the map has the key, at its place. It is faster than
-    /// [`Look::get`] for each: the levels are searched for 32 keys side by side.
+    /// Writes the value at each key, if the map has the key, at its place, as [`Look::get`] for
+    /// each does. The levels are searched for 32 keys side by side.
     pub fn get_many(&self, keys: &[u64], values: &mut [Option<u64>])
         requires { length values.old ≡ length keys.now }
         ensures { values.new ≡

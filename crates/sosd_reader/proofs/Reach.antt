@@ -2,7 +2,7 @@
 use Rattle.std.proofs.Common.{◌≡◌, ℕ, ◌+◌, ◌*◌, ◌^◌, ◌<◌, ◌≤◌, Bool, true, false, if◌then◌else◌, List}
 use Rattle.std.proofs.Common.{◌++◌, length, ltb, sym, ap, ◌∙◌, Option, Some, None, arith, length-append}
 use Rattle.std.specs.List.{flat_map}
-use Rattle.std.specs.Option.{IfSome, option_to_list}
+use Rattle.std.specs.Option.{IfSome}
 use Rattle.std.proofs.lemmas.Bool.Decides.{nat_tests}
 use Rattle.byteorder.specs.Endian.{little_bytes}
 use Rattle.byteorder.specs.Numbers.{little_number-reads_back, length-bytes_low_first}
@@ -78,7 +78,3 @@ pub takes-reach : (kind : Kind) (first after : Option (List ℕ)) (piece : List 
     IfSome first (λ bytes. TakesAtMost (reach_of kind bytes) first after)
 takes-reach kind None after piece few read = tt
 takes-reach kind (Some x) after piece few read = takes-read (Some x) after piece (reach_of kind x) few read
-
-pub most-one : (byte : Option ℕ) → length (option_to_list byte) ≤ 1
-most-one None = omega arith
-most-one (Some byte) = omega arith

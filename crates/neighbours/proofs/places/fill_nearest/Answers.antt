@@ -1,5 +1,5 @@
 -- What was chosen stays chosen in its order.
-use Rattle.std.proofs.Common.{rules, arith}
+use Rattle.std.proofs.Common.{rules}
 use Rattle.std.proofs.lemmas.List.Sorted.{IsNonDecreasingBy-from_sort_by}
 use Rattle.neighbours.specs.Metrics.{AreInOrder, far}
 use Rattle.neighbours.specs.Neighbours.{neighbours_from, rank_of}

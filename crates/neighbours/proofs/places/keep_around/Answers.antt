@@ -1,5 +1,5 @@
 -- The places before the first and behind the last have nothing to add.
-use Rattle.std.proofs.Common.{◌≡◌, ◌≤◌, ℕ, length, subst, arith}
+use Rattle.std.proofs.Common.{subst, arith}
 use Rattle.std.specs.List.{slice_range}
 use Rattle.std.specs.List.Sorted.{IsPermutation}
 use Rattle.neighbours.specs.Metrics.{AreInOrder, far}

@@ -1,6 +1,6 @@
 -- One more place; at the end all.
-use Rattle.std.proofs.Common.{◌≡◌, ◌≢◌, ◌+◌, ◌<◌, ℕ, length, get_or, get_or-set_other, get_or-set_same, below_more}
-use Rattle.std.proofs.Common.{sym, ap, ◌∙◌, arith}
+use Rattle.std.proofs.Common.{◌≢◌, ◌+◌, ◌<◌, ℕ, length, get_or-set_other, get_or-set_same, below_more}
+use Rattle.std.proofs.Common.{ap, ◌∙◌, arith}
 use Rattle.std.proofs.Math.ListN.{length-set}
 use Rattle.neighbours.specs.Metrics.{far}
 use Rattle.neighbours.specs.Neighbours.{neighbour_at}

@@ -1,10 +1,10 @@
 -- No place of a stretch that is left out is kept, and those of two halves are those of the whole.
-use Rattle.std.proofs.Common.{◌≡◌, ◌-◌, ◌<◌, ◌≤◌, sym, ap, ◌∙◌, subst, inl, inr, length, get_or, take, drop, arith}
-use Rattle.std.proofs.lemmas.List.{get_or_default, nil_from_length}
+use Rattle.std.proofs.Common.{◌-◌, ◌≤◌, sym, ◌∙◌, subst, inl, inr, length, arith}
+use Rattle.std.proofs.lemmas.List.{get_or_default}
 use Rattle.std.proofs.lemmas.Bool.{cases_lt, eqb-true, iff_false}
 use Rattle.neighbours.specs.declared.neighbour.Neighbour.{Neighbour}
 use Rattle.neighbours.specs.Metrics.{AreInOrder, far}
-use Rattle.neighbours.specs.Neighbours.{neighbour_at, rank_of}
+use Rattle.neighbours.specs.Neighbours.{rank_of}
 use Rattle.neighbours.proofs.HeapLemmas.{rank_at}
 use Rattle.neighbours.proofs.StretchLemmas.{halves_left_first, halves_right_first, kept_no_codes, kept_no_further}
 use Rattle.neighbours.proofs.walk.+keep_nearest.Goals as goal

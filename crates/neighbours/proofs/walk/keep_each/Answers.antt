@@ -1,15 +1,13 @@
 -- One more code; at the end all.
-use Rattle.std.proofs.Common.{◌≡◌, ◌+◌, ◌<◌, ◌≤◌, ℕ, List, [], ◌∷◌, All, get_or}
-use Rattle.std.proofs.Common.{refl, sym, ap, ◌∙◌, subst, inl, inr, arith}
-use Rattle.std.proofs.lemmas.Bool.{cases_lt, iff_false}
+use Rattle.std.proofs.Common.{◌+◌, ℕ, List, [], ◌∷◌, get_or}
+use Rattle.std.proofs.Common.{refl, ap, ◌∙◌, subst, arith}
 use Rattle.std.proofs.lemmas.List.{take_all}
 use Rattle.neighbours.specs.declared.neighbour.Neighbour.{Neighbour}
 use Rattle.neighbours.specs.Chosen.{Always, AreStillKept}
 use Rattle.neighbours.specs.Metrics.{AreInOrder, far}
-use Rattle.neighbours.specs.Neighbours.{neighbour_at, neighbours_from, rank_of}
-use Rattle.neighbours.proofs.HeapLemmas.{rank_at}
+use Rattle.neighbours.specs.Neighbours.{neighbour_at, neighbours_from}
 use Rattle.neighbours.proofs.KeptLemmas.{kept_if}
-use Rattle.neighbours.proofs.StretchLemmas.{kept_no_equal, kept_one_more, none_of}
+use Rattle.neighbours.proofs.StretchLemmas.{kept_one_more, none_of}
 use Rattle.neighbours.proofs.walk.keep_each.Goals as goal
 
 pub loop-i-init : goal.loop-i-init

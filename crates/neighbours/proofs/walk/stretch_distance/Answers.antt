@@ -1,5 +1,5 @@
 -- All codes lie between the first and the last.
-use Rattle.std.proofs.Common.{◌-◌, ◌≤◌, length, get_or, arith}
+use Rattle.std.proofs.Common.{◌-◌, length, get_or, arith}
 use Rattle.std.proofs.lemmas.List.{get_or_default}
 use Rattle.neighbours.proofs.walk.stretch_distance.Goals as goal
 

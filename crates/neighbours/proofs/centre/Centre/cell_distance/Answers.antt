@@ -1,5 +1,5 @@
 -- By one more coordinate none is nearer.
-use Rattle.std.proofs.Common.{◌≡◌, ◌+◌, ◌-◌, ◌*◌, ◌/◌, ◌^◌, ◌<◌, ◌≤◌, ℕ, ap, sym, ◌∙◌, subst, arith, w64}
+use Rattle.std.proofs.Common.{◌≡◌, ◌+◌, ◌-◌, ◌*◌, ◌/◌, ◌^◌, ◌≤◌, ℕ, ap, sym, ◌∙◌, subst, arith, w64}
 use Rattle.std.specs.Prelude.{bit_xor}
 use Rattle.std.specs.Int.{leading_zeros}
 use Rattle.zorder.specs.Codes.{IsCode, coordinate}
@@ -7,7 +7,7 @@ use Rattle.zorder.proofs.CallerLemmas.{code_fits}
 use Rattle.neighbours.specs.Around.{apart}
 use Rattle.neighbours.specs.Metrics.{code_in, through}
 use Rattle.neighbours.proofs.CellLemmas.{begin_alike, between_alike, coordinates_alike, differing_bits}
-use Rattle.neighbours.proofs.MetricLemmas.{code_in_code, through_more, through_none}
+use Rattle.neighbours.proofs.MetricLemmas.{code_in_code, through_more}
 use Rattle.neighbours.proofs.centre.Centre.cell_distance.Goals as goal
 
 pub loop-c-init : goal.loop-c-init

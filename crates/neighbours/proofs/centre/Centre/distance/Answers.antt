@@ -1,5 +1,5 @@
 -- One coordinate more.
-use Rattle.std.proofs.Common.{◌≡◌, ◌+◌, ◌^◌, ◌<◌, ◌≤◌, sym, ap, ◌∙◌, subst, arith, ℕ, slice_index}
+use Rattle.std.proofs.Common.{◌≡◌, sym, ap, ◌∙◌, arith, ℕ, slice_index}
 use Rattle.std.specs.Int.{abs_diff}
 use Rattle.zorder.specs.Codes.{coordinate}
 use Rattle.neighbours.specs.Around.{apart}
