@@ -1,5 +1,5 @@
 -- How maps are kept. No public clause cites it.
-use Rattle.std.specs.Prelude.{◌≡◌, ℕ, ◌+◌, ◌-◌, ◌*◌, ◌/◌, ◌≤◌, ◌<◌, ◌^◌, ◌==◌, List, ◌++◌, length, map}
+use Rattle.std.specs.Prelude.{◌≡◌, ℕ, ◌+◌, ◌-◌, ◌*◌, ◌/◌, ◌%◌, ◌≤◌, ◌<◌, ◌^◌, ◌==◌, List, ◌++◌, length, map}
 use Rattle.std.specs.Prelude.{drop, Option, Some, None, IsSome, IfSome, slice_index, slice_index_or, ⊤}
 use Rattle.window_search.specs.Searches.{lb}
 use Rattle.std.specs.List.{sum_by}
@@ -38,9 +38,13 @@ abbrev pub value_of : Option Entry → Option ℕ
 value_of None = None
 value_of (Some entry) = entry.value
 
+-- how many steps up it takes from a number to another, where 0 comes behind 2^64 - 1
+abbrev pub ahead : ℕ → ℕ → ℕ
+ahead from to = (to + (2 ^ 64 - from)) % 2 ^ 64
+
 -- a number of a stretch
 abbrev pub IsIn : Bare → ℕ → Type 0
-IsIn bare key = (bare.low ≤ key) × (key ≤ bare.high)
+IsIn bare key = (key < 2 ^ 64) × (ahead bare.first key < bare.count)
 
 -- a map has no key in a stretch
 abbrev pub IsBareIn : Held → Bare → Type 0

@@ -1,21 +1,29 @@
 // A stretch of numbers in which a map has no key.
-ghost use Rattle.std.specs.Prelude.{◌≡◌, ◌≢◌, ◌⊎◌, ◌↔◌, ◌<◌, ◌≤◌, ℕ, List, None, IsTrue};
+ghost use Rattle.std.specs.Prelude.{◌≡◌, ◌≢◌, ◌⊎◌, ◌<◌, ◌≤◌, ℕ, List, None, IfSome};
 ghost use Rattle.tombstones.specs.declared.entry.Entry.{Entry};
 ghost use Rattle.log_levels.specs.Shapes.{IsCutOf};
 ghost use Rattle.map_level.specs.Levels.{last_at};
-ghost use Rattle.log_levels.specs.Kept.{IsIn, value_of};
+ghost use Rattle.log_levels.specs.Kept.{IsIn, ahead, value_of};
 
 use crate::log_map::LogMap;
 use tombstones::Entry;
 
-/// The numbers from `low` to `high`, both included; none where `low` is above `high`.
+/// So many numbers from `first` on, where 0 comes behind 2^64 - 1.
 ///
 /// A map remembers one such stretch, in which it has no key. A search that begins in it goes on
-/// behind it, and so doesn't pass the deletions there one by one.
+/// behind it, and so doesn't pass the deletions there one by one. Where keys are taken from both
+/// ends, the numbers above the greatest and those below the least are one stretch.
 #[derive(Clone, Copy)]
 pub struct Bare {
-    low: u64,
-    high: u64,
+    first: u64,
+    count: u64,
+}
+
+/// How many steps up it takes from a number to another, where 0 comes behind 2^64 - 1.
+fn steps(from: u64, to: u64) -> u64
+    ensures { result ≡ ahead from to }
+{
+    to.wrapping_sub(from)
 }
 
 impl Bare {
@@ -23,14 +31,18 @@ impl Bare {
     pub fn none() -> Bare
         ensures { (key : ℕ) → IsIn result key → ⊥ }
     {
-        Bare { low: 1, high: 0 }
+        Bare { first: 0, count: 0 }
     }
 
-    /// Whether a number is in it.
-    fn has(self, key: u64) -> bool
-        ensures { IsTrue result ↔ IsIn self key }
+    /// The numbers from `low` to `high`, both included; all but one where that is every number.
+    fn between(low: u64, high: u64) -> Bare
+        requires { low ≤ high }
+        ensures { (key : ℕ) → IsIn result key → (low ≤ key) × (key ≤ high) }
     {
-        self.low <= key && key <= self.high
+        Bare {
+            first: low,
+            count: (high - low).saturating_add(1),
+        }
     }
 
     /// Where a search for the numbers from `from` on begins.
@@ -38,11 +50,7 @@ impl Bare {
         ensures above { from ≤ result }
         ensures bare { (key : ℕ) → from ≤ key → key < result → IsIn self key }
     {
-        if self.has(from) {
-            self.high.saturating_add(1)
-        } else {
-            from
-        }
+        from.saturating_add(self.count.saturating_sub(steps(self.first, from)))
     }
 
     /// Where a search for the numbers up to `to` begins.
@@ -50,8 +58,9 @@ impl Bare {
         ensures below { result ≤ to }
         ensures bare { (key : ℕ) → result < key → key ≤ to → IsIn self key }
     {
-        if self.has(to) {
-            self.low.saturating_sub(1)
+        let before = steps(self.first, to);
+        if before < self.count {
+            to.saturating_sub(before + 1)
         } else {
             to
         }
@@ -64,21 +73,33 @@ impl Bare {
         if low > high {
             return self;
         }
-        let other = Bare { low, high };
-        if self.low > self.high {
-            return other;
+        let other = Bare::between(low, high);
+        if let Some(both) = self.joined(other) {
+            return both;
         }
-        if self.low <= high.saturating_add(1) && low <= self.high.saturating_add(1) {
-            return Bare {
-                low: self.low.min(low),
-                high: self.high.max(high),
-            };
+        if let Some(both) = other.joined(self) {
+            return both;
         }
-        if self.high - self.low < high - low {
+        if self.count < other.count {
             other
         } else {
             self
         }
+    }
+
+    /// Both stretches as one, where the other begins in this one or right behind it.
+    fn joined(self, other: Bare) -> Option<Bare>
+        ensures { IfSome result (λ both. (key : ℕ) → IsIn both key →
+            IsIn self key ⊎ IsIn other key) }
+    {
+        let before = steps(self.first, other.first);
+        if before > self.count {
+            return None;
+        }
+        Some(Bare {
+            first: self.first,
+            count: self.count.max(before.saturating_add(other.count)),
+        })
     }
 
     /// The stretch without the keys that entries put.
@@ -108,21 +129,21 @@ impl Bare {
     fn without(self, key: u64) -> Bare
         ensures { (other : ℕ) → IsIn result other → IsIn self other × (other ≢ key) }
     {
-        if !self.has(key) {
+        let before = steps(self.first, key);
+        if before >= self.count {
             return self;
         }
-        if key - self.low < self.high - key {
-            return Bare {
-                low: key + 1,
-                high: self.high,
-            };
-        }
-        if self.low == key {
-            return Bare::none();
-        }
-        Bare {
-            low: self.low,
-            high: key - 1,
+        let behind = self.count - before - 1;
+        if before < behind {
+            Bare {
+                first: key.wrapping_add(1),
+                count: behind,
+            }
+        } else {
+            Bare {
+                first: self.first,
+                count: before,
+            }
         }
     }
 }
