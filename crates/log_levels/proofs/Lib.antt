@@ -12,6 +12,8 @@ pub mod OccupiedLemmas
 pub mod SearchLemmas
 pub mod HeadLemmas
 pub mod WalkLemmas
+pub mod DescentLemmas
+pub mod PairLemmas
 pub mod OrderLemmas
 pub mod RangeLemmas
 pub mod LoadLemmas

@@ -372,17 +372,17 @@ previous-reaches low (pair ∷ pairs) q key value (from, rest) le is = elim (cas
 pub between-inside : (low high key : ℕ) → low ≤ key → key ≤ high → is_between low high key ≡ true
 between-inside low high key above below = and_from _ _ (le-leb low key above) (le-leb key high below)
 
-between-below : (low high key : ℕ) → key < low → is_between low high key ≡ false
+pub between-below : (low high key : ℕ) → key < low → is_between low high key ≡ false
 between-below low high key less = and_left _ _ (lt-leb low key less)
 
-between-above : (low high key : ℕ) → high < key → is_between low high key ≡ false
+pub between-above : (low high key : ℕ) → high < key → is_between low high key ≡ false
 between-above low high key greater = and_right _ _ (lt-leb key high greater)
 
-pairs-kept : (pair : ℕ × ℕ) (pairs : List (ℕ × ℕ)) (low high : ℕ) →
+pub pairs-kept : (pair : ℕ × ℕ) (pairs : List (ℕ × ℕ)) (low high : ℕ) →
     is_between low high pair.0 ≡ true → pairs_between (pair ∷ pairs) low high ≡ pair ∷ pairs_between pairs low high
 pairs-kept pair pairs low high inside = cond-true _ _ _ inside
 
-pairs-dropped : (pair : ℕ × ℕ) (pairs : List (ℕ × ℕ)) (low high : ℕ) →
+pub pairs-dropped : (pair : ℕ × ℕ) (pairs : List (ℕ × ℕ)) (low high : ℕ) →
     is_between low high pair.0 ≡ false → pairs_between (pair ∷ pairs) low high ≡ pairs_between pairs low high
 pairs-dropped pair pairs low high outside = cond-false _ _ _ outside
 

@@ -1,6 +1,6 @@
 -- A search for a key from the newest level on.
 use Rattle.std.proofs.Common.{◌≡◌, ℕ, zero, suc, ◌+◌, ◌*◌, ◌/◌, ◌^◌, ◌<◌, ◌≤◌, eqb, Bool, true, false}
-use Rattle.std.proofs.Common.{List, [], length, take, drop, slice_index_or, Option, Some, None, is_some}
+use Rattle.std.proofs.Common.{List, [], length, take, drop, Option, Some, None, is_some}
 use Rattle.std.proofs.Common.{refl, sym, ap, ◌∙◌, subst, inl, inr, ◌⊎◌, arith, add-one, add-zero}
 use Rattle.std.specs.Int.{bit_at}
 use Rattle.std.specs.Option.{option_or}
@@ -12,8 +12,6 @@ use Rattle.tombstones.specs.Entries.{entry_at, kept, with_value}
 use Rattle.map_level.specs.Levels.{last_at}
 use Rattle.log_levels.specs.Shapes.{Held, IsCutOf, IsLevelFor, level_of, from_bit, block_of}
 use Rattle.log_levels.specs.Kept.{value_of, IsAbsent, entry_in}
-use Rattle.tombstones.proofs.CallerLemmas.{Contains-entry_at, key-entry_at}
-use Rattle.log_levels.proofs.LengthLemmas.{some-last_at}
 use Rattle.log_levels.proofs.BitLemmas.{from_bit-zero, from_bit-small}
 use Rattle.log_levels.proofs.CutLemmas.{before, before-more, block-clear}
 use Rattle.map_level.proofs.LastLemmas.{last_at-append}
@@ -170,22 +168,6 @@ found-level held entries i key level entry cut inside none newer is found =
     down (suc j) within newer = down j (omega arith) (λ k other less. newer k other (omega arith))
         ∙ step j (level_of held j) (omega arith) refl (λ other. newer j other (omega arith))
         ∙ ap (λ k. value_of (last_at (before entries (length entries / 64) k) key)) (add-one j)
-
--- where no entry has the key, there is no last one
-pub last-absent : (entries : List Entry) (key : ℕ) →
-    ((k : ℕ) (d : Entry) → k < length entries → (slice_index_or entries k d).key ≡ key → ⊥) → last_at entries key ≡ None
-last-absent entries key absent =
-    none (last_at entries key) (some-last_at entries key ∙ ap is_some (first (entry_at entries key) refl))
-  where
-    first : (found : Option Entry) → entry_at entries key ≡ found → entry_at entries key ≡ None
-    first None is = is
-    first (Some e) is =
-        let (i, inside, at) = Contains-entry_at entries key e is in
-        absurd (absent i e inside (ap (λ (x : Entry). x.key) at ∙ key-entry_at entries key e is))
-
-    none : (found : Option Entry) → is_some found ≡ false → found ≡ None
-    none None is = refl
-    none (Some e) is = cc
 
 -- a map has one value at each key
 pub one-value : (held : Held) (one two : List Entry) (key : ℕ) →

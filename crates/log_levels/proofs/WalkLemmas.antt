@@ -144,16 +144,6 @@ length-sweep updates low high =
       count-between (map_after updates) low high,
     )
 
--- above the greatest key up to a bound the map has none, if it has none above the bound
-pub none-above : (held : Held) (updates : List Update) (bound q greatest : ℕ) →
-    IsCutOf held (entries_of updates) → ((key : ℕ) → bound < key → key ≤ q → value_at (map_after updates) key ≡ None)
-    → ((key : ℕ) → key ≤ bound → greatest < key → IsAbsent held key) →
-    (key : ℕ) → greatest < key → key ≤ q → value_at (map_after updates) key ≡ None
-none-above held updates bound q greatest cut past absent key above within = elim (cases_lt bound key) [
-  | inl beyond ↦ past key beyond within
-  | inr at_most ↦ value-after updates key ∙ absent-value held (entries_of updates) key cut (absent key at_most above)
-]
-
 -- a level's entry at its place is passed
 pub behind-passed : (held : Held) (places : List ℕ) (low key i : ℕ) →
     ((level : List Entry) → level_of held i ≡ Some level → IsAscending level) →

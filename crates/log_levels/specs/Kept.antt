@@ -111,6 +111,19 @@ IsNextLive entries from None = (key : ℕ) → from ≤ key → value_of (last_a
 IsNextLive entries from (Some (key, value)) = (from ≤ key) × (value_of (last_at entries key) ≡ Some value)
     × ((other : ℕ) → from ≤ other → other < key → value_of (last_at entries other) ≡ None)
 
+-- the entry of the greatest key below an end, where there is an entry at a key, if there is one
+abbrev pub IsGreatestBelow : (ℕ → Option Entry) → ℕ → Option Entry → Type 0
+IsGreatestBelow at end None = (key : ℕ) → key < end → at key ≡ None
+IsGreatestBelow at end (Some entry) = (entry.key < end)
+    × (at entry.key ≡ Some entry) × ((key : ℕ) → entry.key < key → key < end → at key ≡ None)
+
+-- the last key from a bound on and below an end that has a value, if there is one
+abbrev pub IsLastLive : List Entry → ℕ → ℕ → Option (ℕ × ℕ) → Type 0
+IsLastLive entries low end None = (key : ℕ) → low ≤ key → key < end → value_of (last_at entries key) ≡ None
+IsLastLive entries low end (Some (key, value)) =
+    (low ≤ key) × (key < end) × (value_of (last_at entries key) ≡ Some value)
+    × ((other : ℕ) → key < other → other < end → value_of (last_at entries other) ≡ None)
+
 -- the entry of an update that is one
 abbrev pub plain_entry : Update → Entry
 plain_entry (Put key value) = put_entry key value
@@ -205,6 +218,12 @@ pub record IsLeft (held : Held) (walk : Walk) (low : ℕ) : Type 0 where
   pub buffer : IsUpcoming held.buffer low walk.buffered
   pub levels : AreBehind held walk.places low
   pub next : AreHeads held walk.places 0 walk.heads.items
+
+-- the ends of what is left of a range, unless nothing is
+pub record AreEnds (held : Held) (walk : Walk) (low : ℕ) (places : List ℕ) (high : ℕ) : Type 0 where
+  pub few : low ≤ 2 ^ 64
+  pub front : low ≤ high → IsLeft held walk low
+  pub back : low ≤ high → ArePlaces held places (high + 1)
 
 -- the key of what was found, if there is one
 abbrev pub first_key : Option First → Option ℕ

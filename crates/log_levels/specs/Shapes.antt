@@ -7,7 +7,7 @@ use Rattle.tombstones.specs.declared.entry.Entry.{Entry}
 use Rattle.map_level.specs.Levels.{IsLastOfEach}
 use Rattle.log_levels.specs.declared.update.Update.{Update}
 use Rattle.log_levels.specs.Accepted.{entries_of, puts_of}
-use Rattle.log_levels.specs.Maps.{map_after}
+use Rattle.log_levels.specs.Maps.{map_after, pairs_between}
 
 -- what a map by the logarithmic method holds: how many entries it accepted, those since
 -- the last flush, and its levels, the lowest first; one that isn't occupied is None
@@ -63,3 +63,13 @@ pub record IsMapOf (levels : ℕ) (pairs : List (ℕ × ℕ)) (map : Held) : Typ
   pub same : map_after (puts_of pairs) ≡ pairs
   pub accepted : map.accepted ≡ length pairs
   pub level_count : length map.levels ≡ levels
+
+-- what is left of the pairs of a range: those of a map from one key to another, both included
+pub record Left : Type 0 where
+  pub map : Held
+  pub low : ℕ
+  pub high : ℕ
+
+-- the pairs that are left, where the map stands for these updates
+abbrev pub pairs_left : Left → List Update → List (ℕ × ℕ)
+pairs_left left updates = pairs_between (map_after updates) left.low left.high

@@ -15,6 +15,7 @@
 
 mod apply;
 mod bare;
+mod descent;
 mod ends;
 mod fault;
 mod growth;
@@ -23,6 +24,7 @@ mod load;
 mod log_map;
 mod many;
 mod names;
+mod pairs;
 mod questions;
 mod range;
 mod upcoming;
@@ -32,5 +34,6 @@ mod walk;
 
 pub use fault::{LoadFault, MapFault};
 pub use log_map::{LogMap, capacity_with, one_map};
+pub use pairs::Pairs;
 pub use tombstones::Entry;
 pub use update::Update;

@@ -85,7 +85,7 @@ impl LogMap {
             StandsFor self.now updates → accepted < length (map_after updates)) }
     {
         let _ = self.accepted();
-        let pairs = self.pairs(alloc)?;
+        let pairs = self.all_pairs(alloc)?;
         match LogMap::of_sorted(alloc, levels, &pairs) {
             Ok(map) => Ok(map),
             Err(LoadFault::Full { accepted }) => Err(MapFault::Full { accepted }),
@@ -95,7 +95,7 @@ impl LogMap {
     }
 
     /// All pairs of key and value, by rising key.
-    fn pairs(&self, alloc: Global) -> Result<Vec<(u64, u64)>, NoMemory>
+    fn all_pairs(&self, alloc: Global) -> Result<Vec<(u64, u64)>, NoMemory>
         ensures { IfOk result (λ pairs. (updates : List Update) → StandsFor self.now updates →
             pairs.items ≡ map_after updates) }
     {

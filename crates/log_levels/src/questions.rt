@@ -1,5 +1,5 @@
 // Questions to a map.
-ghost use Rattle.std.specs.Prelude.{◌≡◌, ◌+◌, ◌<◌};
+ghost use Rattle.std.specs.Prelude.{◌≡◌};
 ghost use Rattle.std.specs.Prelude.{◌==◌, List};
 ghost use Rattle.std.specs.Prelude.{Option, Some, None, find};
 ghost use Rattle.std.specs.Option.{option_copied};
@@ -72,23 +72,17 @@ impl LogMap {
 
     /// The greatest key up to `q` that the map has, with its value, if there is one.
     ///
-    /// At each key from it to `q` that the levels and the buffer have, deleted ones, the levels are
-    /// searched anew. Takes no memory.
+    /// Each level is searched once, by its grid or its index, and from there on gone back along key
+    /// by key, past keys that were deleted: at worst past each key up to `q` that the levels and
+    /// the buffer have. At each the key before it of each level is looked at, and the buffer is
+    /// gone through. Takes no memory.
     pub fn previous(&self, q: u64) -> Option<(u64, u64)>
         ensures { (updates : List Update) → StandsFor self.now updates →
             result ≡ previous_to (map_after updates) q }
     {
-        let mut bound = self.bare.before(q);
-        while let Some(key) = self.greatest_key(bound) {
-            if let Some(value) = self.get(key) {
-                return Some((key, value));
-            }
-            if key == 0 {
-                return None;
-            }
-            bound = key - 1;
-        }
-        None
+        let bound = self.bare.before(q);
+        let mut places = self.places_behind(bound);
+        self.previous_pair(&mut places, 0, u128::from(bound) + 1)
     }
 
     /// The value at a key, if the map has the key, where the buffer has no entry with it.

@@ -1,14 +1,13 @@
-// A walk over the keys of a map in rising order, and the greatest key up to a bound.
-ghost use Rattle.std.specs.Prelude.{◌≡◌, ◌+◌, ◌-◌, ◌<◌, ◌≤◌, ◌^◌, ◌⊎◌};
+// A walk over the keys of a map in rising order.
+ghost use Rattle.std.specs.Prelude.{◌≡◌, ◌+◌, ◌-◌, ◌<◌, ◌≤◌, ◌^◌};
 ghost use Rattle.std.specs.Prelude.{ℕ, List, length, max, MatchOption};
 ghost use Rattle.std.specs.Prelude.{Some, None, IfSome, IsNone};
 ghost use Rattle.options.specs.declared.map.TheConstants.{MAX_LEVELS};
 ghost use Rattle.tombstones.specs.declared.entry.Entry.{Entry};
-ghost use Rattle.map_level.specs.Levels.{last_at, level_keys, IsBelow, IsAbove};
+ghost use Rattle.map_level.specs.Levels.{last_at, IsBelow};
 ghost use Rattle.std.specs.Int.{bit_at};
 ghost use Rattle.arrayvec.specs.ArrayVec.{array_vec_len};
 ghost use Rattle.log_levels.specs.Shapes.{IsCutOf, level_of, from_bit};
-ghost use Rattle.window_search.specs.Searches.{lb};
 ghost use Rattle.tombstones.specs.Entries.{entry_at};
 ghost use Rattle.log_levels.specs.Kept.{ArePlaces, AreBehind, AreHeads, IsFirst, IsLeft};
 ghost use Rattle.log_levels.specs.Kept.{IsAbsent, IsNextLive, first_key};
@@ -198,34 +197,6 @@ impl LogMap {
             rest = behind;
         }
     }
-
-    /// The greatest key up to `bound` with an entry, if there is one.
-    pub(crate) fn greatest_key(&self, bound: u64) -> Option<u64>
-        ensures within { IfSome result (λ key. key ≤ bound) }
-        ensures greatest { (key : ℕ) → key ≤ bound → IsAbove key result → IsAbsent self.now key }
-    {
-        let places = self.places(bound);
-        let mut greatest = greatest_to(&self.buffer, bound);
-        let mut rest = self.occupied();
-        while rest != 0 {
-            let (i, behind) = lowest_and_rest(rest);
-            greatest = greater(greatest, self.key_in_level_to(i, places[i], bound));
-            rest = behind;
-        }
-        greatest
-    }
-
-    /// The greatest key of a level up to `bound`, which is at this place, if there is one.
-    fn key_in_level_to(&self, i: usize, place: usize, bound: u64) -> Option<u64>
-        requires { (level : List Entry) → level_of self.now i ≡ Some level →
-            place ≡ lb (level_keys level) bound }
-        ensures within { IfSome result (λ key. key ≤ bound) }
-        ensures greatest { (key : ℕ) (level : List Entry) → key ≤ bound → IsAbove key result →
-            level_of self.now i ≡ Some level → entry_at level key ≡ None }
-    {
-        let level = self.level(i)?;
-        level.key_to(place, bound)
-    }
 }
 
 /// The entry of the buffer, if it comes next: its key is at most that of a level.
@@ -246,38 +217,5 @@ fn next_of(buffered: Option<Entry>, found: Option<First>) -> Option<Entry>
             }
         }
         None => Some(entry),
-    }
-}
-
-/// The greatest key up to `bound`, if there is one.
-fn greatest_to(entries: &[Entry], bound: u64) -> Option<u64>
-    ensures within { IfSome result (λ key. key ≤ bound) }
-    ensures greatest { (key : ℕ) → key ≤ bound → IsAbove key result →
-        last_at entries.now key ≡ None }
-{
-    let mut greatest = None;
-    for entry in entries {
-        greatest = greater(greatest, key_below(entry.key, bound));
-    }
-    greatest
-}
-
-/// A key, where it isn't above `bound`.
-fn key_below(key: u64, bound: u64) -> Option<u64>
-    ensures within { IfSome result (λ key. key ≤ bound) }
-    ensures greatest { key ≤ bound → result ≡ Some key }
-{
-    if key > bound { None } else { Some(key) }
-}
-
-/// The greater of two keys, where there are two.
-fn greater(one: Option<u64>, other: Option<u64>) -> Option<u64>
-    ensures one { (key : ℕ) → IsAbove key result → IsAbove key one }
-    ensures other { (key : ℕ) → IsAbove key result → IsAbove key other }
-    ensures either { (result ≡ one) ⊎ (result ≡ other) }
-{
-    match (one, other) {
-        (Some(a), Some(b)) => Some(a.max(b)),
-        (None, key) | (key, None) => key,
     }
 }

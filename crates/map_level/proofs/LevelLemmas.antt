@@ -181,30 +181,3 @@ key-before list entries bound place same ascending at =
             ap (λ (l : List Entry). (slice_index_or l (place - 1) no_entry).key) same,
           ),
     )
-
--- from the key before a bound's place up to the bound no key has an entry, if the bound has none
-pub key-behind : (list entries : List Entry) (bound place j : ℕ) → list ≡ entries →
-    IsAscending entries → place ≡ lb (level_keys entries) bound → entry_at entries bound ≡ None → j ≤ bound
-    → (0 < place → (slice_index_or list (place - 1) no_entry).key < j) → entry_at entries j ≡ None
-key-behind list entries bound place j same ascending at missing le above = go (entry_at entries j) refl
-  where
-    go : (found : Option Entry) → entry_at entries j ≡ found → entry_at entries j ≡ None
-    go None is = is
-    go (Some e) is =
-        let (i, inside, stands) = Contains-entry_at entries j e is in
-        let here : slice_index_or (level_keys entries) i 0 ≡ j = key-at entries i 0 e inside
-        ∙ ap (λ (x : Entry). x.key) stands ∙ key-entry_at entries j e is in
-        let lower = IsLowerBound-lb (level_keys entries) bound (keys-never_fall entries ascending) in
-        let count = length-level_keys entries in
-        elim (cases_lt i place) [
-          | inl less ↦ absurd (omega (
-            arith,
-            above (omega arith),
-            keys-never_fall entries ascending i (place - 1) 0 (omega arith) (omega (arith, lower.within)),
-            key-at entries (place - 1) 0 no_entry (omega (arith, lower.within)),
-            ap (λ (l : List Entry). (slice_index_or l (place - 1) no_entry).key) same,
-          ))
-          | inr past ↦
-              let equal : j ≡ bound = omega (arith, lower.from i (omega arith) (omega arith)) in
-              ap (entry_at entries) equal ∙ missing
-        ]

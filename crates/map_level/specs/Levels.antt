@@ -22,11 +22,6 @@ abbrev pub IsBelow : ℕ → Option ℕ → Type 0
 IsBelow key None = ⊤
 IsBelow key (Some least) = key < least
 
--- the key is above the greatest one, if there is one
-abbrev pub IsAbove : ℕ → Option ℕ → Type 0
-IsAbove key None = ⊤
-IsAbove key (Some greatest) = greatest < key
-
 -- the index is the one of the entries' keys
 pub record IsIndexed (entries : List Entry) (index : PgmIndex) : Type 0 where
   pub ascending : IsAscending entries

@@ -6,7 +6,7 @@ ghost use Rattle.std.specs.Bool.{OnFalse};
 ghost use Rattle.std.specs.Option.{option_copied};
 ghost use Rattle.levels.specs.Indexes.{IsIndex};
 ghost use Rattle.tombstones.specs.Entries.{IsAscending, entry_at};
-ghost use Rattle.map_level.specs.Levels.{IsAbove, IsBelow, level_keys};
+ghost use Rattle.map_level.specs.Levels.{IsBelow, level_keys};
 ghost use Rattle.window_search.specs.Searches.{lb};
 
 use crate::builder::Builder;
@@ -174,24 +174,6 @@ impl Level {
             return None;
         }
         Some(entries[place].key)
-    }
-
-    /// The greatest key up to `bound`, which is at this place, if there is one.
-    #[inline]
-    pub fn key_to(&self, place: usize, bound: u64) -> Option<u64>
-        requires { place ≡ lb (level_keys self.now) bound }
-        ensures within { IfSome result (λ key. key ≤ bound) }
-        ensures greatest { (key : ℕ) → key ≤ bound → IsAbove key result →
-            entry_at self.now key ≡ None }
-    {
-        let entries = self.entries();
-        if let Some(_) = self.entry_from(place, bound) {
-            return Some(bound);
-        }
-        if place == 0 {
-            return None;
-        }
-        Some(entries[place - 1].key)
     }
 
     /// The one index of the keys, with the error bounds [`EPS`] and [`EPS_REC`].

@@ -14,6 +14,8 @@ mod log_levels_draws;
 #[cfg(test)]
 mod log_levels_ends;
 #[cfg(test)]
+mod log_levels_pairs;
+#[cfg(test)]
 mod log_levels_ranges;
 #[cfg(test)]
 mod log_levels_rows;

@@ -22,7 +22,7 @@ pub(crate) fn no_values(alloc: Global, keys: usize) -> Result<Vec<Option<u64>>, 
 
 /// The pairs of the list between two keys, `most` of them at most, and nothing in what is left of
 /// a room for so many.
-fn filled_room(
+pub(crate) fn filled_room(
     alloc: Global,
     plain: &[Option<u64>],
     from: u64,
@@ -78,7 +78,7 @@ pub(crate) fn plain_floor(plain: &[Option<u64>], q: u64) -> Option<(u64, u64)> {
 }
 
 /// A draw below `n`.
-fn draw(draws: &mut Generator, n: u64) -> u64
+pub(crate) fn draw(draws: &mut Generator, n: u64) -> u64
     requires { 0 < n }
     ensures { result < n }
 {

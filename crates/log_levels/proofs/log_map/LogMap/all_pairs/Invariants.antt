@@ -3,7 +3,7 @@ use Rattle.log_levels.specs.declared.update.Update.{Update}
 use Rattle.log_levels.specs.Maps.{map_after, value_at, pairs_between}
 use Rattle.log_levels.specs.Shapes.{StandsFor}
 use Rattle.log_levels.specs.Kept.{IsLeft}
-use Rattle.log_levels.proofs.log_map.LogMap.pairs.Given as goal
+use Rattle.log_levels.proofs.log_map.LogMap.all_pairs.Given as goal
 
 abbrev pub invariant-loop-key : goal.invariant-loop-key
 invariant-loop-key l = record {
