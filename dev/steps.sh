@@ -1,5 +1,6 @@
-# What `pgmtool` and `examples/install.sh` say of their steps: sourced by both. How a long one goes
-# is one line on standard error, where that is a terminal; elsewhere it isn't written.
+# What `pgmtool` and the scripts of `examples/` share: the kit, the version, and what they say of
+# their steps. How a long one goes is one line on standard error, where that is a terminal; elsewhere
+# it isn't written.
 
 # What wipes that line, for those who write others between.
 wipe=
@@ -8,6 +9,9 @@ shower=
 
 # The kit that all was proved with.
 kit=rattle-kit-13f
+
+# The version, which stands in the header, of the repository in this folder.
+version_of() { sed -n 's/^#define KULDEBIQ_VERSION_TEXT "\(.*\)"$/\1/p' "$1/include/kuldebiq.h"; }
 
 # For the script of this name: if there is no `rt`, says what it is and how to get it, and fails; if
 # there is one of another kit, says so.

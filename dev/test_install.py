@@ -2,12 +2,15 @@
 import os
 import pathlib
 import pty
+import re
 import shutil
 import subprocess
 import tempfile
 import unittest
 
 TOP = pathlib.Path(__file__).resolve().parent.parent
+VERSION = re.search('VERSION_TEXT "(.*)"', (TOP / "include/kuldebiq.h").read_text())[1]
+INTERFACE = VERSION.rpartition(".")[0]
 # Stands in for `rt`: writes what it was asked, where, and keeps of a crate what `rt` keeps.
 RT = r"""#!/bin/bash
 echo "$(basename "$PWD"): $*" >>"$STAND_IN/asked"
@@ -85,12 +88,12 @@ class Install(unittest.TestCase):
         self.assertEqual(found, ["include/kuldebiq.h", "include/kuldebiq.hpp",
                                  "lib/cmake/kuldebiq/kuldebiq-config-version.cmake",
                                  "lib/cmake/kuldebiq/kuldebiq-config.cmake", "lib/libkuldebiq.a",
-                                 "lib/libkuldebiq.so", "lib/libkuldebiq.so.0.1",
+                                 "lib/libkuldebiq.so", f"lib/libkuldebiq.so.{INTERFACE}",
                                  "lib/pkgconfig/kuldebiq.pc"])
         names = subprocess.run(["nm", "-D", "--defined-only", there / "lib/libkuldebiq.so"],
                                stdout=subprocess.PIPE, text=True, check=True).stdout
         self.assertEqual(sorted(it.split()[-1] for it in names.splitlines()),
-                         ["KULDEBIQ_0.1", "kuldebiq_one@@KULDEBIQ_0.1"])
+                         [f"KULDEBIQ_{INTERFACE}", f"kuldebiq_one@@KULDEBIQ_{INTERFACE}"])
         for name in ("pkgconfig/kuldebiq.pc", "cmake/kuldebiq/kuldebiq-config.cmake"):
             text = (there / "lib" / name).read_text()
             self.assertNotIn(str(self.room), text)
@@ -106,16 +109,16 @@ class Install(unittest.TestCase):
     def test_the_archive(self):
         ran = subprocess.run([self.top / "examples/pack.sh", "packed"], cwd=self.room, env=self.environment,
                              stdout=subprocess.PIPE, stderr=subprocess.PIPE, text=True)
-        self.assertEqual((ran.returncode, ran.stdout), (0, "packed/kuldebiq-0.1.0-linux-x86_64.tar.gz\n"))
+        self.assertEqual((ran.returncode, ran.stdout), (0, f"packed/kuldebiq-{VERSION}-linux-x86_64.tar.gz\n"))
         empty = self.room / "empty"
         empty.mkdir()
         subprocess.run(["tar", "-C", empty, "-xzf", self.room / ran.stdout.strip()], check=True)
-        there = empty / "kuldebiq-0.1.0-linux-x86_64"
+        there = empty / f"kuldebiq-{VERSION}-linux-x86_64"
         self.assertEqual(sorted(it.name for it in there.iterdir()), ["LICENSE", "include", "lib"])
-        self.put("user/CMakeLists.txt", """
+        self.put("user/CMakeLists.txt", f"""
             cmake_minimum_required(VERSION 3.16)
             project(user C)
-            find_package(kuldebiq 0.1 REQUIRED)
+            find_package(kuldebiq {INTERFACE} REQUIRED)
             add_executable(user user.c)
             target_link_libraries(user kuldebiq::kuldebiq)
         """)

@@ -115,7 +115,7 @@ if ! told "$made/log" crates/kuldebiq lib proof_so_far "$made/log" "$made/order"
     exit 1
 fi
 
-version=$(sed -n 's/^#define KULDEBIQ_VERSION_TEXT "\(.*\)"$/\1/p' include/kuldebiq.h)
+version=$(version_of "$top")
 # Below 1.0 a library takes the place of one of the same minor version alone.
 interface=${version%.*}
 object=libkuldebiq.so.$interface

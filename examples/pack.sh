@@ -11,7 +11,8 @@ if [ $# -ne 1 ]; then
     exit 2
 fi
 top=$(cd "$(dirname "$(readlink -f "$0")")/.." && pwd)
-version=$(sed -n 's/^#define KULDEBIQ_VERSION_TEXT "\(.*\)"$/\1/p' "$top/include/kuldebiq.h")
+source "$top/dev/steps.sh"
+version=$(version_of "$top")
 name=kuldebiq-$version-linux-x86_64
 made=$(mktemp -d)
 trap 'rm -rf "$made"' EXIT

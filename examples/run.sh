@@ -4,6 +4,7 @@
 # there is skipped. The tests of the package for Python run behind them over the same library.
 set -eu
 cd "$(dirname "$0")/.."
+source dev/steps.sh
 
 have() { command -v "$1" >/dev/null 2>&1; }
 
@@ -101,6 +102,7 @@ if ! diff "$made/declared" "$made/exported" ||
 fi
 
 # The archive, unpacked in an empty folder, is found by pkg-config and by CMake.
+version=$(version_of .)
 examples/pack.sh "$made" >"$log" 2>&1 || { tail -n 20 "$log"; exit 1; }
 mkdir "$made/empty"
 tar -C "$made/empty" -xzf "$made"/kuldebiq-*-linux-x86_64.tar.gz
@@ -114,7 +116,7 @@ if have pkg-config; then
 fi
 if have cmake && have "$cxx"; then
     printf '%s\n' 'cmake_minimum_required(VERSION 3.16)' 'project(walk C)' \
-        'find_package(kuldebiq 0.1 REQUIRED)' "add_executable(walk $PWD/examples/c/walk.c)" \
+        "find_package(kuldebiq ${version%.*} REQUIRED)" "add_executable(walk $PWD/examples/c/walk.c)" \
         'target_link_libraries(walk kuldebiq::kuldebiq)' >"$made/CMakeLists.txt"
     cmake -S "$made" -B "$made/build" "-DCMAKE_PREFIX_PATH=$unpacked" >"$log" 2>&1 &&
         cmake --build "$made/build" >>"$log" 2>&1 || { tail -n 20 "$log"; exit 1; }

@@ -59,16 +59,17 @@
  * call, their reads of memory overlap.
  *
  * kuldebiq_map_get searches a buffer of 64 entries, and then the map's levels, the newest first, up
- * to the first one that has the key. kuldebiq_map_range searches each level once for each 64 pairs
- * that it writes, and then goes along key by key. kuldebiq_map_count searches each level once and
- * goes along all the keys that it counts. kuldebiq_map_next and kuldebiq_map_first search each level
- * once and go along the deleted keys that they pass, each of which costs as much as another key;
- * kuldebiq_map_previous and kuldebiq_map_last search the levels anew at each of them. A map
- * remembers one stretch of numbers without a key: a sweep leaves one, kuldebiq_map_pop_first up to
- * the key that it took, kuldebiq_map_pop_last from that key on, and kuldebiq_map_del none. A search
- * that begins in it goes on behind it. So a queue takes its first key by kuldebiq_map_pop_first:
- * after kuldebiq_map_first and kuldebiq_map_del each search would pass all the keys that were taken
- * before.
+ * to the first one that has the key; kuldebiq_map_get_many does so for 32 keys side by side.
+ * kuldebiq_map_range searches each level once for each 64 pairs that it writes, and then goes along
+ * key by key. kuldebiq_map_count searches each level once and goes along all the keys that it
+ * counts. kuldebiq_map_next and kuldebiq_map_first, and downwards kuldebiq_map_previous and
+ * kuldebiq_map_last, search each level once and go along the deleted keys that they pass, each of
+ * which costs as much as another key. A map remembers one stretch of numbers without a key, where 0
+ * comes behind 2^64 - 1: a sweep leaves one, kuldebiq_map_pop_first up to the key that it took,
+ * kuldebiq_map_pop_last from that key on, and kuldebiq_map_del none. A search that begins in it
+ * goes on behind it. So keys may be taken from both ends in turn, and a queue takes its first key
+ * by kuldebiq_map_pop_first: after kuldebiq_map_first and kuldebiq_map_del each search would pass
+ * all the keys that were taken before.
  *
  * A put writes to the buffer. Each 64th put merges levels: half of the time only the lowest, and at
  * the longest all of them, which takes as long as loading the whole map. A level that has an entry
@@ -689,6 +690,17 @@ kuldebiq_answer kuldebiq_map_apply(kuldebiq_map *map, const kuldebiq_update *upd
  * Refused with KULDEBIQ_NOTHING_HELD, or with KULDEBIQ_ABSENT if the map doesn't have the key. */
 KULDEBIQ_NODISCARD
 kuldebiq_answer kuldebiq_map_get(kuldebiq_map *map, uint64_t key) KULDEBIQ_NOT_NULL((1));
+
+/* Writes the value at each key at its place, and whether the map has the key: present[i] is 1 if it
+ * has, and else 0, with values[i] = 0. The number is how many keys there are. Faster than one call
+ * for each. Takes no memory.
+ *
+ * Refused with KULDEBIQ_NOTHING_HELD, or with KULDEBIQ_TOO_LITTLE_ROOM if either room is too
+ * little. Then nothing is written. */
+KULDEBIQ_NODISCARD
+kuldebiq_answer kuldebiq_map_get_many(kuldebiq_map *map, const uint64_t *keys, size_t count,
+                                      uint64_t *values, size_t room, uint8_t *present,
+                                      size_t present_room) KULDEBIQ_NOT_NULL((1));
 
 /* The number is 1 if the map has a key, and 0 if not.
  *

@@ -434,6 +434,12 @@ public:
         if (answer.status == KULDEBIQ_ABSENT) return std::nullopt;
         return number(answer);
     }
+    // The values at many keys, written at their places, and whether the map has the key: 1, or else
+    // 0 with 0 as the value.
+    void get_many(words keys, std::span<std::uint64_t> values, std::span<std::uint8_t> present) {
+        number(kuldebiq_map_get_many(get(), keys.data(), keys.size(), values.data(), values.size(),
+                                     present.data(), present.size()));
+    }
     bool contains(std::uint64_t key) { return number(kuldebiq_map_contains(get(), key)) != 0; }
     bool empty() { return number(kuldebiq_map_is_empty(get())) != 0; }
     // How many keys there are from one to another, both included. Goes along them.

@@ -73,6 +73,12 @@ static void load_and_compact(kuldebiq_map *map) {
     expect(is(kuldebiq_map_range(map, 1997, 9999, &last, 1), KULDEBIQ_DONE, 1) && last.key == 1998 &&
                is(kuldebiq_map_previous(map, 5, &last), KULDEBIQ_DONE, 0) && last.value == 2,
            "pairs without memory");
+    const uint64_t keys[] = {1998, 1999, 0};
+    uint64_t values[3];
+    uint8_t present[3];
+    expect(is(kuldebiq_map_get_many(map, keys, 3, values, 3, present, 3), KULDEBIQ_DONE, 3) &&
+               present[0] == 1 && values[0] == 999 && present[1] == 0 && values[1] == 0,
+           "values without memory");
 }
 
 int main(void) {

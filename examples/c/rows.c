@@ -1,10 +1,11 @@
-/* Rows in three columns, sorted by the code of their place (x, y): a box is some stretches of rows, and
- * a column is summed over them. Beside it each row is tested. */
+/* Rows in three columns, sorted by the code of their place (x, y): a box is some stretches of rows,
+ * and a column is summed over them. Beside it each row is tested. Beside the rows that are nearest to
+ * a centre all are sorted by how far they are. */
 #include "answers.h"
 
 #include <stdbool.h>
 
-enum { COUNT = 200000, SIDE = 65536 };
+enum { COUNT = 200000, SIDE = 65536, NEAREST = 20 };
 
 /* The rows: where each is, and an amount. */
 static uint32_t x[COUNT], y[COUNT];
@@ -91,6 +92,44 @@ static void ask(const kuldebiq_region *region, const uint64_t *hints, size_t cou
            region->low[0], region->low[1], region->high[0], region->high[1], sum.rows, sum.amount);
 }
 
+static uint64_t how_far(size_t row, const uint32_t centre[2], uint32_t metric) {
+    uint64_t right = x[row] < centre[0] ? centre[0] - x[row] : x[row] - centre[0];
+    uint64_t up = y[row] < centre[1] ? centre[1] - y[row] : y[row] - centre[1];
+    if (metric == KULDEBIQ_EUCLID) return right * right + up * up;
+    return right < up ? up : right;
+}
+
+/* By the distance, and then by the row. */
+static int by_distance(const void *one, const void *other) {
+    const kuldebiq_neighbour *a = one, *b = other;
+    if (a->distance != b->distance) return a->distance < b->distance ? -1 : 1;
+    return a->place < b->place ? -1 : a->place > b->place;
+}
+
+static void ask_near(const uint32_t centre[2], uint32_t metric, const uint64_t *hints,
+                     size_t count) {
+    static kuldebiq_neighbour all[COUNT];
+    for (size_t row = 0; row < COUNT; row++) {
+        all[row] = (kuldebiq_neighbour){row, how_far(row, centre, metric), 0};
+    }
+    qsort(all, COUNT, sizeof all[0], by_distance);
+    kuldebiq_neighbour near[NEAREST];
+    number("nearest",
+           kuldebiq_nearest(codes, COUNT, hints, count, centre, 2, metric, near, NEAREST));
+    uint64_t sum = 0;
+    for (size_t i = 0; i < NEAREST; i++) {
+        if (by_distance(&near[i], &all[i]) != 0) {
+            fputs("rows: others are nearer by a sort of all\n", stderr);
+            exit(1);
+        }
+        sum += amount[near[i].place];
+    }
+    printf("nearest to (%" PRIu32 ", %" PRIu32 ") by %s: %d rows, amount %" PRIu64 ", from %" PRIu64
+           " to %" PRIu64 " away\n",
+           centre[0], centre[1], metric == KULDEBIQ_EUCLID ? "squares" : "the greater difference",
+           NEAREST, sum, near[0].distance, near[NEAREST - 1].distance);
+}
+
 /* Refused, with a number that says why. */
 static void refuse(const kuldebiq_region *region) {
     kuldebiq_stretch stretch;
@@ -111,6 +150,11 @@ int main(void) {
         {2, {7, 7}, {7, 7}},
     };
     for (size_t i = 0; i < sizeof regions / sizeof regions[0]; i++) ask(&regions[i], hints, count);
+    const uint32_t centres[][2] = {{32768, 32767}, {0, SIDE - 1}, {123, 45678}};
+    for (size_t i = 0; i < sizeof centres / sizeof centres[0]; i++) {
+        ask_near(centres[i], KULDEBIQ_CHEBYSHEV, hints, count);
+        ask_near(centres[i], KULDEBIQ_EUCLID, hints, count);
+    }
     refuse(&(kuldebiq_region){5, {0}, {0}});
     refuse(&(kuldebiq_region){2, {0, 4}, {9, 3}});
     refuse(&(kuldebiq_region){3, {0, 0, 0}, {9, 9, 1u << 21}});

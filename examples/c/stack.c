@@ -10,7 +10,8 @@
 enum { SIZE = 1 << 20, PAINT = 0xa5, COUNT = 300000 };
 
 static unsigned char stack[SIZE];
-static uint64_t keys[COUNT], hints[2 * COUNT];
+static uint64_t keys[COUNT], hints[2 * COUNT], values[COUNT];
+static uint8_t present[COUNT];
 static size_t places[COUNT];
 static uint32_t positions[COUNT], narrow[COUNT];
 static kuldebiq_pair pairs[COUNT];
@@ -44,6 +45,7 @@ static void update(void) {
     number("new", kuldebiq_map_new(&map, 16));
     for (size_t i = 0; i < COUNT; i++) number("put", kuldebiq_map_put(&map, keys[i], i));
     number("apply", kuldebiq_map_apply(&map, updates, COUNT));
+    number("get many", kuldebiq_map_get_many(&map, keys, COUNT, values, COUNT, present, COUNT));
     number("sweep", kuldebiq_map_sweep(&map, 0, keys[COUNT / 2]));
     number("range", kuldebiq_map_range(&map, 0, UINT64_MAX, pairs, COUNT));
     number("count", kuldebiq_map_count(&map, 0, UINT64_MAX));

@@ -9,6 +9,7 @@
 #include <iterator>
 #include <map>
 #include <random>
+#include <string>
 #include <sys/mman.h>
 #include <thread>
 #include <utility>
@@ -438,6 +439,39 @@ void ask(kuldebiq_map &map, const Wanted &wanted, std::uint64_t key) {
     }
 }
 
+// The values at many keys, in rooms for three more, which stay as they are.
+void compare_values(kuldebiq_map &map, const Wanted &wanted, const Keys &keys) {
+    Keys values(keys.size() + 3, 7);
+    std::vector<std::uint8_t> present(keys.size() + 3, 9);
+    const auto stays = [](const auto &room, std::size_t from, unsigned what) {
+        return std::all_of(room.begin() + std::ptrdiff_t(from), room.end(),
+                           [&](auto number) { return number == what; });
+    };
+    const auto untouched = [&](std::size_t from) {
+        return stays(values, from, 7) && stays(present, from, 9);
+    };
+    const std::size_t little = keys.size() - 1, enough = values.size();
+    expect(is(kuldebiq_map_get_many(&map, keys.data(), keys.size(), values.data(), little,
+                                    present.data(), enough),
+              KULDEBIQ_TOO_LITTLE_ROOM, keys.size()) &&
+               is(kuldebiq_map_get_many(&map, keys.data(), keys.size(), values.data(), enough,
+                                        present.data(), little),
+                  KULDEBIQ_TOO_LITTLE_ROOM, keys.size()) &&
+               untouched(0),
+           "room for too few values");
+    expect(gives(kuldebiq_map_get_many(&map, keys.data(), keys.size(), values.data(), enough,
+                                       present.data(), enough),
+                 keys.size()) &&
+               untouched(keys.size()),
+           "how many values");
+    for (std::size_t i = 0; i < keys.size(); i++) {
+        const auto at = wanted.find(keys[i]);
+        expect(at == wanted.end() ? present[i] == 0 && values[i] == 0
+                                  : present[i] == 1 && values[i] == at->second,
+               "one of many values");
+    }
+}
+
 // Whether an answer with a pair is that of an end of a map: the pair there, or that there is none.
 bool ends(const kuldebiq_answer &answer, const kuldebiq_pair &pair, const Wanted &wanted, bool least) {
     if (wanted.empty()) {
@@ -551,6 +585,13 @@ void compare_map(std::mt19937_64 &random, std::size_t count) {
                is(kuldebiq_map_contains(&none, 9), KULDEBIQ_NOTHING_HELD, 0) &&
                is(kuldebiq_map_is_empty(&none), KULDEBIQ_NOTHING_HELD, 0),
            "no map to go through");
+    Keys keys{UINT64_MAX};
+    for (std::uint64_t i = 0; i < 1000; i++) keys.push_back(random() % top);
+    compare_values(map, wanted, keys);
+    expect(is(kuldebiq_map_get_many(&none, keys.data(), 1, nullptr, 0, nullptr, 0),
+              KULDEBIQ_NOTHING_HELD, 0) &&
+               gives(kuldebiq_map_get_many(&map, nullptr, 0, nullptr, 0, nullptr, 0), 0),
+           "values of no map, and at no keys");
     for (std::size_t room = 0; room < 300; room += 1 + room / 8) {
         const std::uint64_t low = random() % top;
         compare_range(map, wanted, low, low + random() % top, room);
@@ -627,7 +668,11 @@ int main(int words, char **word) {
     compare_map(random, count);
     compare_applied(random, count);
     compare_full();
-    expect(kuldebiq_version() == KULDEBIQ_VERSION, "the version");
+    const std::uint32_t version = kuldebiq_version();
+    const std::string text = std::to_string(version / 1000000) + '.' +
+                             std::to_string(version / 1000 % 1000) + '.' +
+                             std::to_string(version % 1000);
+    expect(version == KULDEBIQ_VERSION && text == KULDEBIQ_VERSION_TEXT, "the version");
     std::cout << "no difference\n";
     return 0;
 }

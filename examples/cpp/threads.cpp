@@ -1,5 +1,6 @@
 // What threads that ask at once cost one another. With no words it compares what they answer, on few
-// keys. With two, as many keys as the first says and as many questions for each thread as the second,
+// keys, also by the other calls that may be made side by side. With two, as many keys as the first
+// says and as many questions for each thread as the second,
 //
 //     threads KEYS QUESTIONS
 //
@@ -47,9 +48,19 @@ Numbers random_numbers(std::uint64_t seed, std::size_t count) {
     return numbers;
 }
 
-Numbers hints_of(const Numbers &keys) {
+using Narrow = std::vector<std::uint32_t>;
+
+kuldebiq_answer built(kuldebiq_hints *held, const Numbers &keys) {
+    return kuldebiq_hints_build(held, keys.data(), keys.size(), 64);
+}
+
+kuldebiq_answer built(kuldebiq_hints *held, const Narrow &keys) {
+    return kuldebiq_hints_build32(held, keys.data(), keys.size(), 64);
+}
+
+template <typename Keys> Numbers hints_of(const Keys &keys) {
     kuldebiq_hints held = KULDEBIQ_NOTHING;
-    const kuldebiq_answer made = kuldebiq_hints_build(&held, keys.data(), keys.size(), 64);
+    const kuldebiq_answer made = built(&held, keys);
     expect(made.status == KULDEBIQ_DONE, "hints");
     Numbers hints(made.number);
     const kuldebiq_answer written = kuldebiq_hints_write(&held, hints.data(), hints.size());
@@ -109,6 +120,83 @@ Numbers wanted(const Numbers &keys, const std::vector<Numbers> &questions) {
     return sums;
 }
 
+// Keys, and the upper halves of them, with hints of each. Any key is the code of a point.
+struct Lists {
+    Numbers keys, hints;
+    Narrow narrow;
+    Numbers narrow_hints;
+};
+
+Lists lists_of(const Numbers &keys, const Numbers &hints) {
+    Narrow narrow;
+    for (const std::uint64_t key : keys) narrow.push_back(std::uint32_t(key >> 32));
+    return {keys, hints, narrow, hints_of(narrow)};
+}
+
+// What the calls say that are given lists which all share, and a map of the caller's own.
+Numbers answers(const Lists &lists, const Numbers &questions) {
+    const Numbers &keys = lists.keys, &hints = lists.hints;
+    const std::size_t count = questions.size();
+    Numbers said;
+    const auto keep = [&](kuldebiq_answer answer, const auto &written) {
+        said.insert(said.end(), {answer.status, answer.number});
+        said.insert(said.end(), written.begin(), written.end());
+    };
+    const auto find = [&](auto call, const auto &list, const Numbers &its_hints) {
+        std::vector<std::size_t> places(count);
+        keep(call(list.data(), list.size(), its_hints.data(), its_hints.size(), questions.data(),
+                  count, places.data(), count),
+             places);
+    };
+    find(kuldebiq_find_past_many, keys, hints);
+    find(kuldebiq_find_many32, lists.narrow, lists.narrow_hints);
+    find(kuldebiq_find_past_many32, lists.narrow, lists.narrow_hints);
+    for (const std::uint64_t question : questions) {
+        const auto find_one = [&](auto call) {
+            return call(lists.narrow.data(), lists.narrow.size(), lists.narrow_hints.data(),
+                        lists.narrow_hints.size(), question >> 32);
+        };
+        const std::uint32_t centre[] = {std::uint32_t(question >> 32), std::uint32_t(question)};
+        kuldebiq_neighbour near{};
+        const kuldebiq_answer nearest =
+            kuldebiq_nearest(keys.data(), keys.size(), hints.data(), hints.size(), centre, 2,
+                             KULDEBIQ_EUCLID, &near, 1);
+        keep(nearest, Numbers{near.place, near.distance, near.distance_high,
+                              kuldebiq_told(hints.data(), hints.size(), keys.size(), question),
+                              find_one(kuldebiq_find32), find_one(kuldebiq_find_past32)});
+    }
+    kuldebiq_hints_facts facts{};
+    kuldebiq_hints_of(hints.data(), hints.size(), &facts);
+    kuldebiq_map map = KULDEBIQ_NOTHING;
+    std::vector<kuldebiq_pair> pairs;
+    for (const std::uint64_t key : keys) pairs.push_back({key, ~key});
+    keep(kuldebiq_map_load(&map, 10, pairs.data(), pairs.size()),
+         Numbers{facts.known, facts.epsilon, facts.lines});
+    for (const Numbers &list : {keys, questions}) {
+        Numbers values(list.size());
+        std::vector<std::uint8_t> present(list.size());
+        keep(kuldebiq_map_get_many(&map, list.data(), list.size(), values.data(), values.size(),
+                                   present.data(), present.size()),
+             values);
+        said.insert(said.end(), present.begin(), present.end());
+    }
+    kuldebiq_map_free(&map);
+    return said;
+}
+
+// Four threads are answered the same as one after the other.
+void compare_side_by_side(const Lists &lists, const std::vector<Numbers> &questions) {
+    std::vector<Numbers> beside(questions.size());
+    std::vector<std::thread> running;
+    for (std::size_t i = 0; i < questions.size(); i++) {
+        running.emplace_back([&, i] { beside[i] = answers(lists, questions[i]); });
+    }
+    for (std::thread &thread : running) thread.join();
+    for (std::size_t i = 0; i < questions.size(); i++) {
+        expect(beside[i] == answers(lists, questions[i]), "what calls side by side say");
+    }
+}
+
 void run(std::size_t count, std::size_t each, bool timed) {
     Numbers keys = random_numbers(1, count);
     std::sort(keys.begin(), keys.end());
@@ -119,6 +207,10 @@ void run(std::size_t count, std::size_t each, bool timed) {
     std::vector<Numbers> questions;
     for (std::uint64_t seed = 2; seed < 6; seed++) questions.push_back(random_numbers(seed, each));
     const Numbers want = wanted(keys, questions);
+    if (!timed) {
+        compare_side_by_side(lists_of(keys, hints), questions);
+        std::cout << "calls side by side: no difference\n";
+    }
     if (timed) std::cout << "threads  find  side by side  64 bytes apart\n";
     for (const std::size_t threads : {1, 2, 4}) {
         Numbers found(4), beside(4), apart(4);

@@ -58,6 +58,13 @@ static void queue() {
         std::cout << pair.key << " -> " << pair.value << '\n';
     }
     std::cout << "up to 2: " << map.previous(2)->key << ", absent: " << !map.get(9) << '\n';
+    const std::vector<std::uint64_t> keys{3, 9, 1};
+    std::vector<std::uint64_t> values(keys.size());
+    std::vector<std::uint8_t> present(keys.size());
+    map.get_many(keys, values, present);
+    for (std::size_t i = 0; i < keys.size(); i++) {
+        std::cout << keys[i] << (present[i] ? " -> " : " is absent, ") << values[i] << '\n';
+    }
     std::cout << "last: " << map.pop_last()->key << ", then " << map.last()->key << '\n';
 }
 

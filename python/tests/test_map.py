@@ -114,6 +114,12 @@ class Lives(RuleBasedStateMachine):
         assert self.made.next(key) == ((above[0], self.wanted[above[0]]) if above else None)
         assert self.made.previous(key) == ((below[-1], self.wanted[below[-1]]) if below else None)
 
+    @rule(keys=st.lists(words, max_size=100))
+    def ask_many(self, keys):
+        values, present = self.made.get_many(keys)
+        assert present.tolist() == [key in self.wanted for key in keys]
+        assert values.tolist() == [self.wanted.get(key, 0) for key in keys]
+
     @rule(low=words, high=words)
     def go_through(self, low, high):
         wanted = [(key, self.wanted[key]) for key in self.between(low, high)]

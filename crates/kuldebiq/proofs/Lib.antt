@@ -7,6 +7,7 @@ pub mod Judged
 pub mod PairLemmas
 pub mod Ranges
 pub mod Blocks
+pub mod ManyValues
 pub mod Applied
 pub mod Ends
 mod PastLemmas

@@ -18,6 +18,7 @@ mod building;
 mod code_calls;
 mod end_calls;
 mod find_calls;
+mod get_many;
 mod hints_calls;
 mod hints_handle;
 mod index_calls;

@@ -12,6 +12,7 @@ use crate::find_calls::{
     kuldebiq_find_past_many, kuldebiq_find_past_many32, kuldebiq_find_past32, kuldebiq_find32,
     kuldebiq_hints_of, kuldebiq_told,
 };
+use crate::get_many::kuldebiq_map_get_many;
 use crate::hints_calls::{kuldebiq_hints_build32, kuldebiq_hints_count, kuldebiq_hints_write};
 use crate::hints_handle::HintsHandle;
 use crate::map_calls::{
@@ -81,6 +82,55 @@ fn keys_taken_at_both_ends(rt: HostRuntime) {
     assert_eq!(rt;
         (parts(full), pair.key, pair.value),
         ((FULL, 127), 1240, 124)
+    );
+    map.let_go();
+}
+
+/// Of 65 keys, a block and one more, every third is there; one place too little is refused.
+#[test]
+fn values_at_many_keys(rt: HostRuntime) {
+    let mut map = MapHandle::none(rt.alloc());
+    let mut keys = [0; 65];
+    for i in 0..65 {
+        keys[i] = 10 * i as u64;
+    }
+    let mut values = [7; 66];
+    let mut present = [9; 66];
+    let none = kuldebiq_map_get_many(rt.alloc(), &mut map, &keys, &mut values, &mut present);
+    assert_eq!(rt;
+        (parts(none), values[0], present[0]),
+        ((NOTHING_HELD, 0), 7, 9)
+    );
+    let _made = kuldebiq_map_new(rt.alloc(), &mut map, 1);
+    for i in 0..22 {
+        let _put = kuldebiq_map_put(rt.alloc(), &mut map, 30 * i, i + 1);
+    }
+    let refused = kuldebiq_map_get_many(
+        rt.alloc(),
+        &mut map,
+        &keys,
+        &mut values,
+        &mut present[..64],
+    );
+    assert_eq!(rt;
+        (parts(refused), values[0], present[0]),
+        ((TOO_LITTLE_ROOM, 65), 7, 9)
+    );
+    let done = kuldebiq_map_get_many(rt.alloc(), &mut map, &keys, &mut values, &mut present);
+    assert_eq!(rt; parts(done), (DONE, 65));
+    assert_eq!(rt;
+        (values[0], values[1], values[63], values[64], values[65]),
+        (1, 0, 22, 0, 7)
+    );
+    assert_eq!(rt;
+        (
+            present[0],
+            present[1],
+            present[63],
+            present[64],
+            present[65]
+        ),
+        (1, 0, 1, 0, 9)
     );
     map.let_go();
 }

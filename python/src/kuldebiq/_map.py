@@ -242,6 +242,34 @@ class Map(MutableMapping[int, int]):
         answer = self._look_up(key)
         return default if answer.status == _ABSENT else number_of(answer)
 
+    def get_many(self, keys: ArrayLike) -> tuple[NDArray[numpy.uint64], NDArray[numpy.bool_]]:
+        """The values at many keys, at one time, and which of the keys are there.
+
+        Parameters
+        ----------
+        keys : array_like, shape (n,)
+            Keys in any order.
+
+        Returns
+        -------
+        values : numpy.ndarray of uint64, shape (n,)
+            The value at each key, and 0 for one that isn't there.
+        present : numpy.ndarray of bool, shape (n,)
+        """
+        keys = words(keys)
+        values = numpy.empty(len(keys), numpy.uint64)
+        present = numpy.empty(len(keys), numpy.bool_)
+        self._ask(
+            lib.kuldebiq_map_get_many,
+            ffi.from_buffer("uint64_t[]", keys),
+            len(keys),
+            ffi.from_buffer("uint64_t[]", values),
+            len(values),
+            ffi.from_buffer("uint8_t[]", present),
+            len(present),
+        )
+        return values, present
+
     def __contains__(self, key: object) -> bool:
         try:
             return self._look_up(key).status != _ABSENT
