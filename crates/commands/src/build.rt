@@ -39,8 +39,6 @@ pub fn write_index<S: Sink>(
     bounds: Bounds,
     slack: Option<u32>,
 ) -> Result<(), Failed>
-    requires eps { index.now.eps ≡ bounds.eps }
-    requires eps_rec { index.now.eps_rec ≡ bounds.eps_rec }
     ensures ok { OnOk result (Writes S.Sink out.old out.new (tells_levels index.now.keys
         index.now.levels (built_level index.now.keys (bounds_of bounds) slack index.now.levels))) }
     ensures err { OnErr result (BreaksOff S.Sink out.old out.new (tells_levels index.now.keys
@@ -59,8 +57,6 @@ fn write_levels<S: Sink>(
     bounds: Bounds,
     slack: Option<u32>,
 ) -> Result<(), Failed>
-    requires eps { index.now.eps ≡ bounds.eps }
-    requires eps_rec { index.now.eps_rec ≡ bounds.eps_rec }
     ensures ok { OnOk result (Writes S.Sink out.old out.new
         (flat_map (built_level index.now.keys (bounds_of bounds) slack index.now.levels)
         (places (length index.now.levels)))) }

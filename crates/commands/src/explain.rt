@@ -41,8 +41,6 @@ pub fn write<R: Threads + Sync, S: Sink, G: Gate>(
 
 /// Writes the text line of the keys, and what is told of the levels.
 fn write_index<S: Sink>(out: &mut S, index: &Index, bounds: Bounds) -> Result<(), Failed>
-    requires eps { index.now.eps ≡ bounds.eps }
-    requires eps_rec { index.now.eps_rec ≡ bounds.eps_rec }
     ensures ok { OnOk result (Writes S.Sink out.old out.new (tells_levels index.now.keys
         index.now.levels (level_lines index.now.keys (bounds_of bounds) index.now.levels))) }
     ensures err { OnErr result (BreaksOff S.Sink out.old out.new (tells_levels index.now.keys
@@ -60,8 +58,6 @@ fn write_levels<S: Sink>(
     index: &Index,
     bounds: Bounds,
 ) -> Result<(), Failed>
-    requires eps { index.now.eps ≡ bounds.eps }
-    requires eps_rec { index.now.eps_rec ≡ bounds.eps_rec }
     ensures ok { OnOk result (Writes S.Sink out.old out.new
         (flat_map (level_lines index.now.keys (bounds_of bounds) index.now.levels)
         (places (length index.now.levels)))) }
@@ -84,8 +80,6 @@ fn write_level<S: Sink>(
     i: u32,
 ) -> Result<(), Failed>
     requires there { i < length index.now.levels }
-    requires eps { index.now.eps ≡ bounds.eps }
-    requires eps_rec { index.now.eps_rec ≡ bounds.eps_rec }
     ensures ok { OnOk result (Writes S.Sink out.old out.new
         (level_lines index.now.keys (bounds_of bounds) index.now.levels i)) }
     ensures err { OnErr result (BreaksOff S.Sink out.old out.new

@@ -66,8 +66,6 @@ pub fn fill_level_line(
     i: u32,
 )
     requires there { i < length index.now.levels }
-    requires eps { index.now.eps ≡ bounds.eps }
-    requires eps_rec { index.now.eps_rec ≡ bounds.eps_rec }
     ensures { line.new
         ≡ level_line_of index.now.keys (bounds_of bounds) slack index.now.levels i }
 {

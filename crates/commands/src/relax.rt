@@ -86,8 +86,6 @@ fn write_relaxed<S: Sink>(
     questions: &[u64],
     positions: &[u32],
 ) -> Result<(), Failed>
-    requires eps { index.now.eps ≡ bounds.eps }
-    requires eps_rec { index.now.eps_rec ≡ bounds.eps_rec }
     requires positions { positions.now ≡ map (lb index.now.keys) questions.now }
     ensures ok { OnOk result ((answers : List (List ℕ)) × IsAnswered index.now.keys
         (bounds_of bounds) questions.now false answers × Writes S.Sink out.old out.new
