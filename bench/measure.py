@@ -354,11 +354,15 @@ def boxes(runs, record):
                 for line in rows_of(runs.run(runs.rival(program), *words), "script"):
                     record.add(rows[line["script"]], side, float(line["nanoseconds"]))
                     found[line["script"]][side] = line["found"], line["checksum"]
-            ours, times = our_boxes(runs.run(runs.bench, "box", f"{base}.points", dims, *rows))
-            for script in rows:
+            text = runs.run(runs.bench, "box", f"{base}.points", dims, *rows)
+            made, (ours, times) = next(rows_of(text, "codes")), our_boxes(text)
+            for script, row in rows.items():
                 found[script]["bench"] = ours[script]
                 for way in WAYS:
-                    record.add(rows[script], way, times[script, way])
+                    record.add(row, way, times[script, way])
+                record.put(row, "codes bytes", int(made["codes"]))
+                record.put(row, "hints bytes", int(made["hints"]))
+                record.add(row, "hints build", float(made["build"]))
         for script, sides in found.items():
             agree(script, sides)
 
@@ -373,36 +377,39 @@ def nearest_rivals(runs):
     return rivals
 
 
-def by_euclid(runs, record, row, points, dims, scripts):
-    """The nearest points by Euclid's distance; sums of distances may differ in their last bits."""
-    found = {}
-    for side, words in nearest_rivals(runs).items():
-        text = runs.run(*words, points, dims, PASSES, *scripts)
-        for line, k in zip(rows_of(text, "script"), NEIGHBOURS):
-            record.add(row, f"{side} {k}", float(line["nanoseconds"]))
-            found.setdefault(k, {})[side] = line["found"], f"{float(line['distances']):.9e}"
-    for k, sides in found.items():
-        agree(f"{row}, k = {k}, by Euclid", sides)
+def of_each_k(record, row, found, side, lines, points="found"):
+    """The times of a side, and what it found, of a script's line for each number of neighbours."""
+    for line, k in zip(lines, NEIGHBOURS):
+        record.add(row, f"{side} {k}", float(line["nanoseconds"]))
+        found.setdefault(k, {})[side] = line[points], line["distances"]
+
+
+def rounded(found):
+    """Sums of distances that may differ in their last bits."""
+    return {side: (many, f"{float(distances):.9e}") for side, (many, distances) in found.items()}
 
 
 def near(runs, record):
-    """The search for the nearest points by itself."""
+    """The search for the nearest points by itself, by the greatest difference of a coordinate and
+    by Euclid's distance."""
     for kind, dims in runs.point_sets():
-        points, row, found = runs.points(kind, dims), f"{kind}, {dims} coordinates", {}
+        points, row, found, euclid = runs.points(kind, dims), f"{kind}, {dims} coordinates", {}, {}
         scripts = [runs.centres(points, dims, k) for k in NEIGHBOURS]
         for _ in runs.rounds():
             text = runs.run(runs.rival("kd_tree"), points, dims, PASSES, *scripts)
-            for line, k in zip(rows_of(text, "script"), NEIGHBOURS):
-                record.add(row, f"tree {k}", float(line["nanoseconds"]))
-                found.setdefault(k, {})["tree"] = line["found"], line["distances"]
+            of_each_k(record, row, found, "tree", rows_of(text, "script"))
             text = runs.run(runs.bench, "near", points, dims, *scripts)
-            for line, sums, k in zip(rows_of(text, "script"), rows_of(text, "distances"),
-                                     NEIGHBOURS):
-                record.add(row, f"near {k}", float(sums["nanoseconds"]))
-                found[k]["near"] = line["points"], sums["distances"]
-            by_euclid(runs, record, row, points, dims, scripts)
-        for k, sides in found.items():
-            agree(f"{row}, k = {k}", sides)
+            lines = ({**script, **sums} for script, sums in zip(rows_of(text, "script"),
+                                                                rows_of(text, "distances")))
+            of_each_k(record, row, found, "near", lines, "points")
+            of_each_k(record, row, found, "places", rows_of(text, "chebyshev"), "chebyshev")
+            of_each_k(record, row, euclid, "places by Euclid", rows_of(text, "euclid"), "euclid")
+            for side, words in nearest_rivals(runs).items():
+                text = runs.run(*words, points, dims, PASSES, *scripts)
+                of_each_k(record, row, euclid, side, rows_of(text, "script"))
+        for k in NEIGHBOURS:
+            agree(f"{row}, k = {k}", found[k])
+            agree(f"{row}, k = {k}, by Euclid", rounded(euclid[k]))
 
 
 def nearest(runs, record):

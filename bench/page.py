@@ -6,7 +6,8 @@ import textwrap
 
 import records
 from records import mean
-from tables import (EIGHT, NEIGHBOURS, PAGE, REGULAR, TABLES, WAYS, between, fitted, parts, rate)
+from tables import (EIGHT, PAGE, REGULAR, TABLES, WAYS, between, fitted, over_neighbours, parts,
+                    rate)
 
 # What each part measures: crates with all that they are built of, modules of `bench`, and rivals.
 LOOKUPS = "lookups.cpp", "learned.hpp", "pgm_index.hpp", "searches.hpp", "make_inputs.cpp"
@@ -19,7 +20,7 @@ MEASURES = {
     "pieces": (("levels", "sosd_reader"), (), ()),
     "questions": (("commands", "sosd_reader"), (), ("questions.cpp", "searches.hpp")),
     "boxes": (("boxes",), ("regions", "visiting"), ("boxes.cpp", "points.hpp", "boost_rtree.cpp")),
-    "near": (("near",), ("nearest",), ("kd_tree.cpp", "points.hpp", "boost_rtree.cpp",
+    "near": (("near", "neighbours"), ("nearest",), ("kd_tree.cpp", "points.hpp", "boost_rtree.cpp",
                                        "nanoflann_tree.cpp")),
     "nearest": (("near", "commands"), (), ("kd_tree.cpp", "points.hpp")),
     "map": (("log_levels",), ("map",), ("ordered_maps.cpp",)),
@@ -150,9 +151,7 @@ def seen_boxes(record):
 
 
 def seen_near(record):
-    said = [f"{between(parts(record, f'near {k}', f'tree {k}', None), 1)} at k = {k}"
-            for k in NEIGHBOURS]
-    return f"the search takes {', '.join(said)} of the tree's time"
+    return f"the search takes {over_neighbours(record, 'near', 'tree')} of the tree's time"
 
 
 def seen_map(record):

@@ -122,10 +122,12 @@ PICTURES = (
         proved(*((way, way) for way in WAYS), of=by_bigmin), line=1),
     Bars("nearest", "near", "microseconds a centre", [
         (f"k = {k}", beside(("k-d tree", f"tree {k}"), of=micro) +
-         proved(("nearest_into", f"near {k}"), of=micro)) for k in NEIGHBOURS]),
+         proved(("nearest_into", f"near {k}"), ("nearest_places", f"places {k}"), of=micro))
+        for k in NEIGHBOURS]),
     Bars("euclid", "near", "microseconds a centre, by Euclid's distance", [
         (f"k = {k}", beside(("nanoflann", f"nanoflann {k}"), ("Boost's R-tree", f"Boost {k}"),
-                            ("k-d tree", f"tree by Euclid {k}"), of=micro)) for k in NEIGHBOURS]),
+                            ("k-d tree", f"tree by Euclid {k}"), of=micro) +
+         proved(("nearest_places", f"places by Euclid {k}"), of=micro)) for k in NEIGHBOURS]),
     one("map", "map", "nanoseconds an operation", beside(("absl::btree_map", "btree_map")),
         proved(("LogMap", "LogMap")), rows=tables.WORKS),
     one("readers", "readers", "millions of looks a second",

@@ -209,24 +209,45 @@ def says_of_workers(record):
             f"four {said[2]}.")
 
 
-WAYS = "count", "fill", "visit"
+WAYS = "count", "places", "fill", "visit"
 
 
 def says_of_boxes(record):
-    said = [f"`{way}` {mean(values):.2f} ({between(values)})"
-            for way, values in ((way, parts(record, way, "C++", None)) for way in WAYS)]
-    boost = parts(record, "Boost", "C++", None)
-    said += [f"Boost's R-tree {mean(boost):.2f} ({between(boost)})"] if boost else []
-    return f"In the geometric mean over the sets: {', '.join(said)}."
+    sides = [(f"`{way}`", way) for way in WAYS] + [("Boost's R-tree", "Boost")]
+    said = [f"{side} {mean(values):.2f} ({between(values)})"
+            for side, values in ((side, parts(record, way, "C++", None)) for side, way in sides)
+            if values]
+    return f"In the geometric mean over the sets: {', '.join(said)}.{says_of_code_hints(record)}"
+
+
+def says_of_code_hints(record):
+    """What the hints of the codes take, where they were made."""
+    codes, sizes, builds = map(record.least_of, ("codes bytes", "hints bytes", "hints build"))
+    if not codes:
+        return ""
+    milliseconds = between([build * 1e3 for build in builds], 0)
+    return (f" The hints have {min(sizes):,} to {max(sizes):,} bytes beside {max(codes):,} of the "
+            f"codes, and take {milliseconds} milliseconds to make.")
 
 
 NEIGHBOURS = 1, 10, 100
 
 
+def over_neighbours(record, way, base):
+    """What parts of another way's time a way takes at each k; empty where neither was measured."""
+    found = [(k, parts(record, f"{way} {k}", f"{base} {k}", None)) for k in NEIGHBOURS]
+    return ", ".join(f"{between(values, 1)} at k = {k}" for k, values in found if values)
+
+
 def says_of_near(record):
-    said = [f"{between(parts(record, f'near {k}', f'tree {k}', None), 1)} at k = {k}"
-            for k in NEIGHBOURS]
-    return f"Of the tree's time `nearest_into` takes {', '.join(said)}."
+    said = f"Of the tree's time `nearest_into` takes {over_neighbours(record, 'near', 'tree')}."
+    places = over_neighbours(record, "places", "near")
+    return f"{said} `nearest_places` takes, of that of `nearest_into`, {places}." if places else said
+
+
+def says_of_euclid(record):
+    places = over_neighbours(record, "places by Euclid", "tree by Euclid")
+    return f"Of the tree's time `nearest_places` takes {places}." if places else ""
 
 
 def keys_and_questions(given):
@@ -246,13 +267,18 @@ def map_keys(given):
 
 
 WORKS = {"put": "put", "hit": "get, a key that is there", "miss": "get, one that is not",
+         "many16": "one of 16 that are there, by `get_many`",
+         "many1000": "one of 1,000 that are there, by `get_many`",
          "next": "next", "mixed": "mixed updates", "next2": "next after them",
          "apply": "the same by `apply`", "next3": "next after both"}
 WHOLES = {"range": "a range of a hundred pairs", "range2": "the same after mixed updates",
           "count": "a count of some hundred keys", "count2": "the same after mixed updates",
           "walk": "a pair, of all", "walk2": "the same after mixed updates",
-          "walk3": "the same after a load", "load": "a pair, of a load",
-          "drop": "a key, of giving all up", "take": "the least of up to a million keys, taken"}
+          "walk3": "the same after a load", "back": "a pair, of all from the greatest down",
+          "load": "a pair, of a load", "drop": "a key, of giving all up",
+          "sweep": "a key, of a sweep over half of them", "first": "the least key after the sweep",
+          "take": "the least of up to a million keys, taken",
+          "ends": "the least and the greatest in turn, taken"}
 
 
 def work_columns():
@@ -318,14 +344,18 @@ TABLES = (
         ("C++", number("C++", "{:.2f}", 1e-3)), ("Boost's R-tree", ratio("Boost", "C++")),
         *((f"`{way}`", ratio(way, "C++")) for way in WAYS)], says_of_boxes, points),
     Table("near", "near", "microseconds a centre", [
-        (f"k = {k}", pair(f"near {k}", f"tree {k}", "{:.2f}", 1e-3)) for k in NEIGHBOURS],
+        *((f"k = {k}", pair(f"near {k}", f"tree {k}", "{:.2f}", 1e-3)) for k in NEIGHBOURS),
+        *((f"`nearest_places`, k = {k}", number(f"places {k}", "{:.2f}", 1e-3))
+          for k in NEIGHBOURS)],
         says_of_near, points_and_centres),
     Table("near by Euclid", "near", "microseconds a centre", [
         (f"{title}, k = {k}", number(f"{side} {k}", "{:.2f}", 1e-3)) for k in NEIGHBOURS
         for title, side in (("nanoflann", "nanoflann"), ("Boost's R-tree", "Boost"),
-                            ("k-d tree", "tree by Euclid"))], of=points_and_centres,
-        picture="![Microseconds a centre of nanoflann, of Boost's R-tree and of the k-d tree, by "
-                "Euclid's distance](../docs/pictures/euclid.svg)"),
+                            ("k-d tree", "tree by Euclid"),
+                            ("`nearest_places`", "places by Euclid"))],
+        says_of_euclid, points_and_centres,
+        picture="![Microseconds a centre of nanoflann, of Boost's R-tree, of the k-d tree and of "
+                "nearest_places, by Euclid's distance](../docs/pictures/euclid.svg)"),
     Table("the nearest points", "nearest", "microseconds", [
         (f"k = {k}", pair(f"near {k}", f"tree {k}", "{:.2g}", 1e-3)) for k in NEIGHBOURS],
         of=points_and_centres),

@@ -1,5 +1,6 @@
 // The updates and questions of `bench map`, in its order and on its keys, on absl::btree_map and on
-// std::map: nanoseconds each, the least of three rounds on a new map, and the same checksums.
+// std::map: nanoseconds each, the least of three rounds on a new map, and the same checksums. Many
+// keys are asked for one by one, since a tree has no other way.
 //
 //     ordered_maps tree N
 //     ordered_maps map N
@@ -10,6 +11,7 @@
 #include <cstdint>
 #include <cstdio>
 #include <cstdlib>
+#include <iterator>
 #include <map>
 #include <string>
 #include <utility>
@@ -19,7 +21,7 @@ using Number = uint64_t;
 
 using Pairs = std::vector<std::pair<Number, Number>>;
 
-constexpr Number kRange = 100, kTaken = 1000000;
+constexpr Number kRange = 100, kTaken = 1000000, kMiddle = ~Number(0) / 2;
 
 static Number scattered(Number number) {
     Number word = (number + 1) * 0x9E3779B97F4A7C15ull;
@@ -96,6 +98,12 @@ template <class Map> static Done walk(const Map &map) {
     return {map.size(), sum};
 }
 
+template <class Map> static Done walk_back(const Map &map) {
+    Number sum = 0;
+    for (auto at = map.rbegin(); at != map.rend(); ++at) sum += at->first + at->second;
+    return {map.size(), sum};
+}
+
 // From a key to another, which is included.
 template <class Map> static Done counts(const Map &map, Number n, Number stream) {
     Number width, sum = 0, many = n / 10 + (n % 10 != 0);
@@ -129,13 +137,32 @@ template <class Map> static Done load(Map &map, const Pairs &pairs) {
     return {pairs.size(), 0};
 }
 
-template <class Map> static Done take_all(Map &map) {
+template <class Map> static Done sweep(Map &map) {
+    Number many = map.size();
+    map.erase(map.begin(), map.upper_bound(kMiddle));
+    many -= map.size();
+    return {many, many};
+}
+
+template <class Map> static Done firsts(const Map &map, Number n) {
+    Number sum = 0;
+    for (Number i = 0; i < n; ++i) {
+        // The map may have changed, for all that the compiler knows.
+        asm volatile("" : : "r"(&map) : "memory");
+        auto least = map.begin();
+        if (least != map.end()) sum += least->first + least->second;
+    }
+    return {n, sum};
+}
+
+// The least pair, or the least and the greatest in turn.
+template <class Map> static Done take_all(Map &map, bool both) {
     Done done{0, 0};
     while (!map.empty()) {
-        auto least = map.begin();
-        done.sum += least->first + least->second;
+        auto taken = both && done.things % 2 == 1 ? std::prev(map.end()) : map.begin();
+        done.sum += taken->first + taken->second;
         ++done.things;
-        map.erase(least);
+        map.erase(taken);
     }
     return done;
 }
@@ -146,33 +173,45 @@ struct Work {
     Pairs pairs;
 };
 
+// The map of most works, one whose least keys are taken, and one that is taken from at both ends.
+template <class Map> struct Maps {
+    Map map, queue, deque;
+};
+
 // The works by name, in their order.
 template <class Map> struct Phase {
     const char *name;
-    Done (*go)(Map &map, Map &queue, const Work &work);
+    Done (*go)(Maps<Map> &maps, const Work &work);
 };
 
 template <class Map> static const std::vector<Phase<Map>> &phases() {
+    using M = Maps<Map> &;
     using W = const Work &;
     static const std::vector<Phase<Map>> list = {
-        {"put", [](Map &map, Map &, W work) { return update_all(map, work.puts); }},
-        {"hit", [](Map &map, Map &, W work) { return values(map, work.n, true); }},
-        {"miss", [](Map &map, Map &, W work) { return values(map, work.n, false); }},
-        {"next", [](Map &map, Map &, W work) { return least_keys(map, work.n, 2); }},
-        {"range", [](Map &map, Map &, W work) { return ranges(map, work.n, 8); }},
-        {"walk", [](Map &map, Map &, W) { return walk(map); }},
-        {"count", [](Map &map, Map &, W work) { return counts(map, work.n, 9); }},
-        {"mixed", [](Map &map, Map &, W work) { return update_all(map, work.first); }},
-        {"next2", [](Map &map, Map &, W work) { return least_keys(map, work.n, 3); }},
-        {"range2", [](Map &map, Map &, W work) { return ranges(map, work.n, 10); }},
-        {"walk2", [](Map &map, Map &, W) { return walk(map); }},
-        {"count2", [](Map &map, Map &, W work) { return counts(map, work.n, 11); }},
-        {"apply", [](Map &map, Map &, W work) { return update_all(map, work.second); }},
-        {"next3", [](Map &map, Map &, W work) { return least_keys(map, work.n, 4); }},
-        {"drop", [](Map &map, Map &, W work) { return give_up(map, work.n); }},
-        {"load", [](Map &map, Map &, W work) { return load(map, work.pairs); }},
-        {"walk3", [](Map &map, Map &, W) { return walk(map); }},
-        {"take", [](Map &, Map &queue, W) { return take_all(queue); }},
+        {"put", [](M maps, W work) { return update_all(maps.map, work.puts); }},
+        {"hit", [](M maps, W work) { return values(maps.map, work.n, true); }},
+        {"miss", [](M maps, W work) { return values(maps.map, work.n, false); }},
+        {"many16", [](M maps, W work) { return values(maps.map, work.n, true); }},
+        {"many1000", [](M maps, W work) { return values(maps.map, work.n, true); }},
+        {"next", [](M maps, W work) { return least_keys(maps.map, work.n, 2); }},
+        {"range", [](M maps, W work) { return ranges(maps.map, work.n, 8); }},
+        {"walk", [](M maps, W) { return walk(maps.map); }},
+        {"back", [](M maps, W) { return walk_back(maps.map); }},
+        {"count", [](M maps, W work) { return counts(maps.map, work.n, 9); }},
+        {"mixed", [](M maps, W work) { return update_all(maps.map, work.first); }},
+        {"next2", [](M maps, W work) { return least_keys(maps.map, work.n, 3); }},
+        {"range2", [](M maps, W work) { return ranges(maps.map, work.n, 10); }},
+        {"walk2", [](M maps, W) { return walk(maps.map); }},
+        {"count2", [](M maps, W work) { return counts(maps.map, work.n, 11); }},
+        {"apply", [](M maps, W work) { return update_all(maps.map, work.second); }},
+        {"next3", [](M maps, W work) { return least_keys(maps.map, work.n, 4); }},
+        {"drop", [](M maps, W work) { return give_up(maps.map, work.n); }},
+        {"load", [](M maps, W work) { return load(maps.map, work.pairs); }},
+        {"walk3", [](M maps, W) { return walk(maps.map); }},
+        {"sweep", [](M maps, W) { return sweep(maps.map); }},
+        {"first", [](M maps, W work) { return firsts(maps.map, work.n); }},
+        {"take", [](M maps, W) { return take_all(maps.queue, false); }},
+        {"ends", [](M maps, W) { return take_all(maps.deque, true); }},
     };
     return list;
 }
@@ -184,10 +223,11 @@ template <class Map> static void time_all(Number n) {
     std::vector<double> least(list.size(), 1e18);
     std::vector<Number> sums(list.size());
     for (int round = 0; round < 3; ++round) {
-        Map map, queue(work.pairs.begin(), work.pairs.begin() + std::min(n, kTaken));
+        Map queue(work.pairs.begin(), work.pairs.begin() + std::min(n, kTaken));
+        Maps<Map> maps{{}, queue, std::move(queue)};
         for (std::size_t phase = 0; phase < list.size(); ++phase) {
             auto start = std::chrono::steady_clock::now();
-            Done done = list[phase].go(map, queue, work);
+            Done done = list[phase].go(maps, work);
             auto time = std::chrono::steady_clock::now() - start;
             double each = std::chrono::duration<double, std::nano>(time).count() /
                           std::max<Number>(done.things, 1);

@@ -2,14 +2,12 @@
 ghost use Rattle.std.specs.Prelude.{◌≤◌};
 
 use crate::lookups::{Asked, ask};
-use crate::shared::{ROUNDS, error_bound, keys_of, questions_of};
+use crate::shared::{bytes_of, error_bound, hints_for, keys_of, questions_of};
 use anyhow::{Result, bail};
 use exact_cross::MAX_EPSILON;
-use hints::{hints_of, position, positions};
-use key_points::KeysFault;
+use hints::{position, positions};
 use std::alloc::{AllocError, Global};
 use std::rt::{Clock, Files};
-use std::time::{Duration, Instant};
 
 /// How many questions are asked in the same room.
 const ROOM: usize = 1024;
@@ -67,14 +65,14 @@ fn ask_by_hints<R: AllocGlobal + Print + Clock>(
 ) -> Result<()>
     requires { eps ≤ MAX_EPSILON }
 {
-    let hints = hints_for(rt, "own", keys, eps)?;
+    let hints = told_hints(rt, "own", keys, eps)?;
     let hinted = Hinted {
         keys,
         hints: &hints,
     };
     ask(rt, &hinted, questions)?;
     let others = sorted(rt.alloc(), questions)?;
-    let hints = hints_for(rt, "other", &others, eps)?;
+    let hints = told_hints(rt, "other", &others, eps)?;
     let hinted = Hinted {
         keys,
         hints: &hints,
@@ -90,7 +88,7 @@ fn sorted(alloc: Global, questions: &[u64]) -> Result<Vec<u64>, AllocError> {
 }
 
 /// The hints of keys. Prints how many lines and bytes they are, and the seconds of making them.
-fn hints_for<R: AllocGlobal + Print + Clock>(
+fn told_hints<R: AllocGlobal + Print + Clock>(
     rt: &R,
     whose: &str,
     keys: &[u64],
@@ -98,25 +96,8 @@ fn hints_for<R: AllocGlobal + Print + Clock>(
 ) -> Result<Vec<u64>>
     requires { eps ≤ MAX_EPSILON }
 {
-    let mut least = Duration::MAX;
-    for _ in 0..ROUNDS {
-        let start = Instant::now(rt)?;
-        make_and_drop(rt.alloc(), keys, eps)?;
-        least = least.min(start.elapsed(rt)?);
-    }
-    let hints = hints_of(rt.alloc(), keys, eps)?;
-    let (lines, bytes) = (
-        hints.get(2).copied().unwrap_or(0),
-        hints.len().saturating_mul(8),
-    );
-    let building = least.as_secs_f64();
+    let (hints, building) = hints_for(rt, keys, eps)?;
+    let (lines, bytes) = (hints.get(2).copied().unwrap_or(0), bytes_of(&hints));
     println!(rt; "hints {whose} lines {lines} bytes {bytes} build {building}")?;
     Ok(hints)
-}
-
-fn make_and_drop(alloc: Global, keys: &[u64], eps: u32) -> Result<(), KeysFault>
-    requires { eps ≤ MAX_EPSILON }
-{
-    let _hints = hints_of(alloc, keys, eps)?;
-    Ok(())
 }

@@ -25,11 +25,17 @@ const RANGE: usize = 100;
 /// How many pairs a walk takes at once.
 const BLOCK: usize = 1024;
 
+/// How many keys are asked for at once at most.
+const AT_ONCE: usize = 1000;
+
 /// How many of the least keys are taken from a map of so many.
 const TAKEN: usize = 1_000_000;
 
+/// The greatest number of the lower half.
+const MIDDLE: u64 = u64::MAX / 2;
+
 /// How many phases there are.
-const PHASES: usize = 18;
+const PHASES: usize = 24;
 
 /// What is timed, in order.
 #[derive(Clone, Copy)]
@@ -37,15 +43,20 @@ enum Phase {
     Put,
     Hit,
     Miss,
+    Many(u64),
     Next(u64),
     Range(u64),
     Walk,
+    Back,
     Count(u64),
     Mixed,
     Apply,
     GiveUp,
     Load,
+    Sweep,
+    First,
     Take,
+    Ends,
 }
 
 /// The phases by name.
@@ -53,9 +64,12 @@ const NAMED: [(&str, Phase); PHASES] = [
     ("put", Phase::Put),
     ("hit", Phase::Hit),
     ("miss", Phase::Miss),
+    ("many16", Phase::Many(16)),
+    ("many1000", Phase::Many(1000)),
     ("next", Phase::Next(2)),
     ("range", Phase::Range(8)),
     ("walk", Phase::Walk),
+    ("back", Phase::Back),
     ("count", Phase::Count(9)),
     ("mixed", Phase::Mixed),
     ("next2", Phase::Next(3)),
@@ -67,7 +81,10 @@ const NAMED: [(&str, Phase); PHASES] = [
     ("drop", Phase::GiveUp),
     ("load", Phase::Load),
     ("walk3", Phase::Walk),
+    ("sweep", Phase::Sweep),
+    ("first", Phase::First),
     ("take", Phase::Take),
+    ("ends", Phase::Ends),
 ];
 
 /// How many things a phase did, and its checksum.
@@ -75,6 +92,14 @@ const NAMED: [(&str, Phase); PHASES] = [
 struct Done {
     things: u64,
     sum: u64,
+}
+
+impl Done {
+    /// One more thing: a pair.
+    fn add(&mut self, key: u64, value: u64) {
+        self.things = self.things.wrapping_add(1);
+        self.sum = self.sum.wrapping_add(key).wrapping_add(value);
+    }
 }
 
 /// What a phase took at least, and what it did.
@@ -93,23 +118,27 @@ struct Work<'a> {
     pairs: &'a [(u64, u64)],
 }
 
-/// The map of all phases, and one whose least keys are taken.
+/// The map of most phases, one whose least keys are taken, and one that is taken from at both ends.
 #[derive(Drop)]
 struct Maps {
     map: LogMap,
     queue: LogMap,
+    deque: LogMap,
 }
 
 /// Goes through all phases three times, each time on a new map.
 ///
-/// Puts N keys, one by one (`put`); asks for N of them (`hit`), for N others (`miss`), and for the
-/// least key from each of N numbers on (`next`); takes the hundred pairs from each of N/10 numbers
-/// on (`range`), goes over all pairs by 1024 at once (`walk`), and counts some hundred keys N/10
-/// times (`count`). Puts N/2 further keys and deletes N/2 keys, in turn (`mixed`), and asks so once
-/// more (`next2`, `range2`, `walk2`, `count2`). Does as many puts and deletions again by lists of
-/// 1000 (`apply`), and asks (`next3`). Gives the map up (`drop`), makes one of the N sorted pairs
-/// (`load`), and goes over it (`walk3`). Of a map of up to a million keys takes the least key
-/// (`pop_first`) until none is left (`take`).
+/// Puts N keys, one by one (`put`); asks for N of them (`hit`), for N others (`miss`), for those
+/// that are there by 16 and by 1000 at once (`many16`, `many1000`), and for the least key from each
+/// of N numbers on (`next`); takes the hundred pairs from each of N/10 numbers on (`range`), goes
+/// over all pairs by 1024 at once (`walk`) and one by one from the greatest down (`back`), and
+/// counts some hundred keys N/10 times (`count`). Puts N/2 further keys and deletes N/2 keys, in
+/// turn (`mixed`), and asks so once more (`next2`, `range2`, `walk2`, `count2`). Does as many puts
+/// and deletions again by lists of 1000 (`apply`), and asks (`next3`). Gives the map up (`drop`),
+/// makes one of the N sorted pairs (`load`), goes over it (`walk3`), sweeps the lower half of all
+/// numbers (`sweep`), and asks for the least key N times (`first`). Of a map of up to a million
+/// keys takes the least key (`pop_first`) until none is left (`take`), and of another one the least
+/// and the greatest in turn (`ends`).
 pub fn run<R: AllocGlobal + Print + Clock + Threads + Sync>(
     rt: &R,
     words: &[String],
@@ -164,6 +193,7 @@ fn one_round<R: AllocGlobal + Clock + Threads + Sync>(
     let mut maps = Maps {
         map: LogMap::new(rt.alloc(), LEVELS)?,
         queue: LogMap::of_sorted(rt.alloc(), LEVELS, least_pairs(work.pairs))?,
+        deque: LogMap::of_sorted(rt.alloc(), LEVELS, least_pairs(work.pairs))?,
     };
     for k in 0..PHASES {
         let (_, phase) = NAMED[k];
@@ -183,20 +213,25 @@ fn go_through<R: Threads + Sync>(
     phase: Phase,
     work: &Work<'_>,
 ) -> Result<Done> {
-    let Maps { map, queue } = maps;
+    let Maps { map, queue, deque } = maps;
     match phase {
         Phase::Put => Ok(put_all(alloc, map, work.n)?),
         Phase::Hit => Ok(sum_of_hits(map, work.n)),
         Phase::Miss => Ok(sum_of_misses(map, work.n)),
+        Phase::Many(many) => Ok(sum_of_many(map, work.n, many)),
         Phase::Next(stream) => Ok(sum_of_nexts(map, work.n, stream)),
         Phase::Range(stream) => Ok(sum_of_ranges(map, work.n, stream)),
         Phase::Walk => Ok(walk_all(map)),
+        Phase::Back => Ok(walk_back(map)),
         Phase::Count(stream) => Ok(sum_of_counts(map, work.n, stream)),
         Phase::Mixed => Ok(update_each(alloc, map, work.first)?),
         Phase::Apply => Ok(apply_all(rt, alloc, map, work.second)?),
         Phase::GiveUp => Ok(empty(alloc, map, work.n)?),
         Phase::Load => Ok(load(alloc, map, work.pairs)?),
-        Phase::Take => Ok(take_all(alloc, queue)?),
+        Phase::Sweep => Ok(sweep(alloc, map)?),
+        Phase::First => Ok(sum_of_firsts(map, work.n)),
+        Phase::Take => Ok(take_all(alloc, queue, false)?),
+        Phase::Ends => Ok(take_all(alloc, deque, true)?),
     }
 }
 
@@ -278,6 +313,26 @@ fn sum_of_misses(map: &LogMap, n: u64) -> Done {
     Done { things: n, sum }
 }
 
+/// The sum of the values of the same keys as of [`sum_of_hits`], so many at once.
+fn sum_of_many(map: &LogMap, n: u64, many: u64) -> Done {
+    let mut keys = [0u64; AT_ONCE];
+    let mut values = [None; AT_ONCE];
+    let mut sum = 0u64;
+    let many = many.clamp(1, AT_ONCE as u64);
+    for block in 0..n.div_ceil(many) {
+        let from = block.wrapping_mul(many);
+        let here = many.min(n.saturating_sub(from)) as usize;
+        for k in 0..here {
+            keys[k] = some_key(n, drawn(1, from.wrapping_add(k as u64)));
+        }
+        map.get_many(&keys[..here], &mut values[..here]);
+        for value in &values[..here] {
+            sum = sum.wrapping_add(value.unwrap_or(0));
+        }
+    }
+    Done { things: n, sum }
+}
+
 /// The sum of the keys and values.
 fn sum_of_nexts(map: &LogMap, n: u64, stream: u64) -> Done {
     let mut sum = 0u64;
@@ -314,6 +369,19 @@ fn walk_all(map: &LogMap) -> Done {
             return done;
         }
         from = last + 1;
+    }
+    done
+}
+
+/// The sum of all keys and values, from the greatest key down.
+fn walk_back(map: &LogMap) -> Done {
+    let mut done = Done { things: 0, sum: 0 };
+    let mut pairs = map.pairs(0, u64::MAX);
+    for _ in 0..map.accepted() {
+        let Some((key, value)) = pairs.next_back() else {
+            return done;
+        };
+        done.add(key, value);
     }
     done
 }
@@ -384,15 +452,46 @@ fn load(alloc: Global, map: &mut LogMap, pairs: &[(u64, u64)]) -> Result<Done, L
     })
 }
 
-/// The sum of the keys and values, the least one taken each time, until none is left.
-fn take_all(alloc: Global, map: &mut LogMap) -> Result<Done, MapFault> {
+/// How many keys of the lower half there were, taken out.
+fn sweep(alloc: Global, map: &mut LogMap) -> Result<Done, MapFault> {
+    let many = map.sweep(alloc, 0, MIDDLE)?;
+    Ok(Done {
+        things: many,
+        sum: many,
+    })
+}
+
+/// The sum of the least key and its value, asked for so many times.
+fn sum_of_firsts(map: &LogMap, n: u64) -> Done {
     let mut done = Done { things: 0, sum: 0 };
-    for _ in 0..map.accepted() {
-        let Some((key, value)) = map.pop_first(alloc)? else {
+    for _ in 0..n {
+        let (key, value) = map.first().unwrap_or((0, 0));
+        done.add(key, value);
+    }
+    done
+}
+
+/// The sum of the keys and values, the least one taken each time, or the least and the greatest in
+/// turn, until none is left.
+fn take_all(alloc: Global, map: &mut LogMap, both: bool) -> Result<Done, MapFault> {
+    let mut done = Done { things: 0, sum: 0 };
+    for i in 0..map.accepted() {
+        let Some((key, value)) = take_one(alloc, map, both && i % 2 == 1)? else {
             break;
         };
-        done.things = done.things.wrapping_add(1);
-        done.sum = done.sum.wrapping_add(key).wrapping_add(value);
+        done.add(key, value);
     }
     Ok(done)
+}
+
+fn take_one(
+    alloc: Global,
+    map: &mut LogMap,
+    greatest: bool,
+) -> Result<Option<(u64, u64)>, MapFault> {
+    if greatest {
+        map.pop_last(alloc)
+    } else {
+        map.pop_first(alloc)
+    }
 }

@@ -6,12 +6,13 @@ ghost use Rattle.zorder.specs.Regions.{IsRegion};
 ghost use Rattle.pgm_script.specs.declared.script.ScriptKind.{ScriptKind};
 ghost use Rattle.pgm_script.specs.Scripts.{IsLineOf};
 
-use crate::shared::{ROUNDS, least_of, nanos_each, number};
+use crate::shared::{ROUNDS, bytes_of, hints_for, least_of, nanos_each, number};
 use crate::visiting::Visit;
 use anyhow::{Result, bail, ensure};
 use bigmin::next_in_box;
-use boxes::Boxes;
+use boxes::{Boxes, count_places};
 use edge::{FileShelf, Shelf};
+use options::EPS;
 use pgm_script::{ScriptKind, ScriptLine, parse, read_text};
 use sosd_reader::read_points;
 use std::alloc::{AllocError, Global};
@@ -53,7 +54,8 @@ struct Jump {
 }
 
 /// Builds the boxes of a file of points of DIMS coordinates, 2 to 4, and answers scripts of lines
-/// `box` by counting, by filling a list, by going over the points, and by jumping.
+/// `box` by counting, by counting among the codes where they stand, led by hints, by filling a
+/// list, by going over the points, and by jumping.
 pub fn run<R: AllocGlobal + Files + Print + Clock + Threads + Sync>(
     rt: &R,
     words: &[String],
@@ -65,7 +67,8 @@ pub fn run<R: AllocGlobal + Files + Print + Clock + Threads + Sync>(
             let points = points_of(rt, points.as_str(), dims)?;
             time_building(rt, dims, &points)?;
             let boxes = Boxes::build(rt, rt.alloc(), dims, &points)?;
-            answer_scripts(rt, &boxes, scripts)
+            let hints = hints_of_codes(rt, boxes.codes())?;
+            answer_scripts(rt, &boxes, &hints, scripts)
         }
         _ => bail!("usage: bench box POINTS DIMS SCRIPT.."),
     }
@@ -123,17 +126,27 @@ fn count_built<R: Threads + Sync>(
     Ok(boxes.codes().len())
 }
 
+/// The hints of codes. Prints how many bytes the codes and the hints have, and the seconds of
+/// making the hints.
+fn hints_of_codes<R: AllocGlobal + Print + Clock>(rt: &R, codes: &[u64]) -> Result<Vec<u64>> {
+    let (hints, building) = hints_for(rt, codes, EPS)?;
+    let (codes, bytes) = (bytes_of(codes), bytes_of(&hints));
+    println!(rt; "codes {codes} hints {bytes} build {building}")?;
+    Ok(hints)
+}
+
 /// Answers the boxes of each script in each way, and jumps.
 fn answer_scripts<R: AllocGlobal + Files + Print + Clock>(
     rt: &R,
     boxes: &Boxes,
+    hints: &[u64],
     scripts: &[String],
 ) -> Result<()> {
     for script in scripts {
         let name = script.as_str();
         let lines = lines_of(rt, name, boxes.dims())?;
         println!(rt; "script {name} boxes {}", lines.len())?;
-        answer(rt, boxes, &lines)?;
+        answer(rt, boxes, hints, &lines)?;
         time_jumps(rt, boxes, &lines)?;
     }
     Ok(())
@@ -151,10 +164,16 @@ fn lines_of<R: AllocGlobal + Files>(rt: &R, name: &str, dims: u32) -> Result<Vec
 }
 
 /// Answers all boxes of a script in each way, and prints what they have and what each took.
-fn answer<R: AllocGlobal + Print + Clock>(rt: &R, boxes: &Boxes, lines: &[ScriptLine]) -> Result<()>
+fn answer<R: AllocGlobal + Print + Clock>(
+    rt: &R,
+    boxes: &Boxes,
+    hints: &[u64],
+    lines: &[ScriptLine],
+) -> Result<()>
     requires { All (IsLineOf (ScriptKind.Region boxes.now.dims)) lines.now }
 {
     let (counting, counted) = least_of(rt, ANSWERS, || Ok(count_all(boxes, lines)))?;
+    let (placing, placed) = least_of(rt, ANSWERS, || Ok(count_all_places(boxes, hints, lines)))?;
     let (filling, filled) = least_of(
         rt,
         ANSWERS,
@@ -165,8 +184,10 @@ fn answer<R: AllocGlobal + Print + Clock>(rt: &R, boxes: &Boxes, lines: &[Script
     let (visiting, (visited, sum)) = least_of(rt, ANSWERS, || Ok(visit_all(boxes, lines)))?;
     ensure!(counted == filled && counted == visited, "the ways differ");
     let Answered { found, looked } = counted;
+    ensure!(placed == found, "the places differ");
     println!(rt; "found {found} looked {looked} checksum {sum}")?;
     tell(rt, "count", counting, lines.len())?;
+    tell(rt, "places", placing, lines.len())?;
     tell(rt, "fill", filling, lines.len())?;
     tell(rt, "visit", visiting, lines.len())
 }
@@ -202,6 +223,21 @@ fn count_all(boxes: &Boxes, lines: &[ScriptLine]) -> Answered
         }
     }
     all
+}
+
+/// Counts the places of the codes of all boxes, which stay where they are.
+fn count_all_places(boxes: &Boxes, hints: &[u64], lines: &[ScriptLine]) -> u64
+    requires { All (IsLineOf (ScriptKind.Region boxes.now.dims)) lines.now }
+{
+    let codes = boxes.codes();
+    let mut found = 0u64;
+    for i in 0..lines.len() {
+        if let Some(region) = region_in(boxes.dims(), &lines[i]) {
+            let many = count_places(codes, hints, &region, &Corners::of(&region));
+            found = found.wrapping_add(many as u64);
+        }
+    }
+    found
 }
 
 /// Fills a list with the points of each box in turn.

@@ -6,6 +6,8 @@ use anyhow::{Context, Result, ensure};
 use byteorder::{ByteOrder, LittleEndian};
 use edge::{FileShelf, Shelf};
 use exact_cross::MAX_EPSILON;
+use hints::hints_of;
+use key_points::KeysFault;
 use sosd_reader::read_keys;
 use std::alloc::{AllocError, Global};
 use std::fs;
@@ -54,6 +56,32 @@ fn numbers_in(alloc: Global, bytes: &[u8]) -> Result<Vec<u64>, AllocError> {
         numbers.push(LittleEndian::read_u64(number))?;
     }
     Ok(numbers)
+}
+
+/// The hints of keys, and the least seconds of making them.
+pub fn hints_for<R: AllocGlobal + Clock>(rt: &R, keys: &[u64], eps: u32) -> Result<(Vec<u64>, f64)>
+    requires { eps ≤ MAX_EPSILON }
+{
+    let mut least = Duration::MAX;
+    for _ in 0..ROUNDS {
+        let start = Instant::now(rt)?;
+        make_and_drop(rt.alloc(), keys, eps)?;
+        least = least.min(start.elapsed(rt)?);
+    }
+    let hints = hints_of(rt.alloc(), keys, eps)?;
+    Ok((hints, least.as_secs_f64()))
+}
+
+fn make_and_drop(alloc: Global, keys: &[u64], eps: u32) -> Result<(), KeysFault>
+    requires { eps ≤ MAX_EPSILON }
+{
+    let _hints = hints_of(alloc, keys, eps)?;
+    Ok(())
+}
+
+/// How many bytes numbers of 64 bits take.
+pub fn bytes_of(numbers: &[u64]) -> usize {
+    numbers.len().saturating_mul(8)
 }
 
 /// Does a work so often, and gives the least time of one and what the last one came to.
