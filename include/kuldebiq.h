@@ -692,8 +692,7 @@ KULDEBIQ_NODISCARD
 kuldebiq_answer kuldebiq_map_get(kuldebiq_map *map, uint64_t key) KULDEBIQ_NOT_NULL((1));
 
 /* Writes the value at each key at its place, and whether the map has the key: present[i] is 1 if it
- * has, and else 0, with values[i] = 0. The number is how many keys there are. Faster than one call
- * for each. Takes no memory.
+ * has, and else 0, with values[i] = 0. The number is how many keys there are. Takes no memory.
  *
  * Refused with KULDEBIQ_NOTHING_HELD, or with KULDEBIQ_TOO_LITTLE_ROOM if either room is too
  * little. Then nothing is written. */
