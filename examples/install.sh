@@ -106,7 +106,7 @@ prove_side_by_side() {
 }
 
 say 'proving and building the library: minutes if its crates are proved on this machine already,'
-say 'and a quarter of an hour or more on four cores if none is'
+say 'and some twenty-five minutes on four cores if none is'
 prove_side_by_side
 crates_below "$top" kuldebiq >"$made/order"
 if ! told "$made/log" crates/kuldebiq lib proof_so_far "$made/log" "$made/order"; then

@@ -20,9 +20,9 @@ const AT_ONCE: usize = 64;
 /// else 0, with 0 as the value. The number is how many keys there are. What lies behind them in
 /// both rooms stays.
 ///
-/// These are the values that [`kuldebiq_map_get`] gives. It is faster than one call for each, and
-/// takes no memory. A refusal is `NOTHING_HELD`, or `TOO_LITTLE_ROOM` where either room is too
-/// little, judged in this order, and then nothing is written.
+/// These are the values that [`kuldebiq_map_get`] gives. It takes no memory. A refusal is
+/// `NOTHING_HELD`, or `TOO_LITTLE_ROOM` where either room is too little, judged in this order, and
+/// then nothing is written.
 #[unsafe(no_mangle)]
 pub extern "C" fn kuldebiq_map_get_many(
     alloc: Global,
