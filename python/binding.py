@@ -71,7 +71,7 @@ def make_library():
         print(
             "\nkuldebiq: the library of these sources isn't there: examples/install.sh proves its"
             f"\nkuldebiq: crates and builds it under {PREFIX}, in minutes where they"
-            "\nkuldebiq: are proved on this machine, and else in a quarter of an hour or more",
+            "\nkuldebiq: are proved on this machine, and else in some twenty-five",
             file=told,
             flush=True,
         )
