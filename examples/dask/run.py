@@ -24,6 +24,7 @@ from pathlib import Path
 import dask
 import numpy
 from distributed import Client, LocalCluster
+from distributed.scheduler import KilledWorker
 
 import kuldebiq
 from kuldebiq import parts
@@ -224,8 +225,12 @@ def run(given, folder, client):
         wait_for_all(client, given.workers)
         _, seconds = timed(parts.make, paths, there, client, rows=rows, progress=False)
         say("parts are made once more", seconds)
-        _, seconds = timed(sort_plainly, paths, folder / "plain", client, given.files)
-        say("  Dask sorts and writes as many, no hints", seconds)
+        what = "  Dask sorts and writes as many, no hints"
+        try:
+            _, seconds = timed(sort_plainly, paths, folder / "plain", client, given.files)
+            say(what, seconds)
+        except KilledWorker:
+            say(what, more="its workers are killed, again and again: more --memory")
 
 
 def main():
