@@ -233,7 +233,7 @@ fn count_all_places(boxes: &Boxes, hints: &[u64], lines: &[ScriptLine]) -> u64
     let mut found = 0u64;
     for i in 0..lines.len() {
         if let Some(region) = region_in(boxes.dims(), &lines[i]) {
-            let many = count_places(codes, hints, &region, &Corners::of(&region));
+            let many = count_places(codes, hints, &Corners::of(&region));
             found = found.wrapping_add(many as u64);
         }
     }
@@ -290,10 +290,10 @@ fn visit_one(boxes: &Boxes, region: &Region, visit: &mut Visit) -> (u64, u64)
 {
     let codes = boxes.codes();
     let corners = Corners::of(region);
-    let mut walk = boxes.walk(region, &corners);
+    let mut walk = boxes.walk(&corners);
     let mut found = 0u64;
     while walk.at < codes.len() {
-        let stretch = boxes.next_stretch(region, &corners, &mut walk);
+        let stretch = boxes.next_stretch(&corners, &mut walk);
         found = found.wrapping_add(stretch.len() as u64);
         visit.take(stretch);
     }

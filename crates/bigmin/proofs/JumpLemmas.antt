@@ -8,8 +8,6 @@ use Rattle.std.proofs.lemmas.Bool.{cases_lt}
 use Rattle.std.proofs.lemmas.Nat.{mod_below, pow_pos}
 use Rattle.std.proofs.lemmas.Nat.Bits.{bit_at-lt, bit_at_above, bit_at_or}
 use Rattle.zorder.specs.declared.regions.Region.{Region}
-use Rattle.zorder.specs.declared.corner_codes.Corners.{Corners}
-use Rattle.zorder.specs.Corners.{AreCorners}
 use Rattle.zorder.specs.Codes.{IsCode, code}
 use Rattle.zorder.specs.Regions.{IsRegion, IsInside, IsEmpty}
 use Rattle.zorder.proofs.CallerLemmas.{bit_at-shl, bit_at-shl_low, bit_at-shr, code-lt}
@@ -139,10 +137,10 @@ module _ (region : Region) (is : IsRegion region) where
 
 -- ---- the answer, by the corners
 
-module _ (region : Region)
-    (is : IsRegion region) (corners : Corners) (are : AreCorners region corners) (d z : ℕ) (same : d ≡ region.d) where
+module _ (region : Region) (is : IsRegion region) (low high : ℕ) (low_is : low ≡ code region.d region.low)
+    (high_is : high ≡ code region.d region.high) (d z : ℕ) (same : d ≡ region.d) where
   next_by_codes : (next : ℕ) →
-      (IsEmpty region → ⊥) → (AreOrdered d corners.low corners.high → IsNextBetween d corners.low corners.high z next) →
+      (IsEmpty region → ⊥) → (AreOrdered d low high → IsNextBetween d low high z next) →
       IsNextInBox region z next
   next_by_codes next some_inside found =
       next-from_between region is z next some_inside
@@ -150,23 +148,23 @@ module _ (region : Region)
       IsNextBetween m (code region.d region.low) (code region.d region.high) z next) same
       (subst
       (λ (m : ℕ). AreOrdered d m (code region.d region.high) → IsNextBetween d m (code region.d region.high) z next)
-      are.low
-      (subst (λ (m : ℕ). AreOrdered d corners.low m → IsNextBetween d corners.low m z next) are.high found)))
+      low_is
+      (subst (λ (m : ℕ). AreOrdered d low m → IsNextBetween d low m z next) high_is found)))
 
-  none_by_codes : HasNoneBetween d corners.low corners.high z → HasNoNext region z
+  none_by_codes : HasNoneBetween d low high z → HasNoNext region z
   none_by_codes none =
       none-from_between region is z
       (subst (λ (m : ℕ). HasNoneBetween m (code region.d region.low) (code region.d region.high) z) same
-      (subst (λ (m : ℕ). HasNoneBetween d m (code region.d region.high) z) are.low
-      (subst (λ (m : ℕ). HasNoneBetween d corners.low m z) are.high none)))
+      (subst (λ (m : ℕ). HasNoneBetween d m (code region.d region.high) z) low_is
+      (subst (λ (m : ℕ). HasNoneBetween d low m z) high_is none)))
 
   pub next_answer : (answer : Option ℕ) → (IsEmpty region → ⊥)
-      → IfSome answer (λ next. AreOrdered d corners.low corners.high → IsNextBetween d corners.low corners.high z next)
+      → IfSome answer (λ next. AreOrdered d low high → IsNextBetween d low high z next)
       → IfSome answer (IsNextInBox region z)
   next_answer None some_inside found = found
   next_answer (Some next) some_inside found = next_by_codes next some_inside found
 
   pub none_answer : (answer : Option ℕ) →
-      IfNone answer (HasNoneBetween d corners.low corners.high z) → IfNone answer (HasNoNext region z)
+      IfNone answer (HasNoneBetween d low high z) → IfNone answer (HasNoNext region z)
   none_answer None none = none_by_codes none
   none_answer (Some next) none = none

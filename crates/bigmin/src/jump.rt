@@ -1,7 +1,6 @@
 // The next code in a region.
 ghost use Rattle.std.specs.Prelude.{◌<◌, max, IfSome, IfNone};
 ghost use Rattle.zorder.specs.Codes.{IsCode, IsDimension};
-ghost use Rattle.zorder.specs.Corners.{AreCorners};
 ghost use Rattle.zorder.specs.Regions.{IsEmpty, IsRegion};
 ghost use Rattle.bigmin.specs.Openings.{IsLeastFrom};
 ghost use Rattle.bigmin.specs.NextBetween.{AreOrdered, IsNextBetween, HasNoneBetween};
@@ -25,26 +24,26 @@ pub fn next_in_box(z: u64, region: &Region) -> Option<u64>
     if is_empty(region) {
         return None;
     }
-    next_by_corners(z, region, &Corners::of(region))
+    next_by_corners(z, &Corners::of(region))
 }
 
-/// The least code above `z` that is inside the region, or `None` where there is none, for a caller
-/// that jumps often in one region and made its corners once.
+/// The least code above `z` that is inside the region of these corners, or `None` where there is
+/// none, for a caller that jumps often in one region and made its corners once.
 ///
-/// The answer and the conditions are those of [`next_in_box`], and the region isn't empty. Takes
-/// some steps for each coordinate; takes no memory.
+/// `z` may be any number, and the region isn't empty. Takes some steps for each coordinate; takes
+/// no memory.
 /// Source: Tropf and Herzog, Angewandte Informatik 2/1981.
-pub fn next_by_corners(z: u64, region: &Region, corners: &Corners) -> Option<u64>
-    requires region { IsRegion region.now }
-    requires corners { AreCorners region.now corners.now }
-    requires some_inside { ¬ IsEmpty region.now }
-    ensures next { IfSome result (IsNextInBox region.now z) }
-    ensures none { IfNone result (HasNoNext region.now z) }
+pub fn next_by_corners(z: u64, corners: &Corners) -> Option<u64>
+    requires some_inside { ¬ IsEmpty corners.now.region }
+    ensures next { IfSome result (IsNextInBox corners.now.region z) }
+    ensures none { IfNone result (HasNoNext corners.now.region z) }
 {
-    match region.d {
-        2 => next_between(2, z, corners.low, corners.high),
-        3 => next_between(3, z, corners.low, corners.high),
-        _ => next_between(4, z, corners.low, corners.high),
+    let low = corners.low();
+    let high = corners.high();
+    match corners.region.d {
+        2 => next_between(2, z, low, high),
+        3 => next_between(3, z, low, high),
+        _ => next_between(4, z, low, high),
     }
 }
 

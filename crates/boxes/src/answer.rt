@@ -44,10 +44,10 @@ impl Boxes {
         ensures looked { IsLooked region.now self.now.codes result.1 }
     {
         let corners = Corners::of(region);
-        let mut walk = self.walk(region, &corners);
+        let mut walk = self.walk(&corners);
         let mut found = 0;
         while walk.at < self.codes().len() {
-            found += self.next_stretch(region, &corners, &mut walk).len() as u64;
+            found += self.next_stretch(&corners, &mut walk).len() as u64;
         }
         (found, walk.looked)
     }
@@ -67,9 +67,9 @@ impl Boxes {
         ensures capacity { vec_capacity into.old ≤ vec_capacity into.new }
     {
         let corners = Corners::of(region);
-        let mut walk = self.walk(region, &corners);
+        let mut walk = self.walk(&corners);
         while walk.at < self.codes().len() {
-            let stretch = self.next_stretch(region, &corners, &mut walk);
+            let stretch = self.next_stretch(&corners, &mut walk);
             into.extend_from_slice(stretch).unwrap();
         }
         walk.looked

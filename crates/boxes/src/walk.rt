@@ -3,9 +3,8 @@ ghost use Rattle.std.specs.Prelude.{◌≡◌, ◌↔◌, ◌+◌, ◌<◌, ◌�
 ghost use Rattle.std.specs.Prelude.{length, drop, slice_index};
 ghost use Rattle.std.specs.List.Sorted.{IsNonDecreasing};
 ghost use Rattle.zorder.specs.Codes.{IsDimension};
-ghost use Rattle.zorder.specs.Corners.{AreCorners};
 ghost use Rattle.zorder.specs.Dilated.{IsBetween};
-ghost use Rattle.zorder.specs.Regions.{IsEmpty, IsRegion, IsInside};
+ghost use Rattle.zorder.specs.Regions.{IsEmpty, IsInside};
 ghost use Rattle.bigmin.specs.NextBetween.{AreOrdered};
 ghost use Rattle.window_search.specs.Searches.{lb};
 ghost use Rattle.boxes.specs.BoxAnswers.{codes_inside, IsLookedAt};
@@ -14,7 +13,7 @@ ghost use Rattle.boxes.specs.Walks.{HasWalked};
 use crate::Boxes;
 use crate::cells::over_cells;
 use bigmin::next_by_corners;
-use zorder::{Corners, Region, dilated_coordinate, is_empty};
+use zorder::{Corners, dilated_coordinate, is_empty};
 
 /// How many places behind a code are looked through for the end of a jump, before the index or the
 /// hints are asked. They are four lines of the cache side by side; a lookup reads as many, one
@@ -39,23 +38,20 @@ impl Boxes {
     ///
     /// It is for a caller that needs no list of them: until the walk is at the number of codes,
     /// [`Boxes::next_stretch`] gives the next ones where they stand. The region has as many
-    /// coordinates as the points, and its corners are those of [`Corners::of`]. Cannot fail and
-    /// takes no memory.
-    pub fn walk(&self, region: &Region, corners: &Corners) -> Walk
-        requires region { IsRegion region.now }
-        requires dims { region.now.d ≡ self.now.dims }
-        requires corners { AreCorners region.now corners.now }
-        ensures walked { HasWalked region.now self.now.codes result.at result.looked }
-        ensures all { codes_inside region.now (drop result.at self.now.codes)
-            ≡ codes_inside region.now self.now.codes }
+    /// coordinates as the points. Cannot fail and takes no memory.
+    pub fn walk(&self, corners: &Corners) -> Walk
+        requires dims { corners.now.region.d ≡ self.now.dims }
+        ensures walked { HasWalked corners.now.region self.now.codes result.at result.looked }
+        ensures all { codes_inside corners.now.region (drop result.at self.now.codes)
+            ≡ codes_inside corners.now.region self.now.codes }
         ensures few { length self.now.codes < 2 ^ 32 }
     {
         let codes = self.codes();
-        if is_empty(region) {
+        if is_empty(&corners.region) {
             let at = codes.len();
             return Walk { at, looked: 0 };
         }
-        let at = self.lower_bound(corners.low);
+        let at = self.lower_bound(corners.low());
         Walk { at, looked: 0 }
     }
 
@@ -63,37 +59,33 @@ impl Boxes {
     /// none. The walk goes behind them, and over those outside that follow.
     ///
     /// The walk is not at its end, and is one over this region. Cannot fail and takes no memory.
-    pub fn next_stretch(&self, region: &Region, corners: &Corners, walk: &mut Walk) -> &[u64]
-        requires region { IsRegion region.now }
-        requires dims { region.now.d ≡ self.now.dims }
-        requires corners { AreCorners region.now corners.now }
+    pub fn next_stretch(&self, corners: &Corners, walk: &mut Walk) -> &[u64]
+        requires dims { corners.now.region.d ≡ self.now.dims }
         requires here { walk.old.at < length self.now.codes }
-        requires walked { HasWalked region.now self.now.codes walk.old.at walk.old.looked }
-        ensures walked { HasWalked region.now self.now.codes walk.new.at walk.new.looked }
-        ensures found { codes_inside region.now (drop walk.old.at self.now.codes)
-            ≡ result.now ++ codes_inside region.now (drop walk.new.at self.now.codes) }
+        requires walked { HasWalked corners.now.region self.now.codes walk.old.at walk.old.looked }
+        ensures walked { HasWalked corners.now.region self.now.codes walk.new.at walk.new.looked }
+        ensures found { codes_inside corners.now.region (drop walk.old.at self.now.codes)
+            ≡ result.now ++ codes_inside corners.now.region (drop walk.new.at self.now.codes) }
         ensures onwards { walk.old.at < walk.new.at }
         ensures few { walk.old.at + length result.now ≤ walk.new.at }
     {
         let codes = self.codes();
         let at = walk.at;
-        let end = stretch_end(region, corners, codes, at);
+        let end = stretch_end(corners, codes, at);
         let looked = walk.looked + (end - at) as u64;
-        *walk = self.over_outside(region, corners, Walk { at: end, looked });
+        *walk = self.over_outside(corners, Walk { at: end, looked });
         &codes[at..end]
     }
 
     /// A walk that is at a code outside, or at its end, when it has gone over what is outside.
-    fn over_outside(&self, region: &Region, corners: &Corners, walk: Walk) -> Walk
-        requires region { IsRegion region.now }
-        requires dims { region.now.d ≡ self.now.dims }
-        requires corners { AreCorners region.now corners.now }
-        requires walked { HasWalked region.now self.now.codes walk.at walk.looked }
+    fn over_outside(&self, corners: &Corners, walk: Walk) -> Walk
+        requires dims { corners.now.region.d ≡ self.now.dims }
+        requires walked { HasWalked corners.now.region self.now.codes walk.at walk.looked }
         requires outside { walk.at < length self.now.codes
-            → ¬ IsInside region.now (slice_index self.now.codes walk.at) }
-        ensures walked { HasWalked region.now self.now.codes result.at result.looked }
-        ensures same { codes_inside region.now (drop walk.at self.now.codes)
-            ≡ codes_inside region.now (drop result.at self.now.codes) }
+            → ¬ IsInside corners.now.region (slice_index self.now.codes walk.at) }
+        ensures walked { HasWalked corners.now.region self.now.codes result.at result.looked }
+        ensures same { codes_inside corners.now.region (drop walk.at self.now.codes)
+            ≡ codes_inside corners.now.region (drop result.at self.now.codes) }
         ensures onwards { walk.at < length self.now.codes → walk.at < result.at }
         ensures not_back { walk.at ≤ result.at }
     {
@@ -101,35 +93,33 @@ impl Boxes {
         if walk.at >= codes.len() {
             return walk;
         }
-        let at = self.jump(region, corners, walk.at);
+        let at = self.jump(corners, walk.at);
         let looked = walk.looked + 1;
         Walk { at, looked }
     }
 
     /// The place that is to be looked at after a code outside, or the end of the codes.
-    fn jump(&self, region: &Region, corners: &Corners, at: usize) -> usize
-        requires region { IsRegion region.now }
-        requires dims { region.now.d ≡ self.now.dims }
-        requires corners { AreCorners region.now corners.now }
-        requires some_inside { ¬ IsEmpty region.now }
+    fn jump(&self, corners: &Corners, at: usize) -> usize
+        requires dims { corners.now.region.d ≡ self.now.dims }
+        requires some_inside { ¬ IsEmpty corners.now.region }
         requires here { at < length self.now.codes }
-        requires outside { ¬ IsInside region.now (slice_index self.now.codes at) }
+        requires outside { ¬ IsInside corners.now.region (slice_index self.now.codes at) }
         ensures onwards { at < result }
         ensures within { result ≤ length self.now.codes }
         ensures skipped { (j : ℕ) → at < j → j < result
-            → ¬ IsLookedAt region.now self.now.codes j }
+            → ¬ IsLookedAt corners.now.region self.now.codes j }
         ensures due { result < length self.now.codes
-            → IsLookedAt region.now self.now.codes result }
+            → IsLookedAt corners.now.region self.now.codes result }
     {
         let codes = self.codes();
         let z = codes[at];
-        if z > corners.high {
+        if z > corners.high() {
             return codes.len();
         }
-        if at + 1 < codes.len() && corners.inside(region, codes[at + 1]) {
+        if at + 1 < codes.len() && corners.inside(codes[at + 1]) {
             return at + 1;
         }
-        match next_by_corners(z, region, corners) {
+        match next_by_corners(z, corners) {
             None => codes.len(),
             Some(next) => self.lower_bound_past(at, next),
         }
@@ -173,22 +163,22 @@ pub fn front_below(numbers: &[u64], least: u64) -> usize
 
 /// The end of the codes inside a region that stand side by side from a place on, where the codes
 /// never fall. In any codes it is a place from there on whose code isn't inside, or the end.
-pub fn stretch_end(region: &Region, corners: &Corners, codes: &[u64], at: usize) -> usize
-    requires region { IsRegion region.now }
-    requires corners { AreCorners region.now corners.now }
-    requires some_inside { ¬ IsEmpty region.now }
+pub fn stretch_end(corners: &Corners, codes: &[u64], at: usize) -> usize
+    requires some_inside { ¬ IsEmpty corners.now.region }
     requires here { at ≤ length codes.now }
     ensures onwards { at ≤ result }
     ensures within { result ≤ length codes.now }
     ensures inside { IsNonDecreasing codes.now → (j : ℕ) → at ≤ j → j < result
-        → IsInside region.now (slice_index codes.now j) }
+        → IsInside corners.now.region (slice_index codes.now j) }
     ensures outside { result < length codes.now
-        → ¬ IsInside region.now (slice_index codes.now result) }
+        → ¬ IsInside corners.now.region (slice_index codes.now result) }
 {
-    match region.d {
-        2 => between_until(2, corners.low, corners.high, codes, at),
-        3 => between_until(3, corners.low, corners.high, codes, at),
-        _ => between_until(4, corners.low, corners.high, codes, at),
+    let low = corners.low();
+    let high = corners.high();
+    match corners.region.d {
+        2 => between_until(2, low, high, codes, at),
+        3 => between_until(3, low, high, codes, at),
+        _ => between_until(4, low, high, codes, at),
     }
 }
 

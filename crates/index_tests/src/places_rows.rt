@@ -98,16 +98,16 @@ fn stretches_are(codes: &[u64], hints: &[u64], region: &Region, wanted: &[(usize
 {
     let corners = Corners::of(region);
     let mut at = 0;
-    let mut left = count_places(codes, hints, region, &corners);
+    let mut left = count_places(codes, hints, &corners);
     for (first, end) in wanted {
-        let places = next_places(codes, hints, region, &corners, at);
+        let places = next_places(codes, hints, &corners, at);
         if (places.start, places.end) != (*first, *end) || left < places.end - places.start {
             return false;
         }
         left -= places.end - places.start;
         at = places.end;
     }
-    left == 0 && next_places(codes, hints, region, &corners, at).start == codes.len()
+    left == 0 && next_places(codes, hints, &corners, at).start == codes.len()
 }
 
 /// Asks for a row's stretches, and fails where they are others.

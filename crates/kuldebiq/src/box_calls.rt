@@ -81,7 +81,7 @@ pub extern "C" fn kuldebiq_box(
         low: region.low,
         high: region.high,
     };
-    let places = next_places(codes, hints, &region, &Corners::of(&region), from);
+    let places = next_places(codes, hints, &Corners::of(&region), from);
     *stretch = Stretch {
         first: places.start,
         end: places.end,

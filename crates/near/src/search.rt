@@ -151,11 +151,12 @@ fn places_within(boxes: &Boxes, centre: &[u32; 4], pair: (u32, u64)) -> (usize, 
 {
     let codes = boxes.codes();
     let corners = Corners::of(&region_around(boxes.dims(), centre, pair.0));
-    let first = boxes.lower_bound(corners.low);
-    if corners.high == u64::MAX {
+    let first = boxes.lower_bound(corners.low());
+    let highest = corners.high();
+    if highest == u64::MAX {
         return (first, codes.len());
     }
-    (first, boxes.lower_bound(corners.high + 1))
+    (first, boxes.lower_bound(highest + 1))
 }
 
 /// Fills a vector with codes, each with the distance of its point from a centre.

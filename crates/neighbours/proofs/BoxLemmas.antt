@@ -6,9 +6,7 @@ use Rattle.std.proofs.lemmas.List.{ext_get_or, get_or-map, length-map}
 use Rattle.std.proofs.Math.Pow.{pow_mono}
 use Rattle.std.proofs.Math.Nat.{div-le_of_le-mul, mod-eq_of_lt}
 use Rattle.zorder.specs.declared.regions.Region.{Region}
-use Rattle.zorder.specs.declared.corner_codes.Corners.{Corners}
-use Rattle.zorder.specs.Codes.{IsCode, IsDimension, IsInRange, coordinate_bits}
-use Rattle.zorder.specs.Corners.{AreCorners}
+use Rattle.zorder.specs.Codes.{IsCode, IsDimension, IsInRange, code, coordinate_bits}
 use Rattle.zorder.specs.Regions.{IsInside, IsRegion}
 use Rattle.zorder.proofs.CallerLemmas.{coordinate_below, inside_between}
 use Rattle.neighbours.specs.Around.{apart, box_around}
@@ -74,23 +72,24 @@ range_fits d is =
     pow_mono few
 
 -- a code outside the box of what is within reach of a distance is further
-pub outside_is_further : (step : ℕ → ℕ → ℕ) (d : ℕ) (centre : List ℕ) (z distance reach : ℕ) (corners : Corners) →
+pub outside_is_further : (step : ℕ → ℕ → ℕ) (d : ℕ) (centre : List ℕ) (z distance reach : ℕ) →
     ((so_far apart : ℕ) → so_far ≤ step so_far apart)
     → ((so_far apart : ℕ) → apart < 2 ^ 32 → step so_far apart ≤ distance → apart ≤ reach)
     → IsDimension d → IsInRange d centre → d ≤ length centre → IsCode d z
-    → AreCorners (box_around d centre reach) corners → (z < corners.low) ⊎ (corners.high < z)
+    → (z < code d (box_around d centre reach).low) ⊎ (code d (box_around d centre reach).high < z)
     → distance < far step d centre z
-outside_is_further step d centre z distance reach corners grows reaches is range long code are out =
+outside_is_further step d centre z distance reach grows reaches is range long is_code out =
     elim (cases_lt distance (far step d centre z)) [
       | inl further ↦ further
       | inr near ↦
-          let w_is = code_in_code d z code in
+          let w_is = code_in_code d z is_code in
           let each : ℕ → ℕ = apart d centre (code_in d z) in
-          let between = inside_between (box_around d centre reach) z (box_is_region d centre reach long is range) code
-          (inside_from_apart d centre reach long z is code (λ c within.
+          let between = inside_between (box_around d centre reach) z
+          (box_is_region d centre reach long is range) is_code
+          (inside_from_apart d centre reach long z is is_code (λ c within.
           let same = ap (λ (w : ℕ). apart d centre w c) w_is in
           let fits = range_fits d is in
-          let below = coordinate_below d z is code c in
+          let below = coordinate_below d z is is_code c in
           omega (
             arith,
             same,
@@ -99,8 +98,8 @@ outside_is_further step d centre z distance reach corners grows reaches is range
                 (omega (arith, near, step_within step grows each d c within)),
           ))) in
           elim out [
-            | inl before ↦ absurd (omega (arith, between.0, are.low))
-            | inr behind ↦ absurd (omega (arith, between.1, are.high))
+            | inl before ↦ absurd (omega (arith, between.0))
+            | inr behind ↦ absurd (omega (arith, between.1))
           ]
     ]
 

@@ -109,7 +109,7 @@ fn places_within<M: Metric>(
 {
     let reach = M::reach(one.whole_distance());
     let corners = Corners::of(&region_around(centre, reach));
-    position(codes, hints, corners.low)..upper_bound(codes, hints, corners.high)
+    position(codes, hints, corners.low())..upper_bound(codes, hints, corners.high())
 }
 
 /// Writes the places of codes, the first of which stands at `first`.

@@ -139,7 +139,7 @@ fn by_corners(z: u64, region: &Region) -> Option<u64>
     requires region { IsRegion region.now }
     requires some_inside { ¬ IsEmpty region.now }
 {
-    next_by_corners(z, region, &Corners::of(region))
+    next_by_corners(z, &Corners::of(region))
 }
 
 /// Whether the next code, or the low corner where there is none, is between the corners.
@@ -147,7 +147,7 @@ fn is_next_inside(region: &Region, next: Option<u64>) -> bool
     requires { IsRegion region.now }
 {
     let corners = Corners::of(region);
-    corners.inside(region, next.unwrap_or(corners.low))
+    corners.inside(next.unwrap_or(corners.low()))
 }
 
 fn check_row(rt: &impl Abort, row: &Row) {

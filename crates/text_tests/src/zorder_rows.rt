@@ -233,7 +233,7 @@ static BOX_CODES: [(u32, u64, bool); 18] = [
 fn is_between(region: &Region, z: u64) -> bool
     requires { IsRegion region.now }
 {
-    Corners::of(region).inside(region, z)
+    Corners::of(region).inside(z)
 }
 
 #[test]

@@ -1,9 +1,7 @@
 -- Regions and the codes of their corners. For the crates above too.
 use Rattle.std.proofs.Common.{◌≡◌, ℕ, ◌^◌, ◌<◌, ◌≤◌, slice_index, sym, subst, arith}
 use Rattle.zorder.specs.declared.regions.Region.{Region}
-use Rattle.zorder.specs.declared.corner_codes.Corners.{Corners}
 use Rattle.zorder.specs.Codes.{IsCode, code}
-use Rattle.zorder.specs.Corners.{AreCorners}
 use Rattle.zorder.specs.Dilated.{IsBetween}
 use Rattle.zorder.specs.Regions.{IsRegion, IsInside}
 use Rattle.zorder.proofs.CodeLemmas.{coordinate-code, code-lt, code_fits, rises}
@@ -67,19 +65,20 @@ module _ (region : Region) (is : IsRegion region) where
 
 -- ---- a code and the codes of the corners
 
-module _ (region : Region) (is : IsRegion region) (corners : Corners) (are : AreCorners region corners) where
+module _ (region : Region) (is : IsRegion region) (low high : ℕ)
+    (low_is : low ≡ code region.d region.low) (high_is : high ≡ code region.d region.high) where
   pub inside-from_corners : (d z : ℕ) →
-      d ≡ region.d → z < 2 ^ 64 → IsBetween d corners.low corners.high z → IsInside region z
+      d ≡ region.d → z < 2 ^ 64 → IsBetween d low high z → IsInside region z
   inside-from_corners d z same fits between =
       inside-from_between region is z fits
       (subst (λ (n : ℕ). IsBetween n (code region.d region.low) (code region.d region.high) z) same
-      (subst (λ (n : ℕ). IsBetween d n (code region.d region.high) z) are.low
-      (subst (λ (n : ℕ). IsBetween d corners.low n z) are.high between)))
+      (subst (λ (n : ℕ). IsBetween d n (code region.d region.high) z) low_is
+      (subst (λ (n : ℕ). IsBetween d low n z) high_is between)))
 
   pub corners-from_inside : (d z : ℕ) →
-      d ≡ region.d → z < 2 ^ 64 → IsInside region z → IsBetween d corners.low corners.high z
+      d ≡ region.d → z < 2 ^ 64 → IsInside region z → IsBetween d low high z
   corners-from_inside d z same fits inside =
-      subst (λ (n : ℕ). IsBetween n corners.low corners.high z) (sym same)
-      (subst (λ (n : ℕ). IsBetween region.d n corners.high z) (sym are.low)
+      subst (λ (n : ℕ). IsBetween n low high z) (sym same)
+      (subst (λ (n : ℕ). IsBetween region.d n high z) (sym low_is)
       (subst (λ (n : ℕ). IsBetween region.d (code region.d region.low) n z)
-      (sym are.high) (between-from_inside region is z fits inside)))
+      (sym high_is) (between-from_inside region is z fits inside)))

@@ -1,6 +1,5 @@
 pub mod Codes
 pub mod Columns
-pub mod Corners
 pub mod Dilated
 pub mod Points
 pub mod Regions

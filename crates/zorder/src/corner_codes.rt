@@ -1,8 +1,7 @@
 //! The codes of a region's corners, between which a code is tested without decoding it.
 
-ghost use Rattle.std.specs.Prelude.{◌↔◌, IsTrue};
-ghost use Rattle.zorder.specs.Codes.{IsDimension};
-ghost use Rattle.zorder.specs.Corners.{AreCorners};
+ghost use Rattle.std.specs.Prelude.{◌≡◌, ◌↔◌, IsTrue};
+ghost use Rattle.zorder.specs.Codes.{IsDimension, code};
 ghost use Rattle.zorder.specs.Dilated.{IsBetween};
 ghost use Rattle.zorder.specs.Regions.{IsInside, IsRegion};
 
@@ -10,16 +9,21 @@ use crate::codes::encode;
 use crate::dilated::dilated_coordinate;
 use crate::regions::Region;
 
-/// The codes of a region's low and high corners.
+/// A region, and the codes of its low and high corners.
 ///
 /// They are made once for a region, and then each code is tested against them, or jumped from, by
 /// its bits where they stand: dilated coordinates compare as coordinates do (Raman and Wise, 2008).
 #[derive(Clone, Copy, Debug, PartialEq, Eq)]
 pub struct Corners {
+    /// The region; it may be empty.
+    pub region: Region,
     /// The code of the point of all lows.
-    pub low: u64,
+    low: u64,
     /// The code of the point of all highs.
-    pub high: u64,
+    high: u64,
+    pub ghost in_range: { IsRegion region },
+    ghost low_is: { low ≡ code region.d region.low },
+    ghost high_is: { high ≡ code region.d region.high },
 }
 
 impl Corners {
@@ -29,25 +33,40 @@ impl Corners {
     /// may be empty. Cannot fail and takes no memory.
     pub fn of(region: &Region) -> Corners
         requires { IsRegion region.now }
-        ensures { AreCorners region.now result }
+        ensures { result.region ≡ region.now }
     {
         Corners {
+            region: *region,
             low: encode(region.d, &region.low),
             high: encode(region.d, &region.high),
         }
     }
 
-    /// Whether a code is inside the region whose corners these are.
-    ///
-    /// The region's conditions are those of [`Corners::of`], and `z` is a code of `d` coordinates.
-    /// Says the same as [`inside`](crate::inside) in fewer steps. Cannot fail and takes no memory.
+    /// The code of the point of all lows. Cannot fail and takes no memory.
     #[inline(always)]
-    pub fn inside(&self, region: &Region, z: u64) -> bool
-        requires region { IsRegion region.now }
-        requires corners { AreCorners region.now self.now }
-        ensures exact { IsTrue result ↔ IsInside region.now z }
+    pub fn low(&self) -> u64
+        ensures { result ≡ code self.now.region.d self.now.region.low }
     {
-        match region.d {
+        self.low
+    }
+
+    /// The code of the point of all highs. Cannot fail and takes no memory.
+    #[inline(always)]
+    pub fn high(&self) -> u64
+        ensures { result ≡ code self.now.region.d self.now.region.high }
+    {
+        self.high
+    }
+
+    /// Whether a code is inside the region.
+    ///
+    /// `z` is a code of `d` coordinates. Says the same as [`inside`](crate::inside) in fewer steps.
+    /// Cannot fail and takes no memory.
+    #[inline(always)]
+    pub fn inside(&self, z: u64) -> bool
+        ensures exact { IsTrue result ↔ IsInside self.now.region z }
+    {
+        match self.region.d {
             2 => is_between(2, self.low, self.high, z),
             3 => is_between(3, self.low, self.high, z),
             _ => is_between(4, self.low, self.high, z),

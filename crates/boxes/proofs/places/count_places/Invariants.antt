@@ -9,7 +9,8 @@ invariant-loop-at l = record {
   within : l.at ≤ length l.codes;
   few : l.count ≤ l.at;
   all : IsNonDecreasing l.codes
-      → l.count + length (codes_inside l.region (drop l.at l.codes)) ≡ length (codes_inside l.region l.codes);
+      → l.count + length (codes_inside l.corners.region (drop l.at l.codes))
+      ≡ length (codes_inside l.corners.region l.codes);
 }
 
 abbrev pub decreases-loop-at : goal.decreases-loop-at

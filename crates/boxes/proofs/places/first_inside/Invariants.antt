@@ -9,7 +9,7 @@ invariant-loop-at l = record {
   within : l.at ≤ length l.codes;
   onwards : l.fn.from ≤ length l.codes → l.fn.from ≤ l.at;
   skipped : IsNonDecreasing l.codes → (j : ℕ) → l.fn.from ≤ j → j < l.at
-      → IsInside l.region (slice_index l.codes j) → ⊥;
+      → IsInside l.corners.region (slice_index l.codes j) → ⊥;
 }
 
 abbrev pub decreases-loop-at : goal.decreases-loop-at

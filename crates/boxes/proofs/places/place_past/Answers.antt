@@ -7,18 +7,19 @@ use Rattle.boxes.proofs.places.place_past.Goals as goal
 
 pub returns-in-None-clause-skipped : goal.returns-in-None-clause-skipped
 returns-in-None-clause-skipped c = λ sorted j from before.
-    none_behind c.args.region.now c.requires.region c.args.codes.now sorted c.args.at c.requires.outside
+    none_behind
+    c.args.corners.now.region c.args.corners.now.in_range c.args.codes.now sorted c.args.at c.requires.outside
     j from before (c.type_inv.codes j).fits c.in-None.ensures.none
 
 pub returns-in-Some-clause-skipped : goal.returns-in-Some-clause-skipped
 returns-in-Some-clause-skipped c = λ sorted j from before inside.
     let codes = c.args.codes.now in
-    let region = c.args.region.now in
+    let region = c.args.corners.now.region in
     elim (cases_lt c.args.at j) [
       | inl after ↦
           let within : j < length codes = omega (arith, before, c.place_of.ensures.within) in
           let less = c.place_of.ensures.below sorted j after before in
-          none_below region c.requires.region codes sorted c.args.at c.requires.outside j from within
+          none_below region c.args.corners.now.in_range codes sorted c.args.at c.requires.outside j from within
           (c.type_inv.codes j).fits c.in-Some.next c.in-Some.ensures.next less inside
       | inr rest ↦
           let here : j ≡ c.args.at = omega (arith, from, rest) in

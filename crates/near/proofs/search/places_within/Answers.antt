@@ -5,70 +5,75 @@ use Rattle.std.specs.List.Sorted.{IsNonDecreasing}
 use Rattle.window_search.specs.Searches.{lb}
 use Rattle.window_search.proofs.CallerLemmas.{IsLowerBound-lb}
 use Rattle.zorder.specs.declared.regions.Region.{Region}
-use Rattle.zorder.specs.declared.corner_codes.Corners.{Corners}
-use Rattle.zorder.specs.Codes.{IsCode, IsDimension}
-use Rattle.zorder.specs.Corners.{AreCorners}
+use Rattle.zorder.specs.Codes.{IsCode, IsDimension, code}
 use Rattle.near.specs.Around.{box_around}
 use Rattle.near.proofs.BoundLemmas.{outside_behind}
 use Rattle.near.proofs.search.places_within.Goals as goal
 
--- the corners of the box, by the number of coordinates as it is read
-corners_of : (d d' : ℕ) (centre : List ℕ) (reach : ℕ) (region : Region) (corners : Corners) →
-    region ≡ box_around d' centre reach → d' ≡ d → AreCorners region corners
-    → AreCorners (box_around d centre reach) corners
-corners_of d d' centre reach region corners is same are =
-    subst (λ (region : Region). AreCorners region corners) (is ∙ ap (λ (n : ℕ). box_around n centre reach) same) are
+-- the region of the corners, by the number of coordinates as it is read
+box_of : (d d' : ℕ) (centre : List ℕ) (reach : ℕ) (region box : Region) →
+    region ≡ box → box ≡ box_around d' centre reach → d' ≡ d → region ≡ box_around d centre reach
+box_of d d' centre reach region box is around same = is ∙ around ∙ ap (λ (n : ℕ). box_around n centre reach) same
 
-pub returns-then-corners-clause-before : goal.returns-then-corners-clause-before
-returns-then-corners-clause-before c = λ k within.
+pub returns-then-highest-clause-before : goal.returns-then-highest-clause-before
+returns-then-highest-clause-before c = λ k within.
     let d = c.args.boxes.now.dims in
     let centre = c.args.centre.now in
     let codes = c.args.boxes.now.codes in
-    let corners = c.of-corners.result in
+    let box = box_of d c.dims.result centre c.args.pair.0 c.of-corners.result.region c.region_around.result
+    c.of-corners.ensures c.region_around.ensures.region c.dims.ensures.dims in
     let is = subst IsDimension c.dims.ensures.dims c.dims.ensures.dimension in
     let each = subst (All (IsCode d)) c.codes-codes.ensures.codes c.codes-codes.ensures.each in
     let order = subst IsNonDecreasing c.codes-codes.ensures.codes c.codes-codes.ensures.never_falls in
-    let bound = IsLowerBound-lb codes corners.low order in
-    let first : k < lb codes corners.low = omega (arith, c.lower_bound-first.ensures) in
+    let bound = IsLowerBound-lb codes c.low.result order in
+    let first : k < lb codes c.low.result = omega (arith, c.lower_bound-first.ensures) in
     outside_behind d centre c.args.pair
-    (get_or codes k 0) corners is c.requires.centre (omega (arith, c.told-centre, is.1)) (omega arith)
+    (get_or codes k 0) is c.requires.centre (omega (arith, c.told-centre, is.1)) (omega arith)
     (each k 0 (omega (arith, bound.within)))
-    (corners_of d c.dims.result centre c.args.pair.0
-    c.region_around.result corners c.region_around.ensures.region c.dims.ensures.dims c.of-corners.ensures)
-    (inl (bound.before k first))
+    (inl (omega (
+      arith,
+      bound.before k first,
+      c.low.ensures ∙ ap (λ (region : Region). code region.d region.low) box,
+    )))
 
 pub returns-clause-before : goal.returns-clause-before
 returns-clause-before c = λ k within.
     let d = c.args.boxes.now.dims in
     let centre = c.args.centre.now in
     let codes = c.args.boxes.now.codes in
-    let corners = c.of-corners.result in
+    let box = box_of d c.dims.result centre c.args.pair.0 c.of-corners.result.region c.region_around.result
+    c.of-corners.ensures c.region_around.ensures.region c.dims.ensures.dims in
     let is = subst IsDimension c.dims.ensures.dims c.dims.ensures.dimension in
     let each = subst (All (IsCode d)) c.codes-codes.ensures.codes c.codes-codes.ensures.each in
     let order = subst IsNonDecreasing c.codes-codes.ensures.codes c.codes-codes.ensures.never_falls in
-    let bound = IsLowerBound-lb codes corners.low order in
-    let first : k < lb codes corners.low = omega (arith, c.lower_bound-first.ensures) in
+    let bound = IsLowerBound-lb codes c.low.result order in
+    let first : k < lb codes c.low.result = omega (arith, c.lower_bound-first.ensures) in
     outside_behind d centre c.args.pair
-    (get_or codes k 0) corners is c.requires.centre (omega (arith, c.told-centre, is.1)) (omega arith)
+    (get_or codes k 0) is c.requires.centre (omega (arith, c.told-centre, is.1)) (omega arith)
     (each k 0 (omega (arith, bound.within)))
-    (corners_of d c.dims.result centre c.args.pair.0
-    c.region_around.result corners c.region_around.ensures.region c.dims.ensures.dims c.of-corners.ensures)
-    (inl (bound.before k first))
+    (inl (omega (
+      arith,
+      bound.before k first,
+      c.low.ensures ∙ ap (λ (region : Region). code region.d region.low) box,
+    )))
 
 pub returns-clause-behind : goal.returns-clause-behind
 returns-clause-behind c = λ k from within.
     let d = c.args.boxes.now.dims in
     let centre = c.args.centre.now in
     let codes = c.args.boxes.now.codes in
-    let corners = c.of-corners.result in
+    let box = box_of d c.dims.result centre c.args.pair.0 c.of-corners.result.region c.region_around.result
+    c.of-corners.ensures c.region_around.ensures.region c.dims.ensures.dims in
     let is = subst IsDimension c.dims.ensures.dims c.dims.ensures.dimension in
     let each = subst (All (IsCode d)) c.codes-codes.ensures.codes c.codes-codes.ensures.each in
     let order = subst IsNonDecreasing c.codes-codes.ensures.codes c.codes-codes.ensures.never_falls in
-    let bound = IsLowerBound-lb codes (corners.high + 1) order in
-    let last : lb codes (corners.high + 1) ≤ k = omega (arith, c.lower_bound.ensures) in
+    let bound = IsLowerBound-lb codes (c.high-highest.result + 1) order in
+    let last : lb codes (c.high-highest.result + 1) ≤ k = omega (arith, c.lower_bound.ensures) in
     outside_behind d centre c.args.pair
-    (get_or codes k 0) corners is c.requires.centre (omega (arith, c.told-centre, is.1)) (omega arith)
+    (get_or codes k 0) is c.requires.centre (omega (arith, c.told-centre, is.1)) (omega arith)
     (each k 0 within)
-    (corners_of d c.dims.result centre c.args.pair.0
-    c.region_around.result corners c.region_around.ensures.region c.dims.ensures.dims c.of-corners.ensures)
-    (inr (omega (arith, bound.from k last within)))
+    (inr (omega (
+      arith,
+      bound.from k last within,
+      c.high-highest.ensures ∙ ap (λ (region : Region). code region.d region.high) box,
+    )))

@@ -6,10 +6,10 @@ use Rattle.boxes.proofs.boxes.Boxes.count.Given as goal
 
 abbrev pub invariant-loop-walk : goal.invariant-loop-walk
 invariant-loop-walk l = record {
-  walked : HasWalked l.region l.self.codes l.walk.at l.walk.looked;
+  walked : HasWalked l.corners.region l.self.codes l.walk.at l.walk.looked;
   few : l.found ≤ l.walk.at;
-  all : l.found + length (codes_inside l.region (drop l.walk.at l.self.codes))
-      ≡ length (codes_inside l.region l.self.codes);
+  all : l.found + length (codes_inside l.corners.region (drop l.walk.at l.self.codes))
+      ≡ length (codes_inside l.corners.region l.self.codes);
 }
 
 abbrev pub decreases-loop-walk : goal.decreases-loop-walk

@@ -6,8 +6,9 @@ use Rattle.boxes.proofs.boxes.Boxes.fill.Given as goal
 
 abbrev pub invariant-loop-walk : goal.invariant-loop-walk
 invariant-loop-walk l = record {
-  walked : HasWalked l.region l.self.codes l.walk.at l.walk.looked;
-  all : l.into.items ++ codes_inside l.region (drop l.walk.at l.self.codes) ≡ codes_inside l.region l.self.codes;
+  walked : HasWalked l.corners.region l.self.codes l.walk.at l.walk.looked;
+  all : l.into.items
+      ++ codes_inside l.corners.region (drop l.walk.at l.self.codes) ≡ codes_inside l.corners.region l.self.codes;
   room : vec_capacity l.fn.into ≤ vec_capacity l.into;
 }
 

@@ -10,13 +10,14 @@ use Rattle.boxes.proofs.boxes.Boxes.next_stretch.Goals as goal
 pub stretch_end-end-requires-clause-some_inside : goal.stretch_end-end-requires-clause-some_inside
 stretch_end-end-requires-clause-some_inside c =
     let codes = c.args.self.now.codes in
-    let of = of_region c.args.region.now codes
+    let of = of_region c.args.corners.now.region codes
     _ _ c.codes-codes.ensures.codes c.requires.dims c.codes-codes.ensures.never_falls c.codes-codes.ensures.each in
-    not_empty c.args.region.now codes of c.args.walk.now.at c.args.walk.now.looked c.requires.here c.requires.walked
+    not_empty
+    c.args.corners.now.region codes of c.args.walk.now.at c.args.walk.now.looked c.requires.here c.requires.walked
 
 pub over_outside-requires-clause-walked : goal.over_outside-requires-clause-walked
 over_outside-requires-clause-walked c =
-    let region = c.args.region.now in
+    let region = c.args.corners.now.region in
     let codes = c.args.self.now.codes in
     let is = c.codes-codes.ensures.codes in
     let of =
@@ -32,7 +33,7 @@ over_outside-requires-clause-walked c =
 
 pub returns-clause-found : goal.returns-clause-found
 returns-clause-found c =
-    let region = c.args.region.now in
+    let region = c.args.corners.now.region in
     let codes = c.args.self.now.codes in
     let shown = c.codes-codes.result.now in
     let is = c.codes-codes.ensures.codes in

@@ -5,36 +5,39 @@ use Rattle.zorder.proofs.corner_codes.Corners.inside.Goals as goal
 
 pub returns-in-2 : goal.returns-in-2
 returns-in-2 c =
+    let corners = c.args.self.now in
     let same = sym c.in-2.is in record {
       exact = (
-        λ passes. inside-from_corners c.args.region.now c.requires.region
-            c.args.self.now c.requires.corners 2 c.args.z same c.ranges.z.fits (c.is_between.ensures.exact.0 passes),
+        λ passes. inside-from_corners corners.region corners.in_range corners.low corners.high corners.low_is
+            corners.high_is 2 c.args.z same c.ranges.z.fits (c.is_between.ensures.exact.0 passes),
         λ among. c.is_between.ensures.exact.1
-            (corners-from_inside c.args.region.now
-            c.requires.region c.args.self.now c.requires.corners 2 c.args.z same c.ranges.z.fits among),
+            (corners-from_inside corners.region corners.in_range corners.low corners.high corners.low_is
+            corners.high_is 2 c.args.z same c.ranges.z.fits among),
       );
     }
 
 pub returns-in-3 : goal.returns-in-3
 returns-in-3 c =
+    let corners = c.args.self.now in
     let same = sym c.in-3.is in record {
       exact = (
-        λ passes. inside-from_corners c.args.region.now c.requires.region c.args.self.now
-            c.requires.corners 3 c.args.z same c.ranges.z.fits (c.is_between-in-3.ensures.exact.0 passes),
+        λ passes. inside-from_corners corners.region corners.in_range corners.low corners.high corners.low_is
+            corners.high_is 3 c.args.z same c.ranges.z.fits (c.is_between-in-3.ensures.exact.0 passes),
         λ among. c.is_between-in-3.ensures.exact.1
-            (corners-from_inside c.args.region.now
-            c.requires.region c.args.self.now c.requires.corners 3 c.args.z same c.ranges.z.fits among),
+            (corners-from_inside corners.region corners.in_range corners.low corners.high corners.low_is
+            corners.high_is 3 c.args.z same c.ranges.z.fits among),
       );
     }
 
 pub returns-in_default : goal.returns-in_default
 returns-in_default c =
-    let four : 4 ≡ c.args.region.now.d = omega (arith, c.requires.region.dimension) in record {
+    let corners = c.args.self.now in
+    let same : 4 ≡ corners.region.d = omega (arith, corners.in_range.dimension) in record {
       exact = (
-        λ passes. inside-from_corners c.args.region.now c.requires.region c.args.self.now
-            c.requires.corners 4 c.args.z four c.ranges.z.fits (c.is_between-in_default.ensures.exact.0 passes),
+        λ passes. inside-from_corners corners.region corners.in_range corners.low corners.high corners.low_is
+            corners.high_is 4 c.args.z same c.ranges.z.fits (c.is_between-in_default.ensures.exact.0 passes),
         λ among. c.is_between-in_default.ensures.exact.1
-            (corners-from_inside c.args.region.now
-            c.requires.region c.args.self.now c.requires.corners 4 c.args.z four c.ranges.z.fits among),
+            (corners-from_inside corners.region corners.in_range corners.low corners.high corners.low_is
+            corners.high_is 4 c.args.z same c.ranges.z.fits among),
       );
     }
