@@ -1,8 +1,8 @@
 // The command `build`.
-ghost use Rattle.std.specs.Prelude.{◌≡◌, ℕ, List, length, None, OnOk, OnErr};
+ghost use Rattle.std.specs.Prelude.{◌≡◌, ℕ, List, length, None};
 ghost use Rattle.std.specs.List.{flat_map};
 ghost use Rattle.exact_cross.specs.Points.{places};
-ghost use Rattle.written.specs.Writing.{Writes, BreaksOff, WritesText};
+ghost use Rattle.written.specs.Writing.{WritesPieces, WritesText};
 ghost use Rattle.commands.specs.Tasks.{Bounds as TaskBounds, bounds_of};
 ghost use Rattle.commands.specs.Texts.Indexing.{tells_levels};
 ghost use Rattle.commands.specs.Texts.Build.{IsBuilt, built_level};
@@ -39,10 +39,9 @@ pub fn write_index<S: Sink>(
     bounds: Bounds,
     slack: Option<u32>,
 ) -> Result<(), Failed>
-    ensures ok { OnOk result (Writes S.Sink out.old out.new (tells_levels index.now.keys
-        index.now.levels (built_level index.now.keys (bounds_of bounds) slack index.now.levels))) }
-    ensures err { OnErr result (BreaksOff S.Sink out.old out.new (tells_levels index.now.keys
-        index.now.levels (built_level index.now.keys (bounds_of bounds) slack index.now.levels))) }
+    ensures { WritesPieces S.Sink out.old result out.new
+        (tells_levels index.now.keys index.now.levels
+        (built_level index.now.keys (bounds_of bounds) slack index.now.levels)) }
 {
     let mut line = TextLine::new();
     write_keys(out, &mut line, index)?;
@@ -57,12 +56,9 @@ fn write_levels<S: Sink>(
     bounds: Bounds,
     slack: Option<u32>,
 ) -> Result<(), Failed>
-    ensures ok { OnOk result (Writes S.Sink out.old out.new
+    ensures { WritesPieces S.Sink out.old result out.new
         (flat_map (built_level index.now.keys (bounds_of bounds) slack index.now.levels)
-        (places (length index.now.levels)))) }
-    ensures err { OnErr result (BreaksOff S.Sink out.old out.new
-        (flat_map (built_level index.now.keys (bounds_of bounds) slack index.now.levels)
-        (places (length index.now.levels)))) }
+        (places (length index.now.levels))) }
 {
     for i in 0..index.level_count() {
         fill_level_line(line, index, bounds, slack, i);

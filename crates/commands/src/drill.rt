@@ -1,6 +1,6 @@
 // The command `drill`.
 ghost use Rattle.std.specs.Prelude.{◌≡◌, ◌<◌, ◌≤◌, ◌^◌, [], ℕ, List};
-ghost use Rattle.std.specs.Prelude.{OnOk, OnErr, IfOk, length, map, slice_index_or, sum};
+ghost use Rattle.std.specs.Prelude.{IfOk, length, map, slice_index_or, sum};
 ghost use Rattle.std.specs.List.{All};
 ghost use Rattle.window_search.specs.Searches.{lb};
 ghost use Rattle.zorder.specs.Points.{ArePoints};
@@ -9,7 +9,7 @@ ghost use Rattle.boxes.specs.BoxAnswers.{IsLooked, codes_inside};
 ghost use Rattle.log_levels.specs.Accepted.{IsPlain};
 ghost use Rattle.log_levels.specs.Maps.{live_in, map_after};
 ghost use Rattle.drill_inputs.specs.Inputs.{searched_region};
-ghost use Rattle.written.specs.Writing.{Writes, BreaksOff, WritesText};
+ghost use Rattle.written.specs.Writing.{WritesPieces, WritesText};
 ghost use Rattle.options.specs.declared.drawing.TheConstants.{MAX_DRAWN};
 ghost use Rattle.commands.specs.Tasks.{Bounds as TaskBounds, bounds_of};
 ghost use Rattle.commands.specs.Texts.Drill.{IsCounted, IsDrilled, drill_line, drill_lines};
@@ -176,10 +176,8 @@ fn live_after<R: Threads + Sync, G: Gate>(
 
 /// Writes the text lines.
 fn write_counts<S: Sink>(out: &mut S, drill: Drill, counts: Counts) -> Result<(), Failed>
-    ensures ok { OnOk result (Writes S.Sink out.old out.new
-        (drill_lines drill.number drill.seed counts)) }
-    ensures err { OnErr result (BreaksOff S.Sink out.old out.new
-        (drill_lines drill.number drill.seed counts)) }
+    ensures { WritesPieces S.Sink out.old result out.new
+        (drill_lines drill.number drill.seed counts) }
 {
     let mut line = TextLine::new();
     for i in 0..5 {

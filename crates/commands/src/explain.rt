@@ -3,11 +3,10 @@ ghost use Rattle.std.specs.Prelude.{◌≡◌, ◌∷◌, ◌<◌, ◌≤◌};
 ghost use Rattle.std.specs.Prelude.{◌+◌, ◌++◌};
 ghost use Rattle.std.specs.Prelude.{ℕ, List, length, codes};
 ghost use Rattle.std.specs.Prelude.{decimal};
-ghost use Rattle.std.specs.Prelude.{OnOk, OnErr};
 ghost use Rattle.std.specs.Fmt.{signed_decimal};
 ghost use Rattle.std.specs.List.{flat_map};
 ghost use Rattle.exact_cross.specs.Points.{places};
-ghost use Rattle.written.specs.Writing.{Writes, BreaksOff, WritesText};
+ghost use Rattle.written.specs.Writing.{WritesPieces, WritesText};
 ghost use Rattle.commands.specs.Tasks.{Bounds as TaskBounds, bounds_of};
 ghost use Rattle.commands.specs.Texts.Indexing.{tells_levels};
 ghost use Rattle.commands.specs.Texts.Explain.{IsExplained, level_lines, ending};
@@ -41,10 +40,9 @@ pub fn write<R: Threads + Sync, S: Sink, G: Gate>(
 
 /// Writes the text line of the keys, and what is told of the levels.
 fn write_index<S: Sink>(out: &mut S, index: &Index, bounds: Bounds) -> Result<(), Failed>
-    ensures ok { OnOk result (Writes S.Sink out.old out.new (tells_levels index.now.keys
-        index.now.levels (level_lines index.now.keys (bounds_of bounds) index.now.levels))) }
-    ensures err { OnErr result (BreaksOff S.Sink out.old out.new (tells_levels index.now.keys
-        index.now.levels (level_lines index.now.keys (bounds_of bounds) index.now.levels))) }
+    ensures { WritesPieces S.Sink out.old result out.new
+        (tells_levels index.now.keys index.now.levels
+        (level_lines index.now.keys (bounds_of bounds) index.now.levels)) }
 {
     let mut line = TextLine::new();
     write_keys(out, &mut line, index)?;
@@ -58,12 +56,9 @@ fn write_levels<S: Sink>(
     index: &Index,
     bounds: Bounds,
 ) -> Result<(), Failed>
-    ensures ok { OnOk result (Writes S.Sink out.old out.new
+    ensures { WritesPieces S.Sink out.old result out.new
         (flat_map (level_lines index.now.keys (bounds_of bounds) index.now.levels)
-        (places (length index.now.levels)))) }
-    ensures err { OnErr result (BreaksOff S.Sink out.old out.new
-        (flat_map (level_lines index.now.keys (bounds_of bounds) index.now.levels)
-        (places (length index.now.levels)))) }
+        (places (length index.now.levels))) }
 {
     for i in 0..index.level_count() {
         write_level(out, line, index, bounds, i)?;
@@ -80,10 +75,8 @@ fn write_level<S: Sink>(
     i: u32,
 ) -> Result<(), Failed>
     requires there { i < length index.now.levels }
-    ensures ok { OnOk result (Writes S.Sink out.old out.new
-        (level_lines index.now.keys (bounds_of bounds) index.now.levels i)) }
-    ensures err { OnErr result (BreaksOff S.Sink out.old out.new
-        (level_lines index.now.keys (bounds_of bounds) index.now.levels i)) }
+    ensures { WritesPieces S.Sink out.old result out.new
+        (level_lines index.now.keys (bounds_of bounds) index.now.levels i) }
 {
     fill_level_line(line, index, bounds, None, i);
     hand_over(out, line.as_bytes())?;
@@ -97,8 +90,7 @@ fn write_runs<S: Sink>(
     segments: &[Segment],
     to: u32,
 ) -> Result<(), Failed>
-    ensures ok { OnOk result (Writes S.Sink out.old out.new (run_lines segments.now to)) }
-    ensures err { OnErr result (BreaksOff S.Sink out.old out.new (run_lines segments.now to)) }
+    ensures { WritesPieces S.Sink out.old result out.new (run_lines segments.now to) }
 {
     for i in 0..segments.len() {
         let end = start_at(segments, i + 1, to);

@@ -1,7 +1,7 @@
 // The command `find`.
-ghost use Rattle.std.specs.Prelude.{◌≡◌, ℕ, false, List, OnOk, OnErr};
+ghost use Rattle.std.specs.Prelude.{◌≡◌, ℕ, false, List};
 ghost use Rattle.window_search.specs.Searches.{lb};
-ghost use Rattle.written.specs.Writing.{Writes, BreaksOff, WritesText};
+ghost use Rattle.written.specs.Writing.{WritesPieces, WritesText};
 ghost use Rattle.commands.specs.Tasks.{Bounds as TaskBounds};
 ghost use Rattle.commands.specs.Texts.Find.{IsFound, found_lines};
 ghost use Rattle.commands.specs.Texts.Query.{IsAnswered, find_line};
@@ -28,10 +28,8 @@ fn write_answers<S: Sink>(
     hints: &[u64],
     questions: &[u64],
 ) -> Result<(), Failed>
-    ensures ok { OnOk result (Writes S.Sink out.old out.new
-        (found_lines sorted.now.keys.items questions.now)) }
-    ensures err { OnErr result (BreaksOff S.Sink out.old out.new
-        (found_lines sorted.now.keys.items questions.now)) }
+    ensures { WritesPieces S.Sink out.old result out.new
+        (found_lines sorted.now.keys.items questions.now) }
 {
     let mut line = TextLine::new();
     for i in 0..questions.len() {

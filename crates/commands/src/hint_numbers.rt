@@ -1,8 +1,8 @@
 // The command `hints`.
-ghost use Rattle.std.specs.Prelude.{◌≡◌, ◌+◌, ◌<◌, ◌^◌, All, IfOk, OnOk, OnErr};
+ghost use Rattle.std.specs.Prelude.{◌≡◌, ◌+◌, ◌<◌, ◌^◌, All, IfOk};
 ghost use Rattle.hints.specs.Leads.{HaveLeastLines};
 ghost use Rattle.hints.specs.Lookups.{LeadsWithin};
-ghost use Rattle.written.specs.Writing.{Writes, BreaksOff, WritesText};
+ghost use Rattle.written.specs.Writing.{WritesPieces, WritesText};
 ghost use Rattle.commands.specs.Texts.Hints.{AreHints, hint_bytes, hint_pieces};
 
 use crate::task::Fitting;
@@ -38,8 +38,7 @@ fn hints_for(alloc: Global, fitting: &Fitting) -> Result<Vec<u64>, NoMemory>
 
 /// Hands the bytes of each hint over.
 fn write_hints<S: Sink>(out: &mut S, hints: &[u64]) -> Result<(), Failed>
-    ensures ok { OnOk result (Writes S.Sink out.old out.new (hint_pieces hints.now)) }
-    ensures err { OnErr result (BreaksOff S.Sink out.old out.new (hint_pieces hints.now)) }
+    ensures written { WritesPieces S.Sink out.old result out.new (hint_pieces hints.now) }
     ensures small { All (λ hint. hint < 2 ^ 64) hints.now }
 {
     for i in 0..hints.len() {

@@ -1,7 +1,7 @@
 // What the commands over an index share: building it, and its first text lines.
-ghost use Rattle.std.specs.Prelude.{◌≡◌, ◌∷◌, ◌++◌, ◌<◌, ◌≤◌, [], length, IfOk, OnOk, OnErr};
+ghost use Rattle.std.specs.Prelude.{◌≡◌, ◌∷◌, ◌++◌, ◌<◌, ◌≤◌, [], length, IfOk};
 ghost use Rattle.levels.specs.Indexes.{IsIndexOf};
-ghost use Rattle.written.specs.Writing.{Writes, BreaksOff};
+ghost use Rattle.written.specs.Writing.{WritesPieces};
 ghost use Rattle.commands.specs.Tasks.{bounds_of};
 ghost use Rattle.commands.specs.Texts.Indexing.{keys_line, level_line_of};
 ghost use Rattle.commands.specs.Texts.Indexing.{slack_at, slack_ending};
@@ -35,10 +35,8 @@ pub fn index_of<R: Threads + Sync, G: Gate>(
 
 /// Writes how many keys there are, how many distinct ones, and how many levels.
 pub fn write_keys<S: Sink>(out: &mut S, line: &mut TextLine, index: &Index) -> Result<(), Failed>
-    ensures ok { OnOk result (Writes S.Sink out.old out.new
-        (keys_line index.now.keys (length index.now.levels) ∷ [])) }
-    ensures err { OnErr result (BreaksOff S.Sink out.old out.new
-        (keys_line index.now.keys (length index.now.levels) ∷ [])) }
+    ensures { WritesPieces S.Sink out.old result out.new
+        (keys_line index.now.keys (length index.now.levels) ∷ []) }
 {
     fill_keys_line(line, index);
     hand_over(out, line.as_bytes())

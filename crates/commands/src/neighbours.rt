@@ -1,8 +1,7 @@
 // The command `near`.
 ghost use Rattle.std.specs.Prelude.{◌≡◌, ◌≤◌, ℕ, List, All, length, map, min, vec_capacity};
-ghost use Rattle.std.specs.Prelude.{OnOk, OnErr};
 ghost use Rattle.zorder.specs.Codes.{IsCode, IsDimension, IsInRange};
-ghost use Rattle.written.specs.Writing.{Writes, BreaksOff, WritesText};
+ghost use Rattle.written.specs.Writing.{WritesPieces, WritesTold, WritesText};
 ghost use Rattle.commands.specs.declared.task.Centre.{Centre as Asked};
 ghost use Rattle.written.specs.InTurn.{TellsEach};
 ghost use Rattle.commands.specs.Texts.Neighbours.{IsNearest, TellsNear, near_line};
@@ -66,12 +65,8 @@ fn write_answers<S: Sink>(
     requires codes { All (IsCode boxes.now.dims) boxes.now.codes }
     requires answered { All (λ centre. (pieces : List (List ℕ))
         × TellsNear boxes.now.dims boxes.now.codes centre pieces) centres.now }
-    ensures ok { OnOk result ((pieces : List (List ℕ))
-        × TellsEach (TellsNear boxes.now.dims boxes.now.codes) centres.now pieces
-        × Writes S.Sink out.old out.new pieces) }
-    ensures err { OnErr result ((pieces : List (List ℕ))
-        × TellsEach (TellsNear boxes.now.dims boxes.now.codes) centres.now pieces
-        × BreaksOff S.Sink out.old out.new pieces) }
+    ensures { WritesTold S.Sink out.old result out.new
+        (TellsEach (TellsNear boxes.now.dims boxes.now.codes) centres.now) }
 {
     let mut line = TextLine::new();
     for i in 0..centres.len() {
@@ -91,12 +86,8 @@ fn write_answer<S: Sink>(
     requires centre { IsInRange boxes.now.dims centre.now.place }
     requires codes { All (IsCode boxes.now.dims) boxes.now.codes }
     requires room { min (length boxes.now.codes) centre.now.count ≤ vec_capacity points.old }
-    ensures ok { OnOk result ((pieces : List (List ℕ))
-        × TellsNear boxes.now.dims boxes.now.codes centre.now pieces
-        × Writes S.Sink out.old out.new pieces) }
-    ensures err { OnErr result ((pieces : List (List ℕ))
-        × TellsNear boxes.now.dims boxes.now.codes centre.now pieces
-        × BreaksOff S.Sink out.old out.new pieces) }
+    ensures told { WritesTold S.Sink out.old result out.new
+        (TellsNear boxes.now.dims boxes.now.codes centre.now) }
     ensures capacity { vec_capacity points.old ≤ vec_capacity points.new }
 {
     let looked = nearest_into(boxes, &centre.place, centre.count, points);
@@ -114,9 +105,7 @@ fn write_points<S: Sink>(
 ) -> Result<(), Failed>
     requires dimension { IsDimension d }
     requires codes { All (λ point. IsCode d point.1) points.now }
-    ensures ok { OnOk result (Writes S.Sink out.old out.new (map (neighbour_line d) points.now)) }
-    ensures err { OnErr result
-        (BreaksOff S.Sink out.old out.new (map (neighbour_line d) points.now)) }
+    ensures { WritesPieces S.Sink out.old result out.new (map (neighbour_line d) points.now) }
 {
     for i in 0..points.len() {
         fill_neighbour_line(line, d, points[i]);

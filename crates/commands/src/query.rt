@@ -1,10 +1,10 @@
 // The command `query`.
 ghost use Rattle.std.specs.Prelude.{◌≡◌, ◌≤◌, ℕ, Bool, List, Option, false};
-ghost use Rattle.std.specs.Prelude.{is_some, length, map, IfSome, OnOk, OnErr};
+ghost use Rattle.std.specs.Prelude.{is_some, length, map, IfSome};
 ghost use Rattle.std.specs.Prelude.{vec_capacity};
 ghost use Rattle.std.specs.List.Sorted.{IsNonDecreasing};
 ghost use Rattle.window_search.specs.Searches.{lb};
-ghost use Rattle.written.specs.Writing.{Writes, BreaksOff, WritesText};
+ghost use Rattle.written.specs.Writing.{WritesPieces, WritesTold, WritesText};
 ghost use Rattle.commands.specs.Finders.{FindsAsAsked, IsSortedIndexOf};
 ghost use Rattle.commands.specs.Tasks.{Bounds as TaskBounds, bounds_of};
 ghost use Rattle.commands.specs.Texts.Query.{IsAnswered, TellsAnswer, TellsWindows};
@@ -124,10 +124,8 @@ pub fn write_answers<S: Sink>(
     requires positions { positions.now ≡ map (lb keys.now) questions.now }
     requires index { IfSome told (λ index. IsSortedIndexOf keys.now (bounds_of bounds) index.now) }
     requires room { IfSome told (λ index. length index.now.levels ≤ vec_capacity room.old) }
-    ensures ok { OnOk result ((pieces : List (List ℕ)) × IsAnswered keys.now (bounds_of bounds)
-        questions.now (is_some told.entry) pieces × Writes S.Sink out.old out.new pieces) }
-    ensures err { OnErr result ((pieces : List (List ℕ)) × IsAnswered keys.now (bounds_of bounds)
-        questions.now (is_some told.entry) pieces × BreaksOff S.Sink out.old out.new pieces) }
+    ensures { WritesTold S.Sink out.old result out.new
+        (IsAnswered keys.now (bounds_of bounds) questions.now (is_some told.entry)) }
 {
     let mut line = TextLine::new();
     for i in 0..questions.len() {
@@ -150,10 +148,8 @@ fn write_answer<S: Sink>(
     requires position { asked.1 ≡ lb keys.now asked.0 }
     requires index { IfSome told (λ index. IsSortedIndexOf keys.now (bounds_of bounds) index.now) }
     requires room { IfSome told (λ index. length index.now.levels ≤ vec_capacity room.old) }
-    ensures ok { OnOk result ((pieces : List (List ℕ)) × TellsAnswer keys.now (bounds_of bounds)
-        (is_some told.entry) asked.0 pieces × Writes S.Sink out.old out.new pieces) }
-    ensures err { OnErr result ((pieces : List (List ℕ)) × TellsAnswer keys.now (bounds_of bounds)
-        (is_some told.entry) asked.0 pieces × BreaksOff S.Sink out.old out.new pieces) }
+    ensures told { WritesTold S.Sink out.old result out.new
+        (TellsAnswer keys.now (bounds_of bounds) (is_some told.entry) asked.0) }
     ensures capacity { vec_capacity room.old ≤ vec_capacity room.new }
 {
     let (question, position) = asked;
@@ -189,8 +185,7 @@ fn write_windows<S: Sink>(
     line: &mut TextLine,
     windows: &[LevelWindow],
 ) -> Result<(), Failed>
-    ensures ok { OnOk result (Writes S.Sink out.old out.new (window_lines windows.now)) }
-    ensures err { OnErr result (BreaksOff S.Sink out.old out.new (window_lines windows.now)) }
+    ensures { WritesPieces S.Sink out.old result out.new (window_lines windows.now) }
 {
     for i in 0..windows.len() {
         fill_window_line(line, windows[i]);

@@ -1,10 +1,10 @@
 // The command `box`.
 ghost use Rattle.std.specs.Prelude.{◌≡◌, ◌≤◌, ℕ, List, All};
-ghost use Rattle.std.specs.Prelude.{length, map, vec_capacity, OnOk, OnErr};
+ghost use Rattle.std.specs.Prelude.{length, map, vec_capacity};
 ghost use Rattle.zorder.specs.Codes.{IsCode, IsDimension};
 ghost use Rattle.zorder.specs.declared.regions.Region.{Region as SearchedRegion};
 ghost use Rattle.boxes.specs.BoxAnswers.{codes_inside};
-ghost use Rattle.written.specs.Writing.{Writes, BreaksOff, WritesText};
+ghost use Rattle.written.specs.Writing.{WritesPieces, WritesTold, WritesText};
 ghost use Rattle.zorder.specs.Regions.{IsRegionOf};
 ghost use Rattle.written.specs.InTurn.{TellsEach};
 ghost use Rattle.commands.specs.Texts.Regions.{IsSearched, TellsRegion, box_line, point_line};
@@ -68,12 +68,8 @@ fn write_answers<S: Sink>(
     requires codes { All (IsCode boxes.now.dims) boxes.now.codes }
     requires answered { All (λ region. (pieces : List (List ℕ))
         × TellsRegion boxes.now.codes region pieces) regions.now }
-    ensures ok { OnOk result ((pieces : List (List ℕ))
-        × TellsEach (TellsRegion boxes.now.codes) regions.now pieces
-        × Writes S.Sink out.old out.new pieces) }
-    ensures err { OnErr result ((pieces : List (List ℕ))
-        × TellsEach (TellsRegion boxes.now.codes) regions.now pieces
-        × BreaksOff S.Sink out.old out.new pieces) }
+    ensures { WritesTold S.Sink out.old result out.new
+        (TellsEach (TellsRegion boxes.now.codes) regions.now) }
 {
     let mut line = TextLine::new();
     for i in 0..regions.len() {
@@ -93,12 +89,8 @@ fn write_answer<S: Sink>(
     requires region { IsRegionOf boxes.now.dims region.now }
     requires codes { All (IsCode boxes.now.dims) boxes.now.codes }
     requires room { length (codes_inside region.now boxes.now.codes) ≤ vec_capacity found.old }
-    ensures ok { OnOk result ((pieces : List (List ℕ))
-        × TellsRegion boxes.now.codes region.now pieces
-        × Writes S.Sink out.old out.new pieces) }
-    ensures err { OnErr result ((pieces : List (List ℕ))
-        × TellsRegion boxes.now.codes region.now pieces
-        × BreaksOff S.Sink out.old out.new pieces) }
+    ensures told { WritesTold S.Sink out.old result out.new
+        (TellsRegion boxes.now.codes region.now) }
     ensures capacity { vec_capacity found.old ≤ vec_capacity found.new }
 {
     found.clear();
@@ -117,8 +109,7 @@ fn write_points<S: Sink>(
 ) -> Result<(), Failed>
     requires dimension { IsDimension d }
     requires codes { All (IsCode d) codes.now }
-    ensures ok { OnOk result (Writes S.Sink out.old out.new (map (point_line d) codes.now)) }
-    ensures err { OnErr result (BreaksOff S.Sink out.old out.new (map (point_line d) codes.now)) }
+    ensures { WritesPieces S.Sink out.old result out.new (map (point_line d) codes.now) }
 {
     for i in 0..codes.len() {
         fill_point_line(line, d, codes[i]);

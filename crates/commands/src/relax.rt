@@ -1,9 +1,9 @@
 // The command `relax`.
 ghost use Rattle.std.specs.Prelude.{◌≡◌, ◌<◌, ◌++◌, ℕ, false, List, map, Some};
-ghost use Rattle.std.specs.Prelude.{IfOk, OnOk, OnErr};
+ghost use Rattle.std.specs.Prelude.{IfOk};
 ghost use Rattle.std.specs.List.Sorted.{IsNonDecreasing};
 ghost use Rattle.window_search.specs.Searches.{lb};
-ghost use Rattle.written.specs.Writing.{Writes, BreaksOff, WritesText};
+ghost use Rattle.written.specs.Writing.{WritesPieces, WritesText};
 ghost use Rattle.commands.specs.Finders.{IsRelaxedOf};
 ghost use Rattle.commands.specs.Tasks.{Bounds as TaskBounds, bounds_of};
 ghost use Rattle.commands.specs.Texts.Indexing.{tells_levels};
@@ -87,14 +87,11 @@ fn write_relaxed<S: Sink>(
     positions: &[u32],
 ) -> Result<(), Failed>
     requires positions { positions.now ≡ map (lb index.now.keys) questions.now }
-    ensures ok { OnOk result ((answers : List (List ℕ)) × IsAnswered index.now.keys
-        (bounds_of bounds) questions.now false answers × Writes S.Sink out.old out.new
+    ensures { (answers : List (List ℕ)) × IsAnswered index.now.keys
+        (bounds_of bounds) questions.now false answers × WritesPieces
+        S.Sink out.old result out.new
         (tells_levels index.now.keys index.now.levels
-        (built_level index.now.keys (bounds_of bounds) (Some slack) index.now.levels) ++ answers)) }
-    ensures err { OnErr result ((answers : List (List ℕ)) × IsAnswered index.now.keys
-        (bounds_of bounds) questions.now false answers × BreaksOff S.Sink out.old out.new
-        (tells_levels index.now.keys index.now.levels
-        (built_level index.now.keys (bounds_of bounds) (Some slack) index.now.levels) ++ answers)) }
+        (built_level index.now.keys (bounds_of bounds) (Some slack) index.now.levels) ++ answers) }
 {
     write_index(out, index, bounds, Some(slack))?;
     let mut room = Vec::new(alloc);

@@ -1,11 +1,11 @@
 // The command `save`.
 ghost use Rattle.std.specs.Prelude.{◌≡◌, ◌<◌, ◌^◌, ◌∷◌, ◌++◌, [], ℕ, List, length, map};
-ghost use Rattle.std.specs.Prelude.{IfOk, OnOk, OnErr};
+ghost use Rattle.std.specs.Prelude.{IfOk, OnOk};
 ghost use Rattle.std.specs.List.Sorted.{IsNonDecreasing};
 ghost use Rattle.levels.specs.Indexes.{IsIndex};
 ghost use Rattle.index_file.specs.Spelling.{level_bytes};
 ghost use Rattle.index_file.specs.Spelled.{saved_run};
-ghost use Rattle.written.specs.Writing.{Writes, BreaksOff, WritesText};
+ghost use Rattle.written.specs.Writing.{WritesPieces, WritesText};
 ghost use Rattle.commands.specs.Tasks.{Bounds as TaskBounds, bounds_of};
 ghost use Rattle.commands.specs.Texts.Save.{IsSaved, saved_pieces};
 
@@ -78,10 +78,7 @@ fn push_level(
 
 /// Hands each piece over.
 fn write_pieces<S: Sink>(out: &mut S, pieces: &[Vec<u8>]) -> Result<(), Failed>
-    ensures ok { OnOk result (Writes S.Sink out.old out.new
-        (map (λ piece. piece.items) pieces.now)) }
-    ensures err { OnErr result
-        (BreaksOff S.Sink out.old out.new (map (λ piece. piece.items) pieces.now)) }
+    ensures { WritesPieces S.Sink out.old result out.new (map (λ piece. piece.items) pieces.now) }
 {
     for i in 0..pieces.len() {
         hand_over(out, pieces[i].as_slice())?;

@@ -1,8 +1,8 @@
 // The text lines of both commands.
 ghost use Rattle.std.specs.Prelude.{◌≡◌, ◌∷◌, ◌++◌, ◌+◌, ◌≤◌, [], ℕ, List, length, map, take};
-ghost use Rattle.std.specs.Prelude.{decimal, All, OnErr, OnOk};
+ghost use Rattle.std.specs.Prelude.{decimal, All};
 ghost use Rattle.std.specs.List.{join_with_byte, range_with_len};
-ghost use Rattle.written.specs.Writing.{Writes, BreaksOff};
+ghost use Rattle.written.specs.Writing.{WritesPieces};
 ghost use Rattle.written.specs.TextLines.{text_line};
 ghost use Rattle.log_levels.specs.declared.update.Update.{Update};
 ghost use Rattle.log_levels.specs.Maps.{live_in, map_after};
@@ -32,10 +32,8 @@ pub fn write_lines<S: Sink, A: Asked>(
 ) -> Result<(), Failed>
     requires answers { A.answers_by asked.now (map_after updates.now) }
     requires each { All (IsTold updates.now questions.now) readings.now }
-    ensures ok { OnOk result (Writes S.Sink out.old out.new
-        (all_lines numbers.now updates.now questions.now readings.now)) }
-    ensures err { OnErr result (BreaksOff S.Sink out.old out.new
-        (all_lines numbers.now updates.now questions.now readings.now)) }
+    ensures { WritesPieces S.Sink out.old result out.new
+        (all_lines numbers.now updates.now questions.now readings.now) }
 {
     let mut line = TextLine::new();
     fill_count(&mut line, b"updates", updates.len() as u64);
@@ -55,10 +53,8 @@ fn write_behind<S: Sink, A: Asked>(
 ) -> Result<(), Failed>
     requires answers { A.answers_by asked.now (map_after updates.now) }
     requires each { All (IsTold updates.now questions.now) readings.now }
-    ensures ok { OnOk result (Writes S.Sink out.old out.new
-        (map from_line numbers.now ++ told_lines updates.now questions.now readings.now)) }
-    ensures err { OnErr result (BreaksOff S.Sink out.old out.new
-        (map from_line numbers.now ++ told_lines updates.now questions.now readings.now)) }
+    ensures { WritesPieces S.Sink out.old result out.new
+        (map from_line numbers.now ++ told_lines updates.now questions.now readings.now) }
 {
     write_senders(out, line, numbers)?;
     write_rest(out, line, asked, readings, updates, questions)
@@ -66,8 +62,7 @@ fn write_behind<S: Sink, A: Asked>(
 
 /// Writes which sender sent each update.
 fn write_senders<S: Sink>(out: &mut S, line: &mut TextLine, numbers: &[u32]) -> Result<(), Failed>
-    ensures ok { OnOk result (Writes S.Sink out.old out.new (map from_line numbers.now)) }
-    ensures err { OnErr result (BreaksOff S.Sink out.old out.new (map from_line numbers.now)) }
+    ensures { WritesPieces S.Sink out.old result out.new (map from_line numbers.now) }
 {
     for i in 0..numbers.len() {
         fill_from(line, numbers[i]);
@@ -93,10 +88,8 @@ fn write_rest<S: Sink, A: Asked>(
 ) -> Result<(), Failed>
     requires answers { A.answers_by asked.now (map_after updates.now) }
     requires each { All (IsTold updates.now questions.now) readings.now }
-    ensures ok { OnOk result (Writes S.Sink out.old out.new
-        (told_lines updates.now questions.now readings.now)) }
-    ensures err { OnErr result (BreaksOff S.Sink out.old out.new
-        (told_lines updates.now questions.now readings.now)) }
+    ensures { WritesPieces S.Sink out.old result out.new
+        (told_lines updates.now questions.now readings.now) }
 {
     write_read(out, line, readings, updates, questions)?;
     write_closing(out, line, asked, readings, updates, questions)
@@ -111,10 +104,8 @@ fn write_read<S: Sink>(
     questions: &[Question],
 ) -> Result<(), Failed>
     requires { All (IsTold updates.now questions.now) readings.now }
-    ensures ok { OnOk result (Writes S.Sink out.old out.new
-        (read_lines updates.now questions.now 0 readings.now)) }
-    ensures err { OnErr result (BreaksOff S.Sink out.old out.new
-        (read_lines updates.now questions.now 0 readings.now)) }
+    ensures { WritesPieces S.Sink out.old result out.new
+        (read_lines updates.now questions.now 0 readings.now) }
 {
     for i in 0..readings.len() {
         write_reading(out, line, i, &readings[i].sightings, updates, questions)?;
@@ -132,10 +123,8 @@ fn write_reading<S: Sink>(
     questions: &[Question],
 ) -> Result<(), Failed>
     requires { AreAnswers updates.now questions.now sightings.now }
-    ensures ok { OnOk result (Writes S.Sink out.old out.new
-        (reader_lines updates.now reader questions.now sightings.now)) }
-    ensures err { OnErr result (BreaksOff S.Sink out.old out.new
-        (reader_lines updates.now reader questions.now sightings.now)) }
+    ensures { WritesPieces S.Sink out.old result out.new
+        (reader_lines updates.now reader questions.now sightings.now) }
 {
     for i in 0..questions.len() {
         fill_sighting(line, reader, questions[i], sightings[i]);
@@ -155,10 +144,8 @@ fn write_closing<S: Sink, A: Asked>(
 ) -> Result<(), Failed>
     requires answers { A.answers_by asked.now (map_after updates.now) }
     requires each { All (λ reading. reading.last ≡ length updates.now) readings.now }
-    ensures ok { OnOk result (Writes S.Sink out.old out.new
-        (closing_lines updates.now questions.now (length readings.now))) }
-    ensures err { OnErr result (BreaksOff S.Sink out.old out.new
-        (closing_lines updates.now questions.now (length readings.now))) }
+    ensures { WritesPieces S.Sink out.old result out.new
+        (closing_lines updates.now questions.now (length readings.now)) }
 {
     write_lasts(out, line, readings, updates)?;
     write_ends(out, line, asked, updates, questions)
@@ -172,10 +159,8 @@ fn write_lasts<S: Sink>(
     updates: &[Update],
 ) -> Result<(), Failed>
     requires { All (λ reading. reading.last ≡ length updates.now) readings.now }
-    ensures ok { OnOk result (Writes S.Sink out.old out.new
-        (map (last_line (length updates.now)) (range_with_len 0 (length readings.now)))) }
-    ensures err { OnErr result (BreaksOff S.Sink out.old out.new
-        (map (last_line (length updates.now)) (range_with_len 0 (length readings.now)))) }
+    ensures { WritesPieces S.Sink out.old result out.new
+        (map (last_line (length updates.now)) (range_with_len 0 (length readings.now))) }
 {
     for i in 0..readings.len() {
         fill_last(line, i, readings[i].last);
@@ -193,10 +178,8 @@ fn write_ends<S: Sink, A: Asked>(
     questions: &[Question],
 ) -> Result<(), Failed>
     requires { A.answers_by asked.now (map_after updates.now) }
-    ensures ok { OnOk result (Writes S.Sink out.old out.new
-        (end_lines (map_after updates.now) questions.now)) }
-    ensures err { OnErr result (BreaksOff S.Sink out.old out.new
-        (end_lines (map_after updates.now) questions.now)) }
+    ensures { WritesPieces S.Sink out.old result out.new
+        (end_lines (map_after updates.now) questions.now) }
 {
     write_answers(out, line, asked, updates, questions)?;
     fill_count(line, b"live", live_in(asked));
@@ -223,10 +206,8 @@ fn write_answers<S: Sink, A: Asked>(
     questions: &[Question],
 ) -> Result<(), Failed>
     requires { A.answers_by asked.now (map_after updates.now) }
-    ensures ok { OnOk result (Writes S.Sink out.old out.new
-        (map (end_line (map_after updates.now)) questions.now)) }
-    ensures err { OnErr result (BreaksOff S.Sink out.old out.new
-        (map (end_line (map_after updates.now)) questions.now)) }
+    ensures { WritesPieces S.Sink out.old result out.new
+        (map (end_line (map_after updates.now)) questions.now) }
 {
     for i in 0..questions.len() {
         fill_end(line, questions[i], asked.answer(questions[i]));

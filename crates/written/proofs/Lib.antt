@@ -1,7 +1,8 @@
 pub mod TailLemmas
 pub mod Gaining
 pub mod PieceSteps
-pub mod CallerLemmas
-pub mod WritingLemmas
+pub mod AppendLemmas
 pub mod InTurnLemmas
+pub mod LoopLemmas
+pub mod WritingLemmas
 pub mod DigitLemmas

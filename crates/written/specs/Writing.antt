@@ -2,6 +2,7 @@
 use Rattle.std.specs.Prelude.{◌≡◌, ◌⊎◌, ℕ, List, ◌++◌, true, false, Option, Some, IfSome, Result, Ok, Err, ⊤}
 use Rattle.std.specs.List.{concat}
 use Rattle.edge.specs.Risen.{HasRisen}
+use Rattle.edge.specs.declared.failed.Failed.{Failed}
 use Rattle.edge.specs.declared.sink.Sink.{Ghosts}
 use Rattle.written.specs.declared.unfinished.Unfinished.{Unfinished}
 use Rattle.written.specs.declared.unfinished.Unfinished.TheVariants.{NoMemory, WriteFault}
@@ -31,6 +32,15 @@ pub record BreaksOff {S : Type 0} (sink : Ghosts S) (old new : S) (pieces : List
 -- the pieces were written, whole or up to where the sink failed
 abbrev pub WritesUntilFault : {S : Type 0} → Ghosts S → S → S → List (List ℕ) → Type 0
 WritesUntilFault sink old new pieces = Writes sink old new pieces ⊎ BreaksOff sink old new pieces
+
+-- so it ended: the pieces were written whole, or broke off where a call failed
+abbrev pub WritesPieces : {S : Type 0} → Ghosts S → S → Result ⊤ Failed → S → List (List ℕ) → Type 0
+WritesPieces sink old (Ok _) new pieces = Writes sink old new pieces
+WritesPieces sink old (Err _) new pieces = BreaksOff sink old new pieces
+
+-- the same of some pieces of which this is true
+abbrev pub WritesTold : {S : Type 0} → Ghosts S → S → Result ⊤ Failed → S → (List (List ℕ) → Type 0) → Type 0
+WritesTold sink old result new Tells = (pieces : List (List ℕ)) × Tells pieces × WritesPieces sink old result new pieces
 
 -- pieces of which this is true were written whole, or broke off where
 -- the sink failed; or memory ran out, and the sink is as it was

@@ -1,6 +1,6 @@
 // Handing pieces over.
-ghost use Rattle.std.specs.Prelude.{◌∷◌, [], OnOk, OnErr};
-ghost use Rattle.written.specs.Writing.{Writes, BreaksOff};
+ghost use Rattle.std.specs.Prelude.{◌∷◌, []};
+ghost use Rattle.written.specs.Writing.{WritesPieces};
 
 use edge::{Failed, Sink};
 
@@ -13,8 +13,7 @@ use edge::{Failed, Sink};
 /// `Failed` where a call of the sink failed: the sink has gained what was taken before it, a front
 /// part of the piece.
 pub fn hand_over<S: Sink>(out: &mut S, piece: &[u8]) -> Result<(), Failed>
-    ensures ok { OnOk result (Writes S.Sink out.old out.new (piece.now ∷ [])) }
-    ensures err { OnErr result (BreaksOff S.Sink out.old out.new (piece.now ∷ [])) }
+    ensures { WritesPieces S.Sink out.old result out.new (piece.now ∷ []) }
 {
     let mut rest = piece;
     while !rest.is_empty() {

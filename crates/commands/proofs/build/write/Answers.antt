@@ -19,5 +19,5 @@ returns g c = (
   _,
   told c.args.indexing.sorted.keys.items _
       (bounds_of c.args.indexing.bounds) _ c.in_ok-index.ensures.of_keys c.in_ok-index.ensures.levels,
-  c.in_ok-write_index.ensures.ok,
+  c.in_ok-write_index.ensures,
 )

@@ -1,38 +1,10 @@
-use Rattle.std.proofs.Common.{[], ◌∷◌, length}
-use Rattle.std.specs.List.{flat_map}
-use Rattle.exact_cross.specs.Points.{places}
-use Rattle.written.proofs.CallerLemmas.{BreaksOff-more}
-use Rattle.commands.specs.Tasks.{bounds_of}
-use Rattle.commands.specs.Texts.Indexing.{keys_line}
-use Rattle.commands.specs.Texts.Build.{built_level}
-use Rattle.written.proofs.WritingLemmas.{on_err, ok_behind, err_behind}
+use Rattle.written.proofs.AppendLemmas.{BreaksOff-more}
+use Rattle.written.proofs.WritingLemmas.{behind, broken}
 use Rattle.commands.proofs.build.write_index.Goals as goal
 
-pub returns-in_err-write_keys-clause-err : goal.returns-in_err-write_keys-clause-err
-returns-in_err-write_keys-clause-err g c =
-    let index = c.args.index.now in
-    on_err c.from_residual.result _
-    (BreaksOff-more g.S.Sink c.args.out.now c.write_keys.new.out (keys_line index.keys (length index.levels) ∷ [])
-    (flat_map
-    (built_level index.keys (bounds_of c.args.bounds) c.args.slack index.levels) (places (length index.levels)))
-    c.in_err-write_keys.ensures.err)
+pub returns-in_err-write_keys : goal.returns-in_err-write_keys
+returns-in_err-write_keys g c =
+    broken _ c.from_residual.result c.from_residual.ensures.1 (BreaksOff-more _ c.in_err-write_keys.ensures)
 
-pub returns-clause-ok : goal.returns-clause-ok
-returns-clause-ok g c =
-    let index = c.args.index.now in
-    ok_behind g.S.Sink c.args.out.now c.write_keys.new.out c.write_levels.new.out
-    (keys_line index.keys (length index.levels) ∷ [])
-    (flat_map
-    (built_level index.keys (bounds_of c.args.bounds) c.args.slack index.levels) (places (length index.levels)))
-    c.write_levels.result
-    c.in_ok-write_keys.ensures.ok c.write_levels.ensures.ok
-
-pub returns-clause-err : goal.returns-clause-err
-returns-clause-err g c =
-    let index = c.args.index.now in
-    err_behind g.S.Sink c.args.out.now c.write_keys.new.out c.write_levels.new.out
-    (keys_line index.keys (length index.levels) ∷ [])
-    (flat_map
-    (built_level index.keys (bounds_of c.args.bounds) c.args.slack index.levels) (places (length index.levels)))
-    c.write_levels.result
-    c.in_ok-write_keys.ensures.ok c.write_levels.ensures.err
+pub returns : goal.returns
+returns g c = behind c.write_levels.new.out _ c.write_levels.result c.in_ok-write_keys.ensures c.write_levels.ensures

@@ -2,12 +2,12 @@ use Rattle.std.proofs.Common.{◌≡◌, ◌+◌, ◌<◌, [], ◌∷◌, ◌++�
 use Rattle.std.specs.List.{flat_map}
 use Rattle.exact_cross.specs.Points.{places}
 use Rattle.exact_cross.specs.declared.segment.Segment.{Segment}
-use Rattle.written.proofs.CallerLemmas.{written_none, written_more, written_all, breaks_off_there}
+use Rattle.written.proofs.LoopLemmas.{written_none, written_more, written_all, broken_there}
 use Rattle.commands.specs.Tasks.{Bounds, bounds_of}
 use Rattle.commands.specs.Texts.Indexing.{level_line_of}
 use Rattle.commands.specs.Texts.Build.{built_level}
 use Rattle.commands.proofs.LevelTexts.{told_from, told_end}
-use Rattle.written.proofs.WritingLemmas.{on_err}
+use Rattle.written.proofs.WritingLemmas.{broken}
 use Rattle.commands.proofs.build.write_levels.Goals as goal
 
 -- what is left begins with the piece of this level
@@ -21,28 +21,28 @@ begins keys bounds slack levels i piece there is =
     ++ flat_map (built_level keys bounds slack levels) (drop (i + 1) (places (length levels)))) (sym is)
 
 pub loop-i-init : goal.loop-i-init
-loop-i-init g c = written_none g.S.Sink c.args.out.now _
+loop-i-init g c = written_none
 
 pub loop-i-preserved : goal.loop-i-preserved
 loop-i-preserved g c =
     let piece = c.as_bytes.result.now in
-    written_more g.S.Sink c.args.out.now c.loop-i.out c.hand_over.new.out _ _ _ (piece ∷ [])
+    written_more c.loop-i.invariant c.in_ok-hand_over.ensures
     (begins c.args.index.now.keys (bounds_of c.args.bounds) c.args.slack c.args.index.now.levels c.loop-i.i piece
     (omega (arith, c.level_count-i-end.ensures.count))
-    (c.as_bytes.ensures ∙ c.fill_level_line.ensures)) c.in_ok-hand_over.ensures.ok c.loop-i.invariant
+    (c.as_bytes.ensures ∙ c.fill_level_line.ensures))
 
-pub returns-in_err-hand_over-clause-err : goal.returns-in_err-hand_over-clause-err
-returns-in_err-hand_over-clause-err g c =
+pub returns-in_err-hand_over : goal.returns-in_err-hand_over
+returns-in_err-hand_over g c =
     let piece = c.as_bytes.result.now in
-    on_err c.from_residual.result _
-    (breaks_off_there g.S.Sink c.args.out.now c.loop-i.out c.hand_over.new.out _ _ _ (piece ∷ [])
+    broken _ c.from_residual.result c.from_residual.ensures.1
+    (broken_there _ c.loop-i.invariant c.in_err-hand_over.ensures
     (begins c.args.index.now.keys (bounds_of c.args.bounds) c.args.slack c.args.index.now.levels c.loop-i.i piece
     (omega (arith, c.level_count-i-end.ensures.count))
-    (c.as_bytes.ensures ∙ c.fill_level_line.ensures)) c.in_err-hand_over.ensures.err c.loop-i.invariant)
+    (c.as_bytes.ensures ∙ c.fill_level_line.ensures)))
 
-pub returns-clause-ok : goal.returns-clause-ok
-returns-clause-ok g c =
-    written_all g.S.Sink c.args.out.now c.loop-i.out _ _
+pub returns : goal.returns
+returns g c =
+    written_all c.loop-i.invariant
     (told_end (built_level c.args.index.now.keys (bounds_of c.args.bounds) c.args.slack c.args.index.now.levels)
     (length c.args.index.now.levels) c.loop-i.i
-    (omega (arith, c.level_count-i-end.ensures.count))) c.loop-i.invariant
+    (omega (arith, c.level_count-i-end.ensures.count)))

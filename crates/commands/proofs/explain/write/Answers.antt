@@ -33,15 +33,14 @@ returns g c = (
       (bounds_of c.args.indexing.bounds) _ c.in_ok-index.ensures.of_keys c.in_ok-index.ensures.levels
       c.args.indexing.sorted.never_falls (omega (arith, c.args.indexing.sorted.keys.ok.0, c.args.indexing.sorted.few))
       c.args.indexing.bounds.bounded c.args.indexing.bounds.bounded_above,
-  c.in_ok-write_index.ensures.ok,
+  c.in_ok-write_index.ensures,
 )
 
 pub returns-in_err-write_index : goal.returns-in_err-write_index
 returns-in_err-write_index g c =
-    broken_text g.S.Sink c.args.out.now
-    c.write_index.new.out c.from_residual-in_err-write_index.result _ _ c.from_residual-in_err-write_index.ensures.1
+    broken_text _ c.from_residual-in_err-write_index.result c.from_residual-in_err-write_index.ensures.1
     (told c.args.indexing.sorted.keys.items _
     (bounds_of c.args.indexing.bounds) _ c.in_ok-index.ensures.of_keys c.in_ok-index.ensures.levels
     c.args.indexing.sorted.never_falls (omega (arith, c.args.indexing.sorted.keys.ok.0, c.args.indexing.sorted.few))
     c.args.indexing.bounds.bounded c.args.indexing.bounds.bounded_above)
-    c.in_err-write_index.ensures.err
+    c.in_err-write_index.ensures

@@ -1,32 +1,30 @@
 use Rattle.std.proofs.Common.{length, arith}
-use Rattle.written.proofs.CallerLemmas.{written_none, written_more, written_all, breaks_off_there}
+use Rattle.written.proofs.LoopLemmas.{written_none, written_more, written_all, broken_there}
 use Rattle.commands.specs.Tasks.{bounds_of}
 use Rattle.commands.specs.Texts.Explain.{level_lines}
 use Rattle.commands.proofs.LevelTexts.{told_from, told_end}
-use Rattle.written.proofs.WritingLemmas.{on_err}
+use Rattle.written.proofs.WritingLemmas.{broken}
 use Rattle.commands.proofs.explain.write_levels.Goals as goal
 
 pub loop-i-init : goal.loop-i-init
-loop-i-init g c = written_none g.S.Sink c.args.out.now _
+loop-i-init g c = written_none
 
 pub loop-i-preserved : goal.loop-i-preserved
 loop-i-preserved g c =
     let told = level_lines c.args.index.now.keys (bounds_of c.args.bounds) c.args.index.now.levels in
-    written_more g.S.Sink c.args.out.now c.loop-i.out c.write_level.new.out _ _ _ (told c.loop-i.i)
+    written_more c.loop-i.invariant c.in_ok-write_level.ensures
     (told_from told (length c.args.index.now.levels) c.loop-i.i (omega (arith, c.level_count-i-end.ensures.count)))
-    c.in_ok-write_level.ensures.ok c.loop-i.invariant
 
-pub returns-in_err-write_level-clause-err : goal.returns-in_err-write_level-clause-err
-returns-in_err-write_level-clause-err g c =
+pub returns-in_err-write_level : goal.returns-in_err-write_level
+returns-in_err-write_level g c =
     let told = level_lines c.args.index.now.keys (bounds_of c.args.bounds) c.args.index.now.levels in
-    on_err c.from_residual.result _
-    (breaks_off_there g.S.Sink c.args.out.now c.loop-i.out c.write_level.new.out _ _ _ (told c.loop-i.i)
-    (told_from told (length c.args.index.now.levels) c.loop-i.i (omega (arith, c.level_count-i-end.ensures.count)))
-    c.in_err-write_level.ensures.err c.loop-i.invariant)
+    broken _ c.from_residual.result c.from_residual.ensures.1
+    (broken_there _ c.loop-i.invariant c.in_err-write_level.ensures
+    (told_from told (length c.args.index.now.levels) c.loop-i.i (omega (arith, c.level_count-i-end.ensures.count))))
 
-pub returns-clause-ok : goal.returns-clause-ok
-returns-clause-ok g c =
-    written_all g.S.Sink c.args.out.now c.loop-i.out _ _
+pub returns : goal.returns
+returns g c =
+    written_all c.loop-i.invariant
     (told_end (level_lines c.args.index.now.keys (bounds_of c.args.bounds) c.args.index.now.levels)
     (length c.args.index.now.levels) c.loop-i.i
-    (omega (arith, c.level_count-i-end.ensures.count))) c.loop-i.invariant
+    (omega (arith, c.level_count-i-end.ensures.count)))

@@ -1,7 +1,7 @@
 use Rattle.std.proofs.Common.{drop, length}
 use Rattle.std.specs.List.{flat_map}
 use Rattle.exact_cross.specs.Points.{places}
-use Rattle.written.proofs.CallerLemmas.{HasWritten}
+use Rattle.written.proofs.LoopLemmas.{HasWritten}
 use Rattle.commands.specs.Tasks.{bounds_of}
 use Rattle.commands.specs.Texts.Explain.{level_lines}
 use Rattle.commands.proofs.explain.write_levels.Given as goal

@@ -1,12 +1,12 @@
 use Rattle.std.proofs.Common.{◌≡◌, ◌+◌, [], ◌∷◌, get_or, drop, arith, ◌∙◌}
-use Rattle.written.proofs.CallerLemmas.{written_none, written_more, written_all, breaks_off_there}
+use Rattle.written.proofs.LoopLemmas.{written_none, written_more, written_all, broken_there}
 use Rattle.commands.specs.Texts.Explain.{run_line, run_lines}
 use Rattle.commands.proofs.RunLines.{no_segment, run_lines-begin, run_lines-end}
-use Rattle.written.proofs.WritingLemmas.{on_err}
+use Rattle.written.proofs.WritingLemmas.{broken}
 use Rattle.commands.proofs.explain.write_runs.Goals as goal
 
 pub loop-i-init : goal.loop-i-init
-loop-i-init g c = written_none g.S.Sink c.args.out.now (run_lines c.args.segments.now c.args.to)
+loop-i-init g c = written_none
 
 pub loop-i-preserved : goal.loop-i-preserved
 loop-i-preserved g c =
@@ -17,12 +17,10 @@ loop-i-preserved g c =
     ∙ c.fill_run_line.ensures in
     let is =
     run_lines-begin segments c.args.to i c.start_at-end.result piece (omega arith) c.start_at-end.ensures same in
-    written_more g.S.Sink c.args.out.now c.loop-i.out c.hand_over.new.out
-    (run_lines segments c.args.to) (run_lines (drop i segments) c.args.to)
-    (run_lines (drop (i + 1) segments) c.args.to) (piece ∷ []) is c.in_ok-hand_over.ensures.ok c.loop-i.invariant
+    written_more c.loop-i.invariant c.in_ok-hand_over.ensures is
 
-pub returns-in_err-hand_over-clause-err : goal.returns-in_err-hand_over-clause-err
-returns-in_err-hand_over-clause-err g c =
+pub returns-in_err-hand_over : goal.returns-in_err-hand_over
+returns-in_err-hand_over g c =
     let segments = c.args.segments.now in
     let i = c.loop-i.i in
     let piece = c.as_bytes.result.now in
@@ -30,12 +28,10 @@ returns-in_err-hand_over-clause-err g c =
     ∙ c.fill_run_line.ensures in
     let is =
     run_lines-begin segments c.args.to i c.start_at-end.result piece (omega arith) c.start_at-end.ensures same in
-    on_err c.from_residual.result _
-    (breaks_off_there g.S.Sink c.args.out.now c.loop-i.out c.hand_over.new.out
-    (run_lines segments c.args.to) (run_lines (drop i segments) c.args.to)
-    (run_lines (drop (i + 1) segments) c.args.to) (piece ∷ []) is c.in_err-hand_over.ensures.err c.loop-i.invariant)
+    broken _ c.from_residual.result c.from_residual.ensures.1
+    (broken_there _ c.loop-i.invariant c.in_err-hand_over.ensures is)
 
-pub returns-clause-ok : goal.returns-clause-ok
-returns-clause-ok g c =
-    written_all g.S.Sink c.args.out.now c.loop-i.out (run_lines c.args.segments.now c.args.to) _
-    (run_lines-end c.args.segments.now c.args.to c.loop-i.i (omega arith)) c.loop-i.invariant
+pub returns : goal.returns
+returns g c =
+    written_all c.loop-i.invariant
+    (run_lines-end c.args.segments.now c.args.to c.loop-i.i (omega arith))

@@ -8,11 +8,10 @@ pub returns : goal.returns
 returns g c = (
   found_lines c.args.lookups.sorted.keys.items c.deref-2.result.now,
   ap (found_lines c.args.lookups.sorted.keys.items) c.deref-2.ensures.value,
-  c.in_ok-write_answers.ensures.ok,
+  c.in_ok-write_answers.ensures,
 )
 
 pub returns-in_err-write_answers : goal.returns-in_err-write_answers
 returns-in_err-write_answers g c =
-    broken_text g.S.Sink c.args.out.now c.write_answers.new.out c.from_residual.result _
-    (found_lines c.args.lookups.sorted.keys.items c.deref-2.result.now) c.from_residual.ensures.1
-    (ap (found_lines c.args.lookups.sorted.keys.items) c.deref-2.ensures.value) c.in_err-write_answers.ensures.err
+    broken_text _ c.from_residual.result c.from_residual.ensures.1
+    (ap (found_lines c.args.lookups.sorted.keys.items) c.deref-2.ensures.value) c.in_err-write_answers.ensures

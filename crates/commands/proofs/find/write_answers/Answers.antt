@@ -2,11 +2,11 @@
 use Rattle.std.proofs.Common.{◌≡◌, ◌+◌, ◌<◌, [], ◌∷◌, ◌++◌, ◌∙◌, ap, sym, drop}
 use Rattle.std.proofs.Common.{drop-cons, add-one, get_or, length, arith, ℕ, List}
 use Rattle.std.proofs.lemmas.List.{drop_all}
-use Rattle.written.proofs.CallerLemmas.{written_none, written_more, written_all, breaks_off_there}
+use Rattle.written.proofs.LoopLemmas.{written_none, written_more, written_all, broken_there}
 use Rattle.window_search.specs.Searches.{lb}
 use Rattle.commands.specs.Texts.Find.{found_lines}
 use Rattle.commands.specs.Texts.Query.{find_line}
-use Rattle.written.proofs.WritingLemmas.{on_err}
+use Rattle.written.proofs.WritingLemmas.{broken}
 use Rattle.commands.proofs.find.write_answers.Goals as goal
 
 -- what is left begins with the piece of this question
@@ -19,27 +19,24 @@ begins keys questions i d piece there is =
     ∙ ap (λ (line : List ℕ). line ∷ found_lines keys (drop (i + 1) questions)) (sym is)
 
 pub loop-i-init : goal.loop-i-init
-loop-i-init g c = written_none g.S.Sink c.args.out.now (found_lines c.args.sorted.now.keys.items c.args.questions.now)
+loop-i-init g c = written_none
 
 pub loop-i-preserved : goal.loop-i-preserved
 loop-i-preserved g c =
     let piece = c.as_bytes.result.now in
-    written_more g.S.Sink c.args.out.now c.loop-i.out c.hand_over.new.out _ _ _ (piece ∷ [])
+    written_more c.loop-i.invariant c.in_ok-hand_over.ensures
     (begins c.args.sorted.now.keys.items c.args.questions.now c.loop-i.i 0 piece
     (omega arith) (c.as_bytes.ensures ∙ c.fill_answer.ensures))
-    c.in_ok-hand_over.ensures.ok c.loop-i.invariant
 
-pub returns-in_err-hand_over-clause-err : goal.returns-in_err-hand_over-clause-err
-returns-in_err-hand_over-clause-err g c =
+pub returns-in_err-hand_over : goal.returns-in_err-hand_over
+returns-in_err-hand_over g c =
     let piece = c.as_bytes.result.now in
-    on_err c.from_residual.result _
-    (breaks_off_there g.S.Sink c.args.out.now c.loop-i.out c.hand_over.new.out _ _ _ (piece ∷ [])
+    broken _ c.from_residual.result c.from_residual.ensures.1
+    (broken_there _ c.loop-i.invariant c.in_err-hand_over.ensures
     (begins c.args.sorted.now.keys.items c.args.questions.now c.loop-i.i 0 piece
-    (omega arith) (c.as_bytes.ensures ∙ c.fill_answer.ensures))
-    c.in_err-hand_over.ensures.err c.loop-i.invariant)
+    (omega arith) (c.as_bytes.ensures ∙ c.fill_answer.ensures)))
 
-pub returns-clause-ok : goal.returns-clause-ok
-returns-clause-ok g c =
-    written_all g.S.Sink c.args.out.now c.loop-i.out _ _
+pub returns : goal.returns
+returns g c =
+    written_all c.loop-i.invariant
     (ap (found_lines c.args.sorted.now.keys.items) (drop_all c.loop-i.i c.args.questions.now (omega arith)))
-    c.loop-i.invariant

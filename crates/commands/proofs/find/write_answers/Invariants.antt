@@ -1,5 +1,5 @@
 use Rattle.std.proofs.Common.{drop}
-use Rattle.written.proofs.CallerLemmas.{HasWritten}
+use Rattle.written.proofs.LoopLemmas.{HasWritten}
 use Rattle.commands.specs.Texts.Find.{found_lines}
 use Rattle.commands.proofs.find.write_answers.Given as goal
 

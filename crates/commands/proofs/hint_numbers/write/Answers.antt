@@ -25,14 +25,13 @@ returns g c = (
   are_hints c.args.fitting.sorted.keys.items
       c.in_ok-hints.hints.items c.deref.result.now c.args.fitting.eps c.in_ok-write_hints.ensures.small
       c.in_ok-hints.ensures.lead c.in_ok-hints.ensures.least c.deref.ensures.value,
-  c.in_ok-write_hints.ensures.ok,
+  c.in_ok-write_hints.ensures.written,
 )
 
 pub returns-in_err-write_hints : goal.returns-in_err-write_hints
 returns-in_err-write_hints g c =
-    broken_text g.S.Sink c.args.out.now c.write_hints.new.out c.from_residual-in_err-write_hints.result _
-    (hint_pieces c.deref.result.now) c.from_residual-in_err-write_hints.ensures.1
+    broken_text _ c.from_residual-in_err-write_hints.result c.from_residual-in_err-write_hints.ensures.1
     (are_hints c.args.fitting.sorted.keys.items
     c.in_ok-hints.hints.items c.deref.result.now c.args.fitting.eps c.in_err-write_hints.ensures.small
     c.in_ok-hints.ensures.lead c.in_ok-hints.ensures.least c.deref.ensures.value)
-    c.in_err-write_hints.ensures.err
+    c.in_err-write_hints.ensures.written

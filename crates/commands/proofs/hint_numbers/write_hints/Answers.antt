@@ -3,9 +3,9 @@ use Rattle.std.proofs.Common.{◌≡◌, ◌+◌, ◌<◌, ◌^◌, [], ◌∷�
 use Rattle.std.proofs.Common.{drop-cons, add-one, get_or, length, arith, ℕ, List}
 use Rattle.std.proofs.lemmas.List.{drop_all}
 use Rattle.std.proofs.lemmas.List.Elements.{All-from_get_or}
-use Rattle.written.proofs.CallerLemmas.{written_none, written_more, written_all, breaks_off_there}
+use Rattle.written.proofs.LoopLemmas.{written_none, written_more, written_all, broken_there}
 use Rattle.commands.specs.Texts.Hints.{hint_bytes, hint_pieces}
-use Rattle.written.proofs.WritingLemmas.{on_err}
+use Rattle.written.proofs.WritingLemmas.{broken}
 use Rattle.commands.proofs.hint_numbers.write_hints.Goals as goal
 
 -- what is left begins with the bytes of this hint
@@ -16,27 +16,25 @@ begins hints i d piece there is =
     ∙ ap (λ (line : List ℕ). line ∷ hint_pieces (drop (i + 1) hints)) (sym is)
 
 pub loop-i-init : goal.loop-i-init
-loop-i-init g c = written_none g.S.Sink c.args.out.now (hint_pieces c.args.hints.now)
+loop-i-init g c = written_none
 
 pub loop-i-preserved : goal.loop-i-preserved
 loop-i-preserved g c =
     let piece = c.bytes_of.result in
-    written_more g.S.Sink c.args.out.now c.loop-i.out c.hand_over.new.out _ _ _ (piece ∷ [])
+    written_more c.loop-i.invariant c.in_ok-hand_over.ensures
     (begins c.args.hints.now c.loop-i.i 0 piece (omega arith) c.bytes_of.ensures)
-    c.in_ok-hand_over.ensures.ok c.loop-i.invariant
 
-pub returns-in_err-hand_over-clause-err : goal.returns-in_err-hand_over-clause-err
-returns-in_err-hand_over-clause-err g c =
+pub returns-in_err-hand_over-clause-written : goal.returns-in_err-hand_over-clause-written
+returns-in_err-hand_over-clause-written g c =
     let piece = c.bytes_of.result in
-    on_err c.from_residual.result _
-    (breaks_off_there g.S.Sink c.args.out.now c.loop-i.out c.hand_over.new.out _ _ _ (piece ∷ [])
-    (begins c.args.hints.now c.loop-i.i 0 piece (omega arith) c.bytes_of.ensures)
-    c.in_err-hand_over.ensures.err c.loop-i.invariant)
+    broken _ c.from_residual.result c.from_residual.ensures.1
+    (broken_there _ c.loop-i.invariant c.in_err-hand_over.ensures
+    (begins c.args.hints.now c.loop-i.i 0 piece (omega arith) c.bytes_of.ensures))
 
-pub returns-clause-ok : goal.returns-clause-ok
-returns-clause-ok g c =
-    written_all g.S.Sink c.args.out.now c.loop-i.out _ _
-    (ap hint_pieces (drop_all c.loop-i.i c.args.hints.now (omega arith))) c.loop-i.invariant
+pub returns-clause-written : goal.returns-clause-written
+returns-clause-written g c =
+    written_all c.loop-i.invariant
+    (ap hint_pieces (drop_all c.loop-i.i c.args.hints.now (omega arith)))
 
 pub returns-clause-small : goal.returns-clause-small
 returns-clause-small g c = All-from_get_or

@@ -1,5 +1,5 @@
 use Rattle.std.proofs.Common.{drop}
-use Rattle.written.proofs.CallerLemmas.{HasWritten}
+use Rattle.written.proofs.LoopLemmas.{HasWritten}
 use Rattle.commands.specs.Texts.Hints.{hint_pieces}
 use Rattle.commands.proofs.hint_numbers.write_hints.Given as goal
 

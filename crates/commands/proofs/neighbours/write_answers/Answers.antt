@@ -1,63 +1,41 @@
-use Rattle.std.proofs.Common.{◌≡◌, ◌∙◌, ◌+◌, ◌<◌, ◌≤◌, ◌++◌, ◌∷◌, [], ap, sym, subst, refl, take}
-use Rattle.std.proofs.Common.{drop, drop-cons, add-one, get_or, length, min, List, ℕ, arith}
+use Rattle.std.proofs.Common.{◌+◌, ◌≤◌, drop, length, min, List, ℕ, arith}
 use Rattle.std.specs.Prelude.{vec_capacity}
-use Rattle.std.proofs.lemmas.List.{take_more, take-append-drop}
 use Rattle.std.proofs.lemmas.List.Elements.{All-drop, All-get_or}
-use Rattle.written.proofs.CallerLemmas.{Writes-nil, Writes-append, BreaksOff-append, BreaksOff-more}
 use Rattle.commands.specs.declared.task.Centre.{Centre}
-use Rattle.written.specs.InTurn.{TellsEach}
 use Rattle.commands.specs.Texts.Neighbours.{TellsNear}
-use Rattle.written.proofs.InTurnLemmas.{each_append, each_more, some_each}
 use Rattle.commands.proofs.SearchLemmas.{no_centre}
-use Rattle.written.proofs.WritingLemmas.{on_err}
+use Rattle.written.proofs.InTurnLemmas.{some_each}
+use Rattle.written.proofs.LoopLemmas.{told_none, told_more, told_all, told_broken}
+use Rattle.written.proofs.WritingLemmas.{broken}
 use Rattle.commands.proofs.neighbours.write_answers.Goals as goal
 
--- a list around one place
-around : (xs : List Centre) (i : ℕ) (d : Centre) → i < length xs → take i xs ++ get_or xs i d ∷ drop (i + 1) xs ≡ xs
-around xs i d there =
-    ap (λ (rest : List Centre). take i xs ++ rest)
-    (sym (drop-cons xs i d there ∙ ap (λ (n : ℕ). get_or xs i d ∷ drop n xs) (sym (add-one i))))
-    ∙ take-append-drop i xs
-
 pub loop-i-init : goal.loop-i-init
-loop-i-init g c = (([], refl, Writes-nil g.S.Sink c.args.out.now), omega arith)
+loop-i-init g c =
+    (told_none (TellsNear c.args.boxes.now.dims c.args.boxes.now.codes) c.args.centres.now, omega arith)
 
 pub loop-i-preserved : goal.loop-i-preserved
-loop-i-preserved g c =
-    let Tells = TellsNear c.args.boxes.now.dims c.args.boxes.now.codes in
-    let centres = c.args.centres.now in
-    let i = c.loop-i.i in
-    let so_far = c.loop-i.invariant.0 in
-    let one = c.in_ok-write_answer.ensures.ok in
-    let told = each_more Tells (take i centres) (get_or centres i no_centre) so_far.0 one.0 so_far.1 one.1 in (
-      (
-        so_far.0 ++ one.0,
-        subst (λ (r : List Centre). TellsEach Tells r (so_far.0 ++ one.0))
-            (sym (take_more centres i no_centre (omega arith))) told,
-        Writes-append g.S.Sink c.args.out.now c.loop-i.out c.write_answer.new.out so_far.0 one.0 so_far.2 one.2,
-      ),
-      omega (arith, c.in_ok-write_answer.ensures.capacity, c.loop-i.invariant.1),
-    )
+loop-i-preserved g c = (
+  told_more (TellsNear c.args.boxes.now.dims c.args.boxes.now.codes)
+      c.args.centres.now c.loop-i.i no_centre c.loop-i.invariant.0
+      c.in_ok-write_answer.ensures.told (omega arith),
+  omega (arith, c.loop-i.invariant.1, c.in_ok-write_answer.ensures.capacity),
+)
 
-pub returns-in_err-write_answer-clause-err : goal.returns-in_err-write_answer-clause-err
-returns-in_err-write_answer-clause-err g c =
+pub returns-in_err-write_answer : goal.returns-in_err-write_answer
+returns-in_err-write_answer g c =
     let Tells = TellsNear c.args.boxes.now.dims c.args.boxes.now.codes in
-    let centres = c.args.centres.now in
-    let i = c.loop-i.i in
-    let so_far = c.loop-i.invariant.0 in
-    let one = c.in_err-write_answer.ensures.err in
-    let rest = some_each Tells (drop (i + 1) centres)
-    (All-drop
-    (λ (centre : Centre). (pieces : List (List ℕ)) × Tells centre pieces) (i + 1) centres c.requires.answered) in
-    let told = each_append Tells (take i centres) (get_or centres i no_centre ∷ drop (i + 1) centres) so_far.0
-    (one.0 ++ rest.0) so_far.1 (one.0, rest.0, one.1, rest.1, refl) in
-    on_err c.from_residual.result _ (
-      so_far.0 ++ (one.0 ++ rest.0),
-      subst (λ (r : List Centre). TellsEach Tells r (so_far.0 ++ (one.0 ++ rest.0)))
-          (around centres i no_centre (omega arith)) told,
-      BreaksOff-append g.S.Sink c.args.out.now c.loop-i.out c.write_answer.new.out so_far.0 (one.0 ++ rest.0) so_far.2
-          (BreaksOff-more g.S.Sink c.loop-i.out c.write_answer.new.out one.0 rest.0 one.2),
-    )
+    let (pieces, told, broke) = told_broken Tells c.args.centres.now c.loop-i.i no_centre c.loop-i.invariant.0
+    c.in_err-write_answer.ensures.told
+    (some_each Tells (drop (c.loop-i.i + 1) c.args.centres.now) (All-drop
+    (λ (centre : Centre). (pieces : List (List ℕ)) × Tells centre pieces)
+    (c.loop-i.i + 1) c.args.centres.now c.requires.answered))
+    (omega arith) in
+    (pieces, told, broken _ c.from_residual.result c.from_residual.ensures.1 broke)
+
+pub returns : goal.returns
+returns g c =
+    told_all (TellsNear c.args.boxes.now.dims c.args.boxes.now.codes) c.args.centres.now c.loop-i.i c.loop-i.invariant.0
+    (omega arith)
 
 -- there is room for the answer of each centre
 pub write_answer-requires-clause-room : goal.write_answer-requires-clause-room

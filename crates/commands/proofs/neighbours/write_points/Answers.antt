@@ -1,41 +1,24 @@
-use Rattle.std.proofs.Common.{◌≡◌, ◌+◌, ◌<◌, [], ◌∷◌, ◌++◌, ◌∙◌, ap, sym, drop}
-use Rattle.std.proofs.Common.{drop-cons, add-one, get_or, length, map, arith, ℕ, List}
-use Rattle.std.proofs.lemmas.List.{drop_all}
-use Rattle.written.proofs.CallerLemmas.{written_none, written_more, written_all, breaks_off_there}
+use Rattle.std.proofs.Common.{◌∙◌, arith}
+use Rattle.written.proofs.LoopLemmas.{written_none, mapped_more, mapped_broken, mapped_all}
 use Rattle.commands.specs.Texts.Neighbours.{neighbour_line}
-use Rattle.written.proofs.WritingLemmas.{on_err}
+use Rattle.written.proofs.WritingLemmas.{broken}
 use Rattle.commands.proofs.neighbours.write_points.Goals as goal
 
--- what is left begins with the piece of this point
-begins : (d : ℕ) (points : List (ℕ × ℕ)) (i : ℕ) (piece : List ℕ) →
-    i < length points → piece ≡ neighbour_line d (get_or points i (0, 0)) →
-    map (neighbour_line d) (drop i points) ≡ (piece ∷ []) ++ map (neighbour_line d) (drop (i + 1) points)
-begins d points i piece there is =
-    ap (map (neighbour_line d))
-    (drop-cons points i (0, 0) there ∙ ap (λ (n : ℕ). get_or points i (0, 0) ∷ drop n points) (sym (add-one i)))
-    ∙ ap (λ (line : List ℕ). line ∷ map (neighbour_line d) (drop (i + 1) points)) (sym is)
-
 pub loop-i-init : goal.loop-i-init
-loop-i-init g c = written_none g.S.Sink c.args.out.now (map (neighbour_line c.args.d) c.args.points.now)
+loop-i-init g c = written_none
 
 pub loop-i-preserved : goal.loop-i-preserved
 loop-i-preserved g c =
-    let piece = c.as_bytes.result.now in
-    written_more g.S.Sink c.args.out.now c.loop-i.out c.hand_over.new.out _ _ _ (piece ∷ [])
-    (begins c.args.d c.args.points.now c.loop-i.i piece
-    (omega arith) (c.as_bytes.ensures ∙ c.fill_neighbour_line.ensures))
-    c.in_ok-hand_over.ensures.ok c.loop-i.invariant
+    mapped_more
+    (neighbour_line c.args.d) c.args.points.now c.loop-i.i c.loop-i.invariant (0, 0) c.in_ok-hand_over.ensures
+    (omega arith) (c.as_bytes.ensures ∙ c.fill_neighbour_line.ensures)
 
-pub returns-in_err-hand_over-clause-err : goal.returns-in_err-hand_over-clause-err
-returns-in_err-hand_over-clause-err g c =
-    let piece = c.as_bytes.result.now in
-    on_err c.from_residual.result _
-    (breaks_off_there g.S.Sink c.args.out.now c.loop-i.out c.hand_over.new.out _ _ _ (piece ∷ [])
-    (begins c.args.d c.args.points.now c.loop-i.i piece
+pub returns-in_err-hand_over : goal.returns-in_err-hand_over
+returns-in_err-hand_over g c =
+    broken _ c.from_residual.result c.from_residual.ensures.1
+    (mapped_broken
+    (neighbour_line c.args.d) c.args.points.now c.loop-i.i c.loop-i.invariant (0, 0) c.in_err-hand_over.ensures
     (omega arith) (c.as_bytes.ensures ∙ c.fill_neighbour_line.ensures))
-    c.in_err-hand_over.ensures.err c.loop-i.invariant)
 
-pub returns-clause-ok : goal.returns-clause-ok
-returns-clause-ok g c =
-    written_all g.S.Sink c.args.out.now c.loop-i.out _ _
-    (ap (map (neighbour_line c.args.d)) (drop_all c.loop-i.i c.args.points.now (omega arith))) c.loop-i.invariant
+pub returns : goal.returns
+returns g c = mapped_all (neighbour_line c.args.d) c.args.points.now c.loop-i.i c.loop-i.invariant (omega arith)

@@ -1,5 +1,5 @@
 use Rattle.std.proofs.Common.{drop, map}
-use Rattle.written.proofs.CallerLemmas.{HasWritten}
+use Rattle.written.proofs.LoopLemmas.{HasWritten}
 use Rattle.commands.specs.Texts.Neighbours.{neighbour_line}
 use Rattle.commands.proofs.neighbours.write_points.Given as goal
 

@@ -1,10 +1,10 @@
 use Rattle.std.proofs.Common.{◌≡◌, ◌+◌, ◌<◌, [], ◌∷◌, ◌++◌, ◌∙◌, ap, sym, drop}
 use Rattle.std.proofs.Common.{drop-cons, add-one, get_or, length, arith, ℕ, List}
 use Rattle.std.proofs.lemmas.List.{drop_all}
-use Rattle.written.proofs.CallerLemmas.{written_none, written_more, written_all, breaks_off_there}
+use Rattle.written.proofs.LoopLemmas.{written_none, written_more, written_all, broken_there}
 use Rattle.levels.specs.declared.windows.LevelWindow.{LevelWindow}
 use Rattle.commands.specs.Texts.Query.{window_line, window_lines}
-use Rattle.written.proofs.WritingLemmas.{on_err}
+use Rattle.written.proofs.WritingLemmas.{broken}
 use Rattle.commands.proofs.query.write_windows.Goals as goal
 
 -- what a read past the end would give
@@ -21,26 +21,24 @@ begins windows i d piece there is =
     ∙ ap (λ (line : List ℕ). line ∷ window_lines (drop (i + 1) windows)) (sym is)
 
 pub loop-i-init : goal.loop-i-init
-loop-i-init g c = written_none g.S.Sink c.args.out.now (window_lines c.args.windows.now)
+loop-i-init g c = written_none
 
 pub loop-i-preserved : goal.loop-i-preserved
 loop-i-preserved g c =
     let piece = c.as_bytes.result.now in
-    written_more g.S.Sink c.args.out.now c.loop-i.out c.hand_over.new.out _ _ _ (piece ∷ [])
+    written_more c.loop-i.invariant c.in_ok-hand_over.ensures
     (begins c.args.windows.now c.loop-i.i no_window piece
     (omega arith) (c.as_bytes.ensures ∙ c.fill_window_line.ensures))
-    c.in_ok-hand_over.ensures.ok c.loop-i.invariant
 
-pub returns-in_err-hand_over-clause-err : goal.returns-in_err-hand_over-clause-err
-returns-in_err-hand_over-clause-err g c =
+pub returns-in_err-hand_over : goal.returns-in_err-hand_over
+returns-in_err-hand_over g c =
     let piece = c.as_bytes.result.now in
-    on_err c.from_residual.result _
-    (breaks_off_there g.S.Sink c.args.out.now c.loop-i.out c.hand_over.new.out _ _ _ (piece ∷ [])
+    broken _ c.from_residual.result c.from_residual.ensures.1
+    (broken_there _ c.loop-i.invariant c.in_err-hand_over.ensures
     (begins c.args.windows.now c.loop-i.i no_window piece
-    (omega arith) (c.as_bytes.ensures ∙ c.fill_window_line.ensures))
-    c.in_err-hand_over.ensures.err c.loop-i.invariant)
+    (omega arith) (c.as_bytes.ensures ∙ c.fill_window_line.ensures)))
 
-pub returns-clause-ok : goal.returns-clause-ok
-returns-clause-ok g c =
-    written_all g.S.Sink c.args.out.now c.loop-i.out _ _
-    (ap window_lines (drop_all c.loop-i.i c.args.windows.now (omega arith))) c.loop-i.invariant
+pub returns : goal.returns
+returns g c =
+    written_all c.loop-i.invariant
+    (ap window_lines (drop_all c.loop-i.i c.args.windows.now (omega arith)))

@@ -1,5 +1,5 @@
 use Rattle.std.proofs.Common.{drop, map}
-use Rattle.written.proofs.CallerLemmas.{HasWritten}
+use Rattle.written.proofs.LoopLemmas.{HasWritten}
 use Rattle.commands.specs.Texts.Regions.{point_line}
 use Rattle.commands.proofs.regions.write_points.Given as goal
 

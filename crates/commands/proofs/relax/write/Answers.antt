@@ -26,7 +26,7 @@ told keys bounds pieces slack index questions answers made answered = record {
 
 pub returns : goal.returns
 returns g c =
-    let (answers, answered, written) = c.in_ok-write_relaxed.ensures.ok in (
+    let (answers, answered, written) = c.in_ok-write_relaxed.ensures in (
       _,
       told c.args.relaxing.indexing.sorted.keys.items
           (bounds_of c.args.relaxing.indexing.bounds) c.args.relaxing.pieces.count

@@ -14,16 +14,15 @@ returns g c =
           (omega (arith, c.args.indexing.sorted.keys.ok.0, c.args.indexing.sorted.few))
           c.args.indexing.bounds.bounded c.args.indexing.bounds.bounded_above c.in_ok-pieces.ensures.count
           c.in_ok-index.ensures.levels (ap (map items) c.deref.ensures.value ∙ c.in_ok-pieces.ensures.pieces),
-      c.in_ok-write_pieces.ensures.ok,
+      c.in_ok-write_pieces.ensures,
     )
 
 pub returns-in_err-write_pieces : goal.returns-in_err-write_pieces
 returns-in_err-write_pieces g c =
     let items : Vec ℕ Global → List ℕ = λ piece. piece.items in
-    broken_text g.S.Sink c.args.out.now c.write_pieces.new.out c.from_residual-in_err-write_pieces.result _
-    (map items c.deref.result.now) c.from_residual-in_err-write_pieces.ensures.1
+    broken_text _ c.from_residual-in_err-write_pieces.result c.from_residual-in_err-write_pieces.ensures.1
     (IsSaved-of c.args.indexing.sorted.keys.items (bounds_of c.args.indexing.bounds) c.in_ok-index.index.levels _
     c.args.indexing.sorted.never_falls (omega (arith, c.args.indexing.sorted.keys.ok.0, c.args.indexing.sorted.few))
     c.args.indexing.bounds.bounded c.args.indexing.bounds.bounded_above c.in_ok-pieces.ensures.count
     c.in_ok-index.ensures.levels (ap (map items) c.deref.ensures.value ∙ c.in_ok-pieces.ensures.pieces))
-    c.in_err-write_pieces.ensures.err
+    c.in_err-write_pieces.ensures

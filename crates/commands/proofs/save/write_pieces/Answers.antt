@@ -2,8 +2,8 @@
 use Rattle.std.proofs.Common.{◌≡◌, ◌+◌, ◌<◌, [], ◌∷◌, ◌++◌, ◌∙◌, ap, sym, drop, drop-cons}
 use Rattle.std.proofs.Common.{add-one, get_or, length, map, arith, ℕ, List, Vec, Global}
 use Rattle.std.proofs.lemmas.List.{drop_all}
-use Rattle.written.proofs.CallerLemmas.{written_none, written_more, written_all, breaks_off_there}
-use Rattle.written.proofs.WritingLemmas.{on_err}
+use Rattle.written.proofs.LoopLemmas.{written_none, written_more, written_all, broken_there}
+use Rattle.written.proofs.WritingLemmas.{broken}
 use Rattle.commands.proofs.save.write_pieces.Goals as goal
 
 abbrev items : Vec ℕ Global → List ℕ
@@ -19,26 +19,24 @@ begins pieces i bytes piece there at is =
     ∙ ap (λ (p : List ℕ). p ∷ map items (drop (i + 1) pieces)) (sym (is ∙ ap items at))
 
 pub loop-i-init : goal.loop-i-init
-loop-i-init g c = written_none g.S.Sink c.args.out.now (map items c.args.pieces.now)
+loop-i-init g c = written_none
 
 pub loop-i-preserved : goal.loop-i-preserved
 loop-i-preserved g c =
     let piece = c.as_slice.result.now in
-    written_more g.S.Sink c.args.out.now c.loop-i.out c.hand_over.new.out _ _ _ (piece ∷ [])
+    written_more c.loop-i.invariant c.in_ok-hand_over.ensures
     (begins c.args.pieces.now c.loop-i.i piece c.index-pieces-i.result
     (omega arith) c.index-pieces-i.is c.as_slice.ensures.value)
-    c.in_ok-hand_over.ensures.ok c.loop-i.invariant
 
-pub returns-in_err-hand_over-clause-err : goal.returns-in_err-hand_over-clause-err
-returns-in_err-hand_over-clause-err g c =
+pub returns-in_err-hand_over : goal.returns-in_err-hand_over
+returns-in_err-hand_over g c =
     let piece = c.as_slice.result.now in
-    on_err c.from_residual.result _
-    (breaks_off_there g.S.Sink c.args.out.now c.loop-i.out c.hand_over.new.out _ _ _ (piece ∷ [])
+    broken _ c.from_residual.result c.from_residual.ensures.1
+    (broken_there _ c.loop-i.invariant c.in_err-hand_over.ensures
     (begins c.args.pieces.now c.loop-i.i piece c.index-pieces-i.result
-    (omega arith) c.index-pieces-i.is c.as_slice.ensures.value)
-    c.in_err-hand_over.ensures.err c.loop-i.invariant)
+    (omega arith) c.index-pieces-i.is c.as_slice.ensures.value))
 
-pub returns-clause-ok : goal.returns-clause-ok
-returns-clause-ok g c =
-    written_all g.S.Sink c.args.out.now c.loop-i.out _ _
-    (ap (map items) (drop_all c.loop-i.i c.args.pieces.now (omega arith))) c.loop-i.invariant
+pub returns : goal.returns
+returns g c =
+    written_all c.loop-i.invariant
+    (ap (map items) (drop_all c.loop-i.i c.args.pieces.now (omega arith)))

@@ -1,5 +1,5 @@
 use Rattle.std.proofs.Common.{drop, map}
-use Rattle.written.proofs.CallerLemmas.{HasWritten}
+use Rattle.written.proofs.LoopLemmas.{HasWritten}
 use Rattle.commands.proofs.save.write_pieces.Given as goal
 
 -- the pieces before this place were handed over

@@ -65,7 +65,7 @@ returns g c =
           numbers mixed readings history.plan.readers left.batches history.plan.batch cut order count each,
       subst (λ (q : List Question).
           Writes g.S.Sink c.args.out.now c.write_lines-done.new.out (all_lines numbers mixed q readings))
-          c.deref-3.ensures.value c.in_ok-done.ensures.ok,
+          c.deref-3.ensures.value c.in_ok-done.ensures,
     )
 
 pub returns-in_err-done : goal.returns-in_err-done
@@ -81,10 +81,9 @@ returns-in_err-done g c =
     let count = ap (λ (r : List Reading). length r) c.readings.ensures ∙ c.in_ok-left.ensures.count in
     let order =
     ordered c.deref.ensures.value c.numbers-numbers.ensures c.mixed-updates.ensures c.in_ok-left.ensures.mixed in
-    broken_text g.S.Sink c.args.out.now c.write_lines-done.new.out c.from_residual-in_err-done.result _
-    (all_lines numbers mixed history.questions.items readings) c.from_residual-in_err-done.ensures.1
+    broken_text _ c.from_residual-in_err-done.result c.from_residual-in_err-done.ensures.1
     (is_mixed_text history.updates.items history.questions.items c.args.mixing.senders.count
     numbers mixed readings history.plan.readers left.batches history.plan.batch cut order count each)
     (subst (λ (q : List Question).
     BreaksOff g.S.Sink c.args.out.now c.write_lines-done.new.out (all_lines numbers mixed q readings))
-    c.deref-3.ensures.value c.in_err-done.ensures.err)
+    c.deref-3.ensures.value c.in_err-done.ensures)

@@ -37,7 +37,7 @@ returns g c =
       is_replayed
           history.updates.items history.questions.items history.plan.batch readings history.plan.readers count each,
       subst (Writes g.S.Sink c.args.out.now c.write_lines-done.new.out)
-          (same_lines readings c.deref-3.ensures.value c.deref-4.ensures.value) c.in_ok-done.ensures.ok,
+          (same_lines readings c.deref-3.ensures.value c.deref-4.ensures.value) c.in_ok-done.ensures,
     )
 
 pub returns-in_err-done : goal.returns-in_err-done
@@ -46,9 +46,8 @@ returns-in_err-done g c =
     let readings = c.readings.result.now in
     let each = moved _ c.deref.ensures.value c.deref-2.ensures.value c.readings.ensures c.in_ok-left.ensures.each in
     let count = ap (λ (r : List Reading). length r) c.readings.ensures ∙ c.in_ok-left.ensures.count in
-    broken_text g.S.Sink c.args.out.now c.write_lines-done.new.out c.from_residual-in_err-done.result _
-    (all_lines [] history.updates.items history.questions.items readings) c.from_residual-in_err-done.ensures.1
+    broken_text _ c.from_residual-in_err-done.result c.from_residual-in_err-done.ensures.1
     (is_replayed
     history.updates.items history.questions.items history.plan.batch readings history.plan.readers count each)
     (subst (BreaksOff g.S.Sink c.args.out.now c.write_lines-done.new.out)
-    (same_lines readings c.deref-3.ensures.value c.deref-4.ensures.value) c.in_err-done.ensures.err)
+    (same_lines readings c.deref-3.ensures.value c.deref-4.ensures.value) c.in_err-done.ensures)

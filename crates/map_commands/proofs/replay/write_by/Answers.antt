@@ -14,7 +14,7 @@ returns g c =
       all_lines [] updates questions [],
       is_replayed updates questions history.plan.batch [] history.plan.readers (sym c.requires.alone) (All-nil _),
       subst (Writes g.S.Sink c.args.out.now c.write_lines.new.out)
-          (same_lines [] c.deref.ensures.value c.deref-2.ensures.value) c.in_ok-write_lines.ensures.ok,
+          (same_lines [] c.deref.ensures.value c.deref-2.ensures.value) c.in_ok-write_lines.ensures,
     )
 
 pub returns-in_err-write_lines : goal.returns-in_err-write_lines
@@ -22,8 +22,7 @@ returns-in_err-write_lines g c =
     let history = c.args.history.now in
     let updates = history.updates.items in
     let questions = history.questions.items in
-    broken_text g.S.Sink c.args.out.now c.write_lines.new.out c.from_residual.result _
-    (all_lines [] updates questions []) c.from_residual.ensures.1
+    broken_text _ c.from_residual.result c.from_residual.ensures.1
     (is_replayed updates questions history.plan.batch [] history.plan.readers (sym c.requires.alone) (All-nil _))
     (subst (BreaksOff g.S.Sink c.args.out.now c.write_lines.new.out)
-    (same_lines [] c.deref.ensures.value c.deref-2.ensures.value) c.in_err-write_lines.ensures.err)
+    (same_lines [] c.deref.ensures.value c.deref-2.ensures.value) c.in_err-write_lines.ensures)

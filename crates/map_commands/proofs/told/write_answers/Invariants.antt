@@ -1,6 +1,6 @@
 use Rattle.std.proofs.Common.{drop, map}
 use Rattle.log_levels.specs.Maps.{map_after}
-use Rattle.written.proofs.CallerLemmas.{HasWritten}
+use Rattle.written.proofs.LoopLemmas.{HasWritten}
 use Rattle.map_commands.specs.Replay.{end_line}
 use Rattle.map_commands.proofs.told.write_answers.Given as goal
 

@@ -1,6 +1,6 @@
 use Rattle.std.proofs.Common.{drop, length, map}
 use Rattle.std.specs.List.{range_with_len}
-use Rattle.written.proofs.CallerLemmas.{HasWritten}
+use Rattle.written.proofs.LoopLemmas.{HasWritten}
 use Rattle.map_commands.specs.Replay.{last_line}
 use Rattle.map_commands.proofs.told.write_lasts.Given as goal
 

@@ -1,6 +1,6 @@
 use Rattle.std.proofs.Common.{◌≡◌, ◌+◌, ◌<◌, ◌++◌, ◌∙◌, ap, sym, drop, get_or, length, arith, ℕ, List}
 use Rattle.std.proofs.lemmas.List.{drop_all}
-use Rattle.written.proofs.CallerLemmas.{written_none, written_more, written_all, breaks_off_there}
+use Rattle.written.proofs.LoopLemmas.{written_none, written_more, written_all, broken_there}
 use Rattle.log_levels.specs.declared.update.Update.{Update}
 use Rattle.map_replay.specs.declared.question.Question.{Question}
 use Rattle.map_replay.specs.declared.reading.Reading.{Reading}
@@ -8,12 +8,12 @@ use Rattle.map_replay.specs.declared.reading.Sighting.{Sighting}
 use Rattle.map_commands.specs.Replay.{reader_lines}
 use Rattle.map_commands.specs.MapLines.{read_lines}
 use Rattle.map_commands.proofs.MapLineLemmas.{read_begins}
-use Rattle.written.proofs.WritingLemmas.{on_err}
+use Rattle.written.proofs.WritingLemmas.{broken}
 use Rattle.map_commands.proofs.told.write_read.Goals as goal
 
 pub loop-i-init : goal.loop-i-init
 loop-i-init g c =
-    written_none g.S.Sink c.args.out.now (read_lines c.args.updates.now c.args.questions.now 0 c.args.readings.now)
+    written_none
 
 -- what is left begins with the lines of this reader, as they were handed over
 begins : (updates : List Update) (questions : List Question)
@@ -28,22 +28,19 @@ begins updates questions readings i d sightings there is =
 
 pub loop-i-preserved : goal.loop-i-preserved
 loop-i-preserved g c =
-    written_more g.S.Sink c.args.out.now c.loop-i.out c.write_reading.new.out _ _ _ _
+    written_more c.loop-i.invariant c.in_ok-write_reading.ensures
     (begins c.args.updates.now c.args.questions.now c.args.readings.now c.loop-i.i _ c.deref.result.now
     (omega arith) c.deref.ensures.value)
-    c.in_ok-write_reading.ensures.ok c.loop-i.invariant
 
-pub returns-in_err-write_reading-clause-err : goal.returns-in_err-write_reading-clause-err
-returns-in_err-write_reading-clause-err g c =
-    on_err c.from_residual.result _
-    (breaks_off_there g.S.Sink c.args.out.now c.loop-i.out c.write_reading.new.out _ _ _ _
+pub returns-in_err-write_reading : goal.returns-in_err-write_reading
+returns-in_err-write_reading g c =
+    broken _ c.from_residual.result c.from_residual.ensures.1
+    (broken_there _ c.loop-i.invariant c.in_err-write_reading.ensures
     (begins c.args.updates.now c.args.questions.now c.args.readings.now c.loop-i.i _ c.deref.result.now
-    (omega arith) c.deref.ensures.value)
-    c.in_err-write_reading.ensures.err c.loop-i.invariant)
+    (omega arith) c.deref.ensures.value))
 
-pub returns-clause-ok : goal.returns-clause-ok
-returns-clause-ok g c =
-    written_all g.S.Sink c.args.out.now c.loop-i.out _ _
+pub returns : goal.returns
+returns g c =
+    written_all c.loop-i.invariant
     (ap (read_lines c.args.updates.now c.args.questions.now c.loop-i.i)
     (drop_all c.loop-i.i c.args.readings.now (omega arith)))
-    c.loop-i.invariant

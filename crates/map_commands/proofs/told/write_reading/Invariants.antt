@@ -1,5 +1,5 @@
 use Rattle.std.proofs.Common.{drop}
-use Rattle.written.proofs.CallerLemmas.{HasWritten}
+use Rattle.written.proofs.LoopLemmas.{HasWritten}
 use Rattle.map_commands.specs.Replay.{reader_lines}
 use Rattle.map_commands.proofs.told.write_reading.Given as goal
 

@@ -1,5 +1,5 @@
 use Rattle.std.proofs.Common.{drop, map}
-use Rattle.written.proofs.CallerLemmas.{HasWritten}
+use Rattle.written.proofs.LoopLemmas.{HasWritten}
 use Rattle.map_commands.specs.Mix.{from_line}
 use Rattle.map_commands.proofs.told.write_senders.Given as goal
 

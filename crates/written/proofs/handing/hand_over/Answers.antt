@@ -17,15 +17,15 @@ loop-rest-preserved g c =
     (sym (take-append-drop n rest) ∙ ap (λ (r : List ℕ). take n rest ++ r) (sym tail))
     put.call put.taken put.cause.ok c.loop-rest.invariant
 
-pub returns-in-Err-clause-err : goal.returns-in-Err-clause-err
-returns-in-Err-clause-err g c =
+pub returns-in-Err : goal.returns-in-Err
+returns-in-Err g c =
     let rest = c.loop-rest.rest.now in
     let some : rest ≢ [] = not_empty rest c.is_empty.result c.is_empty.ensures c.loop-rest-test.true in
     handed_part g.S.Sink c.args.out.now c.loop-rest.out c.put.new.self c.args.piece.now rest c.in-Err.failed some
     c.in-Err.ensures.call c.in-Err.ensures.failed c.in-Err.ensures.cause.failed c.loop-rest.invariant
 
-pub returns-clause-ok : goal.returns-clause-ok
-returns-clause-ok g c =
+pub returns : goal.returns
+returns g c =
     let rest = c.loop-rest.rest.now in
     let none : rest ≡ [] = empty rest c.is_empty.result c.is_empty.ensures c.loop-rest-test.false in
     handed_all g.S.Sink c.args.out.now c.loop-rest.out c.args.piece.now rest none c.loop-rest.invariant
